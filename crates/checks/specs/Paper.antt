@@ -1,0 +1,5 @@
+pub mod Bits
+pub mod Check
+pub mod Buses
+pub mod Stretch
+pub mod Rules

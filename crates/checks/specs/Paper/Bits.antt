@@ -1,0 +1,42 @@
+-- Numbers and bytes as bits, in either order.
+-- Assumes nothing.
+use Prim.Native.Nat.{ℕ, zero, suc, _+_, _*_, _/_, _%_}
+use mathlib.Core.Bool.{Bool, true, false}
+use mathlib.Core.List.{List, [], _∷_, _++_, reverse}
+
+-- 01: "high bit first", "low bit first"
+pub data Order : Type 0 where
+  highFirst lowFirst : Order
+
+abbrev pub isSet : ℕ → Bool
+isSet zero = false
+isSet (suc n) = true
+
+-- the w low bits of a number, the lowest first
+unfoldable pub lows : ℕ → ℕ → List Bool
+lows zero n = []
+lows (suc w) n = isSet (n % 2) ∷ lows w (n / 2)
+
+-- the w low bits of a number, in an order
+unfoldable pub bits : Order → ℕ → ℕ → List Bool
+bits lowFirst w n = lows w n
+bits highFirst w n = reverse (lows w n)
+
+abbrev pub worth : Bool → ℕ
+worth false = 0
+worth true = 1
+
+-- the number whose bits these are, the lowest first
+unfoldable pub ofLows : List Bool → ℕ
+ofLows [] = 0
+ofLows (b ∷ bs) = ofLows bs * 2 + worth b
+
+-- the number whose bits these are, in an order
+unfoldable pub number : Order → List Bool → ℕ
+number lowFirst bs = ofLows bs
+number highFirst bs = ofLows (reverse bs)
+
+-- 01: "Their bits follow one another in the check's bit order"
+unfoldable pub bitsOfBytes : Order → List ℕ → List Bool
+bitsOfBytes o [] = []
+bitsOfBytes o (b ∷ s) = bits o 8 b ++ bitsOfBytes o s

@@ -1,0 +1,45 @@
+// The engine of 16 bits, high bit first: bit by bit.
+ghost use mathlib.Core.Path.{_≡_};
+ghost use mathlib.Core.List.{[], _∷_};
+ghost use Rattle.checks.specs.Paper.Bits.{highFirst, bits};
+ghost use Rattle.checks.specs.Paper.Check.{shift, feed};
+ghost use Rattle.checks.specs.Work.Engines.{high16};
+
+// The register after the bytes of s.
+pub(crate) fn bytes(v: u16, poly: u16, s: &[u8]) -> u16
+    ensures { λ r. ⌜ r ≡ feed (high16 poly) v (now (s .entry)) ⌝ }
+{
+    let mut r = v;
+    let mut i = 0;
+    while i < s.len() {
+        r = byte(r, poly, s[i]);
+        i += 1;
+    }
+    r
+}
+
+// The register after a byte, which is laid at its head: eight places on.
+pub(crate) fn byte(v: u16, poly: u16, b: u8) -> u16
+    ensures { λ r. ⌜ r ≡ feed (high16 poly) v (b ∷ []) ⌝ }
+{
+    let v0 = v ^ ((b as u16) * 256);
+    let v1 = shifted(v0, poly);
+    let v2 = shifted(v1, poly);
+    let v3 = shifted(v2, poly);
+    let v4 = shifted(v3, poly);
+    let v5 = shifted(v4, poly);
+    let v6 = shifted(v5, poly);
+    let v7 = shifted(v6, poly);
+    shifted(v7, poly)
+}
+
+// The register one place on.
+fn shifted(v: u16, poly: u16) -> u16
+    ensures { λ r. ⌜ bits highFirst 16 r ≡ shift (bits highFirst 16 poly) (bits highFirst 16 v) ⌝ }
+{
+    if v < 0x8000 {
+        v * 2
+    } else {
+        ((v - 0x8000) * 2) ^ poly
+    }
+}

@@ -1,0 +1,45 @@
+// The engine of 8 bits, high bit first: bit by bit.
+ghost use mathlib.Core.Path.{_≡_};
+ghost use mathlib.Core.List.{[], _∷_};
+ghost use Rattle.checks.specs.Paper.Bits.{highFirst, bits};
+ghost use Rattle.checks.specs.Paper.Check.{shift, feed};
+ghost use Rattle.checks.specs.Work.Engines.{high8};
+
+// The register after the bytes of s.
+pub(crate) fn bytes(v: u8, poly: u8, s: &[u8]) -> u8
+    ensures { λ r. ⌜ r ≡ feed (high8 poly) v (now (s .entry)) ⌝ }
+{
+    let mut r = v;
+    let mut i = 0;
+    while i < s.len() {
+        r = byte(r, poly, s[i]);
+        i += 1;
+    }
+    r
+}
+
+// The register after a byte, which is laid at its head: eight places on.
+pub(crate) fn byte(v: u8, poly: u8, b: u8) -> u8
+    ensures { λ r. ⌜ r ≡ feed (high8 poly) v (b ∷ []) ⌝ }
+{
+    let v0 = v ^ b;
+    let v1 = shifted(v0, poly);
+    let v2 = shifted(v1, poly);
+    let v3 = shifted(v2, poly);
+    let v4 = shifted(v3, poly);
+    let v5 = shifted(v4, poly);
+    let v6 = shifted(v5, poly);
+    let v7 = shifted(v6, poly);
+    shifted(v7, poly)
+}
+
+// The register one place on.
+fn shifted(v: u8, poly: u8) -> u8
+    ensures { λ r. ⌜ bits highFirst 8 r ≡ shift (bits highFirst 8 poly) (bits highFirst 8 v) ⌝ }
+{
+    if v < 0x80 {
+        v * 2
+    } else {
+        ((v - 0x80) * 2) ^ poly
+    }
+}

@@ -1,0 +1,15 @@
+// What makes a check the one it is.
+
+// In which order a check takes the bits of each byte.
+pub enum Order {
+    HighFirst,
+    LowFirst,
+}
+
+// A check's constants: the polynomial's bits stand in the check's order, without the highest term.
+pub struct Rule {
+    pub width: u8,
+    pub poly: u16,
+    pub start: u16,
+    pub order: Order,
+}

@@ -1,0 +1,21 @@
+-- 01, Homiq: "decimal without leading zeros"; Numbers: "a whole part of one digit or without leading zero".
+-- Assumes nothing.
+use Prim.Native.Nat.{ℕ, zero, suc, _+_, _/_, _%_}
+use mathlib.Core.Bool.{Bool, cond}
+use mathlib.Core.List.{List, [], _∷_, _++_}
+use lib.Dec.{ltb}
+
+-- the digit of a value below 10
+abbrev pub decimalDigit : ℕ → ℕ
+decimalDigit v = 48 + v
+
+-- below 10 the one digit; else those of n / 10, and then the last. (`most` bounds how many stand before the last.)
+unfoldable pub decimalIn : ℕ → ℕ → List ℕ
+decimalIn zero n = decimalDigit n ∷ []
+decimalIn (suc most) n =
+    cond (ltb n 10) (decimalDigit n ∷ [])
+    (decimalIn most (n / 10) ++ (decimalDigit (n % 10) ∷ []))
+
+-- the decimal digits of n
+unfoldable pub decimal : ℕ → List ℕ
+decimal n = decimalIn n n

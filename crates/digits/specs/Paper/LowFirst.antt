@@ -1,0 +1,15 @@
+-- 01, Messages: "Addresses and numbers are low byte first"; Numbers: "Byte values have width 1, 2 or 4".
+-- Assumes nothing.
+use Prim.Native.Nat.{ℕ, zero, suc, _/_, _%_}
+use mathlib.Core.List.{List, [], _∷_}
+
+-- the widths that there are
+pub data Width : ℕ → Type 0 where
+  one : Width 1
+  two : Width 2
+  four : Width 4
+
+-- the number n in `width` bytes, low byte first
+unfoldable pub lowFirst : ℕ → ℕ → List ℕ
+lowFirst zero n = []
+lowFirst (suc width) n = n % 256 ∷ lowFirst width (n / 256)

@@ -1,0 +1,91 @@
+// Hex digits, upper case only: a lower-case letter is no digit.
+ghost use mathlib.Core.Path.{_≡_};
+ghost use mathlib.Core.List.{[], _∷_};
+ghost use Prim.Native.Nat.{_%_, _<_};
+ghost use Rattle.digits.specs.Paper.Hex.{hexDigit, hexByte, hexWord};
+ghost use Rattle.digits.specs.Paper.Read.{Reads};
+ghost use Rattle.digits.specs.Paper.Answers.{byteRefusal, byteValue, wordRefusal, wordValue};
+
+// What digits are read as: a byte, or that they are no digits.
+pub enum Byte {
+    Is(u8),
+    NoDigit,
+}
+
+// The same of 16 bits.
+pub enum Word {
+    Is(u16),
+    NoDigit,
+}
+
+const DIGITS: [u8; 16] = *b"0123456789ABCDEF";
+
+// The digit of the low four bits of v.
+pub fn digit(v: u8) -> u8
+    ensures { λ r. ⌜ r ≡ hexDigit (v % 16) ⌝ }
+{
+    DIGITS[(v % 16) as usize]
+}
+
+// The value of a digit.
+pub fn value(c: u8) -> Byte
+    ensures { λ r. ⌜ Reads (λ v. v < 16) (λ v. hexDigit v ∷ []) 5 (c ∷ []) (byteRefusal r) (byteValue r) ⌝ }
+{
+    let v = place(c);
+    if digit(v) == c {
+        return Byte::Is(v);
+    }
+    Byte::NoDigit
+}
+
+// The one place of the table where the character c can stand.
+fn place(c: u8) -> u8
+    ensures { λ r. ⌜ r ≡ placeOf c ⌝ }
+{
+    if c < 65 {
+        return c % 16;
+    }
+    (c % 16 + 9) % 16
+}
+
+// A byte as two digits, the high one first.
+pub fn byte(b: u8) -> [u8; 2]
+    ensures { λ r. ⌜ r ≡ hexByte b ⌝ }
+{
+    [digit(b / 16), digit(b)]
+}
+
+// The byte that two digits are.
+pub fn byte_value(high: u8, low: u8) -> Byte
+    ensures { λ r. ⌜ Reads (λ v. v < 256) hexByte 5 (high ∷ low ∷ []) (byteRefusal r) (byteValue r) ⌝ }
+{
+    let Byte::Is(h) = value(high) else {
+        return Byte::NoDigit;
+    };
+    let Byte::Is(l) = value(low) else {
+        return Byte::NoDigit;
+    };
+    Byte::Is(h * 16 + l)
+}
+
+// A number of 16 bits as four digits.
+pub fn word(n: u16) -> [u8; 4]
+    ensures { λ r. ⌜ r ≡ hexWord n ⌝ }
+{
+    let high = byte((n / 256) as u8);
+    let low = byte((n % 256) as u8);
+    [high[0], high[1], low[0], low[1]]
+}
+
+// The number that four digits are.
+pub fn word_value(d: [u8; 4]) -> Word
+    ensures { λ r. ⌜ Reads (λ v. v < 65536) hexWord 5 d (wordRefusal r) (wordValue r) ⌝ }
+{
+    let Byte::Is(h) = byte_value(d[0], d[1]) else {
+        return Word::NoDigit;
+    };
+    let Byte::Is(l) = byte_value(d[2], d[3]) else {
+        return Word::NoDigit;
+    };
+    Word::Is((h as u16) * 256 + l as u16)
+}

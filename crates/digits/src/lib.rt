@@ -1,0 +1,4 @@
+// Digits and bytes: the numbers of the bus documents, written and read back.
+pub mod decimal;
+pub mod hex;
+pub mod low_first;

@@ -1,0 +1,53 @@
+// Numbers as 1, 2 or 4 bytes, low byte first, and back.
+ghost use mathlib.Core.Path.{_≡_};
+ghost use Prim.Native.Nat.{_^_, _<_};
+ghost use lib.ListN.{length};
+ghost use Rattle.digits.specs.Paper.LowFirst.{Width, lowFirst};
+ghost use Rattle.digits.specs.Paper.Read.{Reads};
+ghost use Rattle.digits.specs.Paper.Answers.{numberRefusal, numberValue};
+
+// What bytes are read as: a number, or that they are not 1, 2 or 4.
+pub enum Number {
+    Is(u32),
+    Width,
+}
+
+pub fn one(n: u8) -> [u8; 1]
+    ensures { λ r. ⌜ r ≡ lowFirst 1 n ⌝ }
+{
+    [n]
+}
+
+pub fn two(n: u16) -> [u8; 2]
+    ensures { λ r. ⌜ r ≡ lowFirst 2 n ⌝ }
+{
+    [(n % 256) as u8, (n / 256) as u8]
+}
+
+pub fn four(n: u32) -> [u8; 4]
+    ensures { λ r. ⌜ r ≡ lowFirst 4 n ⌝ }
+{
+    [
+        (n % 256) as u8,
+        (n / 256 % 256) as u8,
+        (n / 256 / 256 % 256) as u8,
+        (n / 256 / 256 / 256) as u8,
+    ]
+}
+
+// The number that the bytes of s are.
+pub fn number(s: &[u8]) -> Number
+    ensures { λ r. ⌜ Reads (Within (length (now (s .entry)))) (lowFirst (length (now (s .entry)))) 7 (now (s .entry)) (numberRefusal r) (numberValue r) ⌝ }
+{
+    let n = s.len();
+    if n == 1 {
+        return Number::Is(value(s));
+    }
+    if n == 2 {
+        return Number::Is(value(s));
+    }
+    if n == 4 {
+        return Number::Is(value(s));
+    }
+    Number::Width
+}
