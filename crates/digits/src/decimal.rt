@@ -1,7 +1,6 @@
 // Decimal digits, without leading zeros.
-ghost use mathlib.Core.Path.{_≡_};
 ghost use Rattle.digits.specs.Paper.Decimal.{decimal};
-ghost use Rattle.digits.specs.Paper.Answers.{Written};
+ghost use Rattle.digits.specs.Paper.Answers.{AtEnd};
 
 // The digits of a number: they are the characters from `from` on, and the characters before are 0.
 pub struct Decimal {
@@ -11,7 +10,7 @@ pub struct Decimal {
 
 // The digits of n.
 pub fn digits(n: u64) -> Decimal
-    ensures { λ r. ⌜ Written 20 (decimal n) (r .chars) (r .from) ⌝ }
+    ensures { λ r. ⌜ AtEnd 20 (decimal n) (r .chars) (r .from) ⌝ }
 {
     let mut chars = [0u8; 20];
     let mut from: usize = 19;

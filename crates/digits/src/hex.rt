@@ -1,10 +1,9 @@
 // Hex digits, upper case only: a lower-case letter is no digit.
 ghost use mathlib.Core.Path.{_≡_};
-ghost use mathlib.Core.List.{[], _∷_};
-ghost use Prim.Native.Nat.{_%_, _<_};
+ghost use Prim.Native.Nat.{_%_};
 ghost use Rattle.digits.specs.Paper.Hex.{hexDigit, hexByte, hexWord};
-ghost use Rattle.digits.specs.Paper.Read.{Reads};
-ghost use Rattle.digits.specs.Paper.Answers.{byteRefusal, byteValue, wordRefusal, wordValue};
+ghost use Rattle.digits.specs.Paper.Answers.{ReadsDigit, ReadsByte, ReadsWord};
+ghost use Rattle.digits.specs.Work.Hex.{placeOf};
 
 // What digits are read as: a byte, or that they are no digits.
 pub enum Byte {
@@ -29,7 +28,7 @@ pub fn digit(v: u8) -> u8
 
 // The value of a digit.
 pub fn value(c: u8) -> Byte
-    ensures { λ r. ⌜ Reads (λ v. v < 16) (λ v. hexDigit v ∷ []) 5 (c ∷ []) (byteRefusal r) (byteValue r) ⌝ }
+    ensures { λ r. ⌜ ReadsDigit c r ⌝ }
 {
     let v = place(c);
     if digit(v) == c {
@@ -49,15 +48,15 @@ fn place(c: u8) -> u8
 }
 
 // A byte as two digits, the high one first.
-pub fn byte(b: u8) -> [u8; 2]
+pub fn two_digits(b: u8) -> [u8; 2]
     ensures { λ r. ⌜ r ≡ hexByte b ⌝ }
 {
     [digit(b / 16), digit(b)]
 }
 
 // The byte that two digits are.
-pub fn byte_value(high: u8, low: u8) -> Byte
-    ensures { λ r. ⌜ Reads (λ v. v < 256) hexByte 5 (high ∷ low ∷ []) (byteRefusal r) (byteValue r) ⌝ }
+pub fn byte_of(high: u8, low: u8) -> Byte
+    ensures { λ r. ⌜ ReadsByte high low r ⌝ }
 {
     let Byte::Is(h) = value(high) else {
         return Byte::NoDigit;
@@ -69,22 +68,22 @@ pub fn byte_value(high: u8, low: u8) -> Byte
 }
 
 // A number of 16 bits as four digits.
-pub fn word(n: u16) -> [u8; 4]
+pub fn four_digits(n: u16) -> [u8; 4]
     ensures { λ r. ⌜ r ≡ hexWord n ⌝ }
 {
-    let high = byte((n / 256) as u8);
-    let low = byte((n % 256) as u8);
+    let high = two_digits((n / 256) as u8);
+    let low = two_digits((n % 256) as u8);
     [high[0], high[1], low[0], low[1]]
 }
 
 // The number that four digits are.
-pub fn word_value(d: [u8; 4]) -> Word
-    ensures { λ r. ⌜ Reads (λ v. v < 65536) hexWord 5 d (wordRefusal r) (wordValue r) ⌝ }
+pub fn word_of(d: [u8; 4]) -> Word
+    ensures { λ r. ⌜ ReadsWord d r ⌝ }
 {
-    let Byte::Is(h) = byte_value(d[0], d[1]) else {
+    let Byte::Is(h) = byte_of(d[0], d[1]) else {
         return Word::NoDigit;
     };
-    let Byte::Is(l) = byte_value(d[2], d[3]) else {
+    let Byte::Is(l) = byte_of(d[2], d[3]) else {
         return Word::NoDigit;
     };
     Word::Is((h as u16) * 256 + l as u16)

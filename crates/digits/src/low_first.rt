@@ -1,10 +1,10 @@
 // Numbers as 1, 2 or 4 bytes, low byte first, and back.
 ghost use mathlib.Core.Path.{_≡_};
-ghost use Prim.Native.Nat.{_^_, _<_};
+ghost use Prim.Native.Nat.{_≤_};
 ghost use lib.ListN.{length};
-ghost use Rattle.digits.specs.Paper.LowFirst.{Width, lowFirst};
-ghost use Rattle.digits.specs.Paper.Read.{Reads};
-ghost use Rattle.digits.specs.Paper.Answers.{numberRefusal, numberValue};
+ghost use Rattle.digits.specs.Paper.LowFirst.{lowFirst};
+ghost use Rattle.digits.specs.Paper.Answers.{ReadsNumber};
+ghost use Rattle.digits.specs.Work.LowFirst.{lowValue};
 
 // What bytes are read as: a number, or that they are not 1, 2 or 4.
 pub enum Number {
@@ -36,8 +36,8 @@ pub fn four(n: u32) -> [u8; 4]
 }
 
 // The number that the bytes of s are.
-pub fn number(s: &[u8]) -> Number
-    ensures { λ r. ⌜ Reads (Within (length (now (s .entry)))) (lowFirst (length (now (s .entry)))) 7 (now (s .entry)) (numberRefusal r) (numberValue r) ⌝ }
+pub fn number_of(s: &[u8]) -> Number
+    ensures { λ r. ⌜ ReadsNumber (now (s .entry)) r ⌝ }
 {
     let n = s.len();
     if n == 1 {
@@ -50,4 +50,18 @@ pub fn number(s: &[u8]) -> Number
         return Number::Is(value(s));
     }
     Number::Width
+}
+
+// The number that at most four bytes are.
+fn value(s: &[u8]) -> u32
+    requires { ⌜ length (now s) ≤ 4 ⌝ }
+    ensures { λ r. ⌜ r ≡ lowValue (now (s .entry)) ⌝ }
+{
+    let mut i = s.len();
+    let mut n: u64 = 0;
+    while 0 < i {
+        i -= 1;
+        n = s[i] as u64 + n * 256;
+    }
+    n as u32
 }

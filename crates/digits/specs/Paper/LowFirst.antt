@@ -1,6 +1,6 @@
 -- 01, Messages: "Addresses and numbers are low byte first"; Numbers: "Byte values have width 1, 2 or 4".
 -- Assumes nothing.
-use Prim.Native.Nat.{ℕ, zero, suc, _/_, _%_}
+use Prim.Native.Nat.{ℕ, zero, suc, _/_, _%_, _^_, _<_}
 use mathlib.Core.List.{List, [], _∷_}
 
 -- the widths that there are
@@ -9,7 +9,12 @@ pub data Width : ℕ → Type 0 where
   two : Width 2
   four : Width 4
 
--- the number n in `width` bytes, low byte first
+-- n is a number of so many bytes
+pub record Held (width n : ℕ) : Type 0 where
+  pub known : Width width
+  pub below : n < 256 ^ width
+
+-- the number n in so many bytes, low byte first
 unfoldable pub lowFirst : ℕ → ℕ → List ℕ
 lowFirst zero n = []
 lowFirst (suc width) n = n % 256 ∷ lowFirst width (n / 256)

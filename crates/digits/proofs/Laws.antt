@@ -1,0 +1,9 @@
+pub mod Tests
+pub mod Table
+pub mod Bytes
+pub mod Parts
+pub mod Stores
+pub mod Reads
+pub mod Hex
+pub mod Decimal
+pub mod LowFirst

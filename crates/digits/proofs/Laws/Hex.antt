@@ -1,0 +1,109 @@
+-- Hex digits there and back.
+-- Assumes nothing.
+use mathlib.Core.Path.{_≡_, refl, sym, ap, ap₂, _∙_, subst}
+use mathlib.Core.Bool.{Bool, true, false, cond}
+use mathlib.Core.List.{List, [], _∷_, _++_}
+use Prim.Native.Nat.{ℕ, zero, suc, _+_, _*_, _/_, _%_, _<_}
+use native.Mathlib.Omega.{arith}
+use lib.Dec.{T, eqb, ltb, eqb→eq}
+use lib.ListN.{length}
+use Rattle.digits.specs.Paper.Ascii.{ascii}
+use Rattle.digits.specs.Paper.Bytes.{Bytes}
+use Rattle.digits.specs.Paper.Hex.{hexDigit, hexByte, hexWord, hexBytes}
+use Rattle.digits.specs.Work.Hex.{placeOf}
+use Rattle.digits.proofs.Laws.Tests.{zero≢suc, suc≢zero}
+use Rattle.digits.proofs.Laws.Table.{at}
+use Rattle.digits.proofs.Laws.Bytes.{bytes-head, bytes-tail}
+
+-- ---- one digit
+
+-- the table's rule: a digit stands where it is looked for
+found : ℕ → ℕ → Bool
+found v c = eqb (placeOf c) v
+
+pub place-digit : (v : ℕ) → v < 16 → placeOf (hexDigit v) ≡ v
+unfolding hexDigit found placeOf
+place-digit v h = eqb→eq (placeOf (hexDigit v)) v (at found (ascii "0123456789ABCDEF") tt v h)
+
+pub place-lt : (c : ℕ) → placeOf c < 16
+unfolding placeOf
+place-lt c = go (ltb c 65)
+  where
+    go : (t : Bool) → cond t (c % 16) ((c % 16 + 9) % 16) < 16
+    go true = omega arith
+    go false = omega arith
+
+pub digit-inj : (u v : ℕ) → u < 16 → v < 16 → hexDigit u ≡ hexDigit v → u ≡ v
+digit-inj u v h k e = sym (place-digit u h) ∙ ap placeOf e ∙ place-digit v k
+
+-- what is not the digit at its place is no digit
+pub no-digit : (c : ℕ) → (hexDigit (placeOf c) ≡ c → ⊥) → (v : ℕ) → v < 16 → hexDigit v ≡ c → ⊥
+no-digit c f v h e = f (ap hexDigit (ap placeOf (sym e) ∙ place-digit v h) ∙ e)
+
+-- ---- two, and four
+
+pub byte-of : (high low : ℕ) → high < 16 → low < 16 → hexByte (high * 16 + low) ≡ hexDigit high ∷ hexDigit low ∷ []
+unfolding hexByte
+byte-of high low h k =
+    let a : (high * 16 + low) / 16 ≡ high = omega arith in
+    let b : (high * 16 + low) % 16 ≡ low = omega arith in
+    rw (a, b)
+
+-- bytes that are two digits: each is a digit of a value
+pub byte-parts : (b high low : ℕ) → b < 256 → hexByte b ≡ high ∷ low ∷ [] → (hexDigit (b / 16) ≡ high) × (hexDigit (b % 16) ≡ low)
+unfolding hexByte
+byte-parts b high low h e = (cc, cc)
+
+pub byte-inj : (u v : ℕ) → u < 256 → v < 256 → hexByte u ≡ hexByte v → u ≡ v
+unfolding hexByte
+byte-inj u v h k e =
+    let a : hexDigit (u / 16) ≡ hexDigit (v / 16) = cc in
+    let b : hexDigit (u % 16) ≡ hexDigit (v % 16) = cc in
+    let x : u / 16 ≡ v / 16 = digit-inj (u / 16) (v / 16) (omega arith) (omega arith) a in
+    let y : u % 16 ≡ v % 16 = digit-inj (u % 16) (v % 16) (omega arith) (omega arith) b in
+    omega arith
+
+pub word-of : (high low : ℕ) → low < 256 → hexWord (high * 256 + low) ≡ hexByte high ++ hexByte low
+unfolding hexWord
+word-of high low k =
+    let a : (high * 256 + low) / 256 ≡ high = omega arith in
+    let b : (high * 256 + low) % 256 ≡ low = omega arith in
+    rw (a, b)
+
+pub word-parts : (n p q r s : ℕ) → hexWord n ≡ p ∷ q ∷ r ∷ s ∷ []
+    → (hexByte (n / 256) ≡ p ∷ q ∷ []) × (hexByte (n % 256) ≡ r ∷ s ∷ [])
+unfolding hexWord hexByte
+word-parts n p q r s e =
+    let a : hexDigit (n / 256 / 16) ≡ p = cc in
+    let b : hexDigit (n / 256 % 16) ≡ q = cc in
+    let c : hexDigit (n % 256 / 16) ≡ r = cc in
+    let d : hexDigit (n % 256 % 16) ≡ s = cc in
+    (rw (a, b), rw (c, d))
+
+pub word-inj : (u v : ℕ) → u < 65536 → v < 65536 → hexWord u ≡ hexWord v → u ≡ v
+unfolding hexWord hexByte
+word-inj u v h k e =
+    let p = word-parts u _ _ _ _ e in
+    let q = word-parts v _ _ _ _ refl in
+    let x : u / 256 ≡ v / 256 = byte-inj (u / 256) (v / 256) (omega arith) (omega arith) (p .0 ∙ sym (q .0)) in
+    let y : u % 256 ≡ v % 256 = byte-inj (u % 256) (v % 256) (omega arith) (omega arith) (p .1 ∙ sym (q .1)) in
+    omega arith
+
+-- ---- many
+
+pub length-hex : (s : List ℕ) → length (hexBytes s) ≡ length s * 2
+unfolding hexBytes hexByte
+length-hex [] = refl
+length-hex (b ∷ s) = let h : length (hexBytes s) ≡ length s * 2 = length-hex s in omega arith
+
+pub hex-inj : (s t : List ℕ) → Bytes s → Bytes t → hexBytes s ≡ hexBytes t → s ≡ t
+unfolding hexBytes hexByte
+hex-inj [] [] h k e = refl
+hex-inj [] (c ∷ t) h k e = absurd (zero≢suc (ap length e))
+hex-inj (b ∷ s) [] h k e = absurd (suc≢zero (ap length e))
+hex-inj (b ∷ s) (c ∷ t) h k e =
+    let x : hexDigit (b / 16) ≡ hexDigit (c / 16) = cc in
+    let y : hexDigit (b % 16) ≡ hexDigit (c % 16) = cc in
+    let z : hexBytes s ≡ hexBytes t = cc in
+    ap₂ (λ (x : ℕ) (l : List ℕ). x ∷ l) (byte-inj b c (bytes-head h) (bytes-head k) (rw (x, y)))
+    (hex-inj s t (bytes-tail h) (bytes-tail k) z)

@@ -1,0 +1,76 @@
+-- Numbers as bytes, low byte first, there and back.
+-- Assumes nothing.
+use mathlib.Core.Path.{_≡_, refl, sym, ap, _∙_, subst}
+use Prim.Native.Nat.{ℕ, zero, suc, _+_, _-_, _*_, _/_, _%_, _^_, _≤_, _<_}
+use mathlib.Core.List.{List, [], _∷_}
+use native.Mathlib.Omega.{arith}
+use native.Mathlib.Nat.{pow-suc}
+use lib.Dec.{lit<}
+use lib.ListN.{length, getD, take, drop, length-drop}
+use lib.Seq.{drop-cons}
+use Rattle.digits.specs.Paper.Bytes.{Bytes}
+use Rattle.digits.specs.Paper.LowFirst.{lowFirst}
+use Rattle.digits.specs.Work.LowFirst.{lowValue}
+use Rattle.digits.proofs.Laws.Bytes.{bytes-nil, bytes-cons, bytes-head, bytes-tail, bytes-drop}
+
+pub length-low : (w n : ℕ) → length (lowFirst w n) ≡ w
+unfolding lowFirst
+length-low zero n = refl
+length-low (suc w) n = ap suc (length-low w (n / 256))
+
+pub bytes-low : (w n : ℕ) → Bytes (lowFirst w n)
+unfolding lowFirst
+bytes-low zero n = bytes-nil
+bytes-low (suc w) n = bytes-cons (omega arith) (bytes-low w (n / 256))
+
+-- a narrower form is the front of a wider one
+pub low-take : (v w n : ℕ) → v ≤ w → take v (lowFirst w n) ≡ lowFirst v n
+unfolding lowFirst
+low-take zero w n h = refl
+low-take (suc v) zero n h = absurd (omega arith)
+low-take (suc v) (suc w) n h = ap (λ (l : List ℕ). n % 256 ∷ l) (low-take v w (n / 256) (omega arith))
+
+-- ---- there and back
+
+pub value-low : (w n : ℕ) → n < 256 ^ w → lowValue (lowFirst w n) ≡ n
+unfolding lowFirst lowValue
+value-low zero n h = omega arith
+value-low (suc w) n h =
+    let p : n < 256 ^ w * 256 = rw pow-suc at h in
+    let q : n / 256 < 256 ^ w = omega arith in
+    rw (value-low w (n / 256) q) (omega arith)
+
+pub low-value : (s : List ℕ) → Bytes s → lowFirst (length s) (lowValue s) ≡ s
+unfolding lowFirst lowValue
+low-value [] b = refl
+low-value (x ∷ s) b =
+    let k : x < 256 = bytes-head b in
+    let h : (x + lowValue s * 256) % 256 ≡ x = omega arith in
+    let q : (x + lowValue s * 256) / 256 ≡ lowValue s = omega arith in
+    rw (h, q, low-value s (bytes-tail b))
+
+pub low-inj : (w u v : ℕ) → u < 256 ^ w → v < 256 ^ w → lowFirst w u ≡ lowFirst w v → u ≡ v
+low-inj w u v h k e = sym (value-low w u h) ∙ ap lowValue e ∙ value-low w v k
+
+pub value-lt : (w : ℕ) (s : List ℕ) → Bytes s → length s ≤ w → lowValue s < 256 ^ w
+unfolding lowValue
+value-lt zero [] b e = lit< tt
+value-lt zero (x ∷ s) b e = absurd (omega arith)
+value-lt (suc w) [] b e = let h = value-lt w [] b (omega arith) in rw pow-suc (omega arith)
+value-lt (suc w) (x ∷ s) b e =
+    let l : length s ≤ w = omega arith in
+    let h = value-lt w s (bytes-tail b) l in
+    rw pow-suc (omega (arith, bytes-head b))
+
+-- ---- read from the last byte to the first
+
+-- one byte more in front
+pub value-step : (s : List ℕ) (i : ℕ) → 0 < i → i ≤ length s → getD s (i - 1) 0 + lowValue (drop i s) * 256 ≡ lowValue (drop (i - 1) s)
+unfolding lowValue
+value-step s i p h =
+    let l : i - 1 < length s = omega arith in
+    let e : suc (i - 1) ≡ i = omega arith in
+    sym (ap lowValue (drop-cons s (i - 1) 0 l ∙ ap (λ (j : ℕ). getD s (i - 1) 0 ∷ drop j s) e))
+
+pub value-part : (w : ℕ) (s : List ℕ) (i : ℕ) → Bytes s → length s ≤ w → lowValue (drop i s) < 256 ^ w
+value-part w s i b h = value-lt w (drop i s) (bytes-drop i s b) (omega (arith, length-drop i s))

@@ -1,0 +1,25 @@
+-- What a reading says, and that there is one.
+-- Assumes nothing.
+use mathlib.Core.Path.{_≡_, refl, sym, _∙_}
+use Prim.Native.Nat.{ℕ}
+use mathlib.Core.List.{List}
+use Rattle.digits.specs.Paper.Read.{Reads, is, none}
+
+module _ {Limits : ℕ → Type 0} {write : ℕ → List ℕ} {no : ℕ} {s : List ℕ} (refuses : no ≡ 0 → ⊥) where
+  -- an answer of number 0 is the value that is written so
+  pub answered : {k v : ℕ} → Reads Limits write no s k v → k ≡ 0 → Limits v × (write v ≡ s)
+  answered (is l e) z = (l, e)
+  answered (none f) z = absurd (refuses z)
+
+  -- a refusal says that there is none
+  pub refused : {k v : ℕ} → Reads Limits write no s k v → k ≡ no → (u : ℕ) → Limits u → write u ≡ s → ⊥
+  refused (is l e) z = absurd (refuses (sym z))
+  refused (none f) z = f
+
+  -- of a writer that writes no two values alike, two answers are the same
+  pub one-reading : ((u v : ℕ) → Limits u → Limits v → write u ≡ write v → u ≡ v)
+      → {k m u v : ℕ} → Reads Limits write no s k u → Reads Limits write no s m v → (k ≡ m) × (u ≡ v)
+  one-reading inj (is {v = u} l e) (is {v = v} j f) = (refl, inj u v l j (e ∙ sym f))
+  one-reading inj (is {v = u} l e) (none f) = absurd (f u l e)
+  one-reading inj (none f) (is {v = v} j e) = absurd (f v j e)
+  one-reading inj (none f) (none g) = (refl, refl)

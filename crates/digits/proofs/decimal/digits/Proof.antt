@@ -1,0 +1,72 @@
+use Rattle.digits.proofs.decimal.digits.Statement.{statement}
+use Rattle.digits.proofs.decimal.digits.Tie as tie
+use Rattle.digits.proofs.decimal.digits.Reads as reads
+use Rattle.digits.proofs.decimal.digits.Lts as lts
+
+abbrev Inv-loop : tie.InvT-loop
+Inv-loop n chars₀ from₀ rest₀ chars from rest = ?
+
+abbrev μ-loop : tie.MeasureT-loop
+μ-loop n chars₀ from₀ rest₀ chars from rest = ?
+
+-- src/decimal.rt:18:5
+loop-holds : tie.Need-loop-holds Inv-loop μ-loop
+loop-holds c = ?
+
+-- src/decimal.rt:19:28
+cast-chars : tie.Need-cast-chars Inv-loop μ-loop
+cast-chars c = ?
+
+-- src/decimal.rt:19:23
+add-chars : tie.Need-add-chars Inv-loop μ-loop
+add-chars c = ?
+
+-- src/decimal.rt:19:9
+array-write-chars : tie.Need-array-write-chars Inv-loop μ-loop
+array-write-chars c = ?
+
+-- src/decimal.rt:21:9
+sub-from : tie.Need-sub-from Inv-loop μ-loop
+sub-from c = ?
+
+-- src/decimal.rt:18:5
+loop-less : tie.Need-loop-less Inv-loop μ-loop
+loop-less c = ?
+
+-- src/decimal.rt:18:5
+loop-again : tie.Need-loop-again Inv-loop μ-loop
+loop-again c = ?
+
+-- src/decimal.rt:23:24
+cast-chars-2 : tie.Need-cast-chars-2 Inv-loop μ-loop
+cast-chars-2 c = ?
+
+-- src/decimal.rt:23:19
+add-chars-2 : tie.Need-add-chars-2 Inv-loop μ-loop
+add-chars-2 c = ?
+
+-- src/decimal.rt:23:5
+array-write-chars-2 : tie.Need-array-write-chars-2 Inv-loop μ-loop
+array-write-chars-2 c = ?
+
+-- src/decimal.rt:12:1
+returns : tie.Need-returns Inv-loop μ-loop
+returns c = ?
+
+pub digits-spec : {M : Type 1} → statement M
+digits-spec =
+    tie.close
+    (tie.spec
+    Inv-loop
+    μ-loop
+    loop-holds
+    cast-chars
+    add-chars
+    array-write-chars
+    sub-from
+    loop-less
+    loop-again
+    cast-chars-2
+    add-chars-2
+    array-write-chars-2
+    returns)

@@ -1,0 +1,66 @@
+use borrow.Author.Needs.{needs}
+use Rattle.digits.proofs.hex.byte_of.Statement.{statement}
+use Rattle.digits.proofs.hex.byte_of.Tie as tie
+use Rattle.digits.proofs.hex.byte_of.Reads as reads
+use Rattle.digits.proofs.hex.byte_of.Lts as lts
+use Rattle.digits.proofs.hex.value.Reads as value-reads
+
+-- src/hex.rt:61:23
+value-requires : tie.Need-value-requires
+value-requires c κs = search needs
+
+-- src/hex.rt:61:18
+enum-known-h : tie.Need-enum-known-h
+enum-known-h c = search needs
+
+-- src/hex.rt:62:9
+enum-told : tie.Need-enum-told
+enum-told c = search needs
+
+-- src/hex.rt:62:9
+returns : tie.Need-returns
+returns c = ?
+
+-- src/hex.rt:64:23
+value-requires-2 : tie.Need-value-requires-2
+value-requires-2 c κs = search needs
+
+-- src/hex.rt:64:18
+enum-known-l : tie.Need-enum-known-l
+enum-known-l c = search needs
+
+-- src/hex.rt:65:9
+enum-told-2 : tie.Need-enum-told-2
+enum-told-2 c = search needs
+
+-- src/hex.rt:65:9
+returns-2 : tie.Need-returns-2
+returns-2 c = ?
+
+-- src/hex.rt:67:14
+mul-t7 : tie.Need-mul-t7
+mul-t7 c = ?
+
+-- src/hex.rt:67:14
+add-t8 : tie.Need-add-t8
+add-t8 c = ?
+
+-- src/hex.rt:58:1
+returns-3 : tie.Need-returns-3
+returns-3 c = ?
+
+pub byte-of-spec : {M : Type 1} → statement M
+byte-of-spec =
+    tie.close
+    (tie.spec
+    value-requires
+    enum-known-h
+    enum-told
+    returns
+    value-requires-2
+    enum-known-l
+    enum-told-2
+    returns-2
+    mul-t7
+    add-t8
+    returns-3)

@@ -1,0 +1,28 @@
+use borrow.Author.Needs.{needs}
+use Rattle.digits.proofs.low_first.four.Statement.{statement}
+use Rattle.digits.proofs.low_first.four.Tie as tie
+use Rattle.digits.proofs.low_first.four.Reads as reads
+use Rattle.digits.proofs.low_first.four.Lts as lts
+
+-- src/low_first.rt:31:9
+cast-t3 : tie.Need-cast-t3
+cast-t3 c = search needs
+
+-- src/low_first.rt:32:9
+cast-t6 : tie.Need-cast-t6
+cast-t6 c = search needs
+
+-- src/low_first.rt:33:9
+cast-t10 : tie.Need-cast-t10
+cast-t10 c = search needs
+
+-- src/low_first.rt:34:9
+cast-t14 : tie.Need-cast-t14
+cast-t14 c = search needs
+
+-- src/low_first.rt:27:1
+returns : tie.Need-returns
+returns c = ?
+
+pub four-spec : {M : Type 1} → statement M
+four-spec = tie.close (tie.spec cast-t3 cast-t6 cast-t10 cast-t14 returns)
