@@ -5,5 +5,6 @@ pub mod Parts
 pub mod Stores
 pub mod Reads
 pub mod Hex
+pub mod HexReads
 pub mod Decimal
 pub mod LowFirst

@@ -21,7 +21,7 @@ pub fn one(n: u8) -> [u8; 1]
 pub fn two(n: u16) -> [u8; 2]
     ensures { λ r. ⌜ r ≡ lowFirst 2 n ⌝ }
 {
-    [(n % 256) as u8, (n / 256) as u8]
+    [(n % 256) as u8, (n / 256 % 256) as u8]
 }
 
 pub fn four(n: u32) -> [u8; 4]
@@ -31,7 +31,7 @@ pub fn four(n: u32) -> [u8; 4]
         (n % 256) as u8,
         (n / 256 % 256) as u8,
         (n / 256 / 256 % 256) as u8,
-        (n / 256 / 256 / 256) as u8,
+        (n / 256 / 256 / 256 % 256) as u8,
     ]
 }
 

@@ -6,10 +6,11 @@ use mathlib.Core.List.{List, [], _∷_, _++_}
 use Prim.Native.Nat.{ℕ, zero, suc, _+_, _*_, _/_, _%_, _<_}
 use native.Mathlib.Omega.{arith}
 use lib.Dec.{T, eqb, ltb, eqb→eq}
-use lib.ListN.{length}
+use lib.ListN.{length, getD}
 use Rattle.digits.specs.Paper.Ascii.{ascii}
 use Rattle.digits.specs.Paper.Bytes.{Bytes}
 use Rattle.digits.specs.Paper.Hex.{hexDigit, hexByte, hexWord, hexBytes}
+use Rattle.digits.specs.Paper.Read.{Reads, is, none}
 use Rattle.digits.specs.Work.Hex.{placeOf}
 use Rattle.digits.proofs.Laws.Tests.{zero≢suc, suc≢zero}
 use Rattle.digits.proofs.Laws.Table.{at}
@@ -40,7 +41,29 @@ digit-inj u v h k e = sym (place-digit u h) ∙ ap placeOf e ∙ place-digit v k
 pub no-digit : (c : ℕ) → (hexDigit (placeOf c) ≡ c → ⊥) → (v : ℕ) → v < 16 → hexDigit v ≡ c → ⊥
 no-digit c f v h e = f (ap hexDigit (ap placeOf (sym e) ∙ place-digit v h) ∙ e)
 
+-- what looking a digit up in the table answers: v is the place of c, d the digit there
+pub digit-read : (c v d : ℕ) → v ≡ placeOf c → d ≡ hexDigit (v % 16) → d ≡ c → Reads (λ v. v < 16) (λ v. hexDigit v ∷ []) 5 (c ∷ []) 0 v
+digit-read c v d e f g =
+    let h : v < 16 = subst (λ (x : ℕ). x < 16) (sym e) (place-lt c) in
+    let m : v % 16 ≡ v = omega arith in
+    is h (ap (λ (x : ℕ). x ∷ []) (ap hexDigit (sym m) ∙ sym f ∙ g))
+
+pub digit-unread : (c v d : ℕ) → v ≡ placeOf c → d ≡ hexDigit (v % 16) → (d ≡ c → ⊥) → Reads (λ v. v < 16) (λ v. hexDigit v ∷ []) 5 (c ∷ []) 5 0
+digit-unread c v d e f g =
+    let h : v < 16 = subst (λ (x : ℕ). x < 16) (sym e) (place-lt c) in
+    let m : v % 16 ≡ v = omega arith in
+    none (λ u l w. no-digit c (λ x. g (f ∙ ap hexDigit (m ∙ e) ∙ x)) u l cc)
+
 -- ---- two, and four
+
+pub byte-digits : (b x y : ℕ) → b < 256 → x ≡ hexDigit (b / 16 % 16) → y ≡ hexDigit (b % 16) → x ∷ y ∷ [] ≡ hexByte b
+unfolding hexByte
+byte-digits b x y h e f = let m : b / 16 % 16 ≡ b / 16 = omega arith in rw (e, f, m)
+
+pub word-bytes : (n : ℕ) (high low : List ℕ) → high ≡ hexByte (n / 256) → low ≡ hexByte (n % 256)
+    → getD high 0 0 ∷ getD high 1 0 ∷ getD low 0 0 ∷ getD low 1 0 ∷ [] ≡ hexWord n
+unfolding hexWord hexByte
+word-bytes n high low e f = rw (e, f)
 
 pub byte-of : (high low : ℕ) → high < 16 → low < 16 → hexByte (high * 16 + low) ≡ hexDigit high ∷ hexDigit low ∷ []
 unfolding hexByte

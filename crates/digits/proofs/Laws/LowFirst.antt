@@ -4,12 +4,13 @@ use mathlib.Core.Path.{_≡_, refl, sym, ap, _∙_, subst}
 use Prim.Native.Nat.{ℕ, zero, suc, _+_, _-_, _*_, _/_, _%_, _^_, _≤_, _<_}
 use mathlib.Core.List.{List, [], _∷_}
 use native.Mathlib.Omega.{arith}
-use native.Mathlib.Nat.{pow-suc}
+use native.Mathlib.Nat.{pow-suc, le-refl}
 use lib.Dec.{lit<}
 use lib.ListN.{length, getD, take, drop, length-drop}
 use lib.Seq.{drop-cons}
 use Rattle.digits.specs.Paper.Bytes.{Bytes}
-use Rattle.digits.specs.Paper.LowFirst.{lowFirst}
+use Rattle.digits.specs.Paper.LowFirst.{Width, one, two, four, Held, lowFirst}
+use Rattle.digits.specs.Paper.Read.{Reads, is, none}
 use Rattle.digits.specs.Work.LowFirst.{lowValue}
 use Rattle.digits.proofs.Laws.Bytes.{bytes-nil, bytes-cons, bytes-head, bytes-tail, bytes-drop}
 
@@ -74,3 +75,24 @@ value-step s i p h =
 
 pub value-part : (w : ℕ) (s : List ℕ) (i : ℕ) → Bytes s → length s ≤ w → lowValue (drop i s) < 256 ^ w
 value-part w s i b h = value-lt w (drop i s) (bytes-drop i s b) (omega (arith, length-drop i s))
+
+-- ---- what reading answers
+
+-- bytes of a width that there is are a number's, whose value is n
+pub number-is : (s : List ℕ) (k n : ℕ) → Bytes s → length s ≡ k → Width k → n ≡ lowValue s → Reads (Held (length s)) (lowFirst (length s)) 7 s 0 n
+number-is s k n b e w v =
+    is {v = n}
+    (record {
+      known = subst Width (sym e) w;
+      below = subst (λ (x : ℕ). x < 256 ^ length s) (sym v) (value-lt (length s) s b (le-refl (length s)));
+    })
+    (ap (lowFirst (length s)) v ∙ low-value s b)
+
+pub number-none : (s : List ℕ) → (length s ≡ 1 → ⊥) → (length s ≡ 2 → ⊥) → (length s ≡ 4 → ⊥)
+    → Reads (Held (length s)) (lowFirst (length s)) 7 s 7 0
+number-none s a b d = none (λ n h e. other (length s) (h .known) a b d)
+  where
+    other : (k : ℕ) → Width k → (k ≡ 1 → ⊥) → (k ≡ 2 → ⊥) → (k ≡ 4 → ⊥) → ⊥
+    other k one a b d = a refl
+    other k two a b d = b refl
+    other k four a b d = d refl

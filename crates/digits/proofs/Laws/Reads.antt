@@ -1,19 +1,20 @@
 -- What a reading says, and that there is one.
 -- Assumes nothing.
 use mathlib.Core.Path.{_≡_, refl, sym, _∙_}
-use Prim.Native.Nat.{ℕ}
+use Prim.Native.Nat.{ℕ, _<_}
+use native.Mathlib.Omega.{arith}
 use mathlib.Core.List.{List}
 use Rattle.digits.specs.Paper.Read.{Reads, is, none}
 
-module _ {Limits : ℕ → Type 0} {write : ℕ → List ℕ} {no : ℕ} {s : List ℕ} (refuses : no ≡ 0 → ⊥) where
+module _ {Limits : ℕ → Type 0} {write : ℕ → List ℕ} {no : ℕ} {s : List ℕ} (refuses : 0 < no) where
   -- an answer of number 0 is the value that is written so
   pub answered : {k v : ℕ} → Reads Limits write no s k v → k ≡ 0 → Limits v × (write v ≡ s)
   answered (is l e) z = (l, e)
-  answered (none f) z = absurd (refuses z)
+  answered (none f) z = absurd (omega arith)
 
   -- a refusal says that there is none
   pub refused : {k v : ℕ} → Reads Limits write no s k v → k ≡ no → (u : ℕ) → Limits u → write u ≡ s → ⊥
-  refused (is l e) z = absurd (refuses (sym z))
+  refused (is l e) z = absurd (omega arith)
   refused (none f) z = f
 
   -- of a writer that writes no two values alike, two answers are the same

@@ -1,3 +1,5 @@
+use native.Mathlib.Omega.{arith}
+use Rattle.digits.proofs.Laws.HexReads.{no-high, no-low, digit-lt, both-digits}
 use borrow.Author.Needs.{needs}
 use Rattle.digits.proofs.hex.byte_of.Statement.{statement}
 use Rattle.digits.proofs.hex.byte_of.Tie as tie
@@ -19,7 +21,7 @@ enum-told c = search needs
 
 -- src/hex.rt:62:9
 returns : tie.Need-returns
-returns c = ?
+returns c = no-high (c .before .before .value .ensures) (c .enum-told .given .1)
 
 -- src/hex.rt:64:23
 value-requires-2 : tie.Need-value-requires-2
@@ -35,19 +37,25 @@ enum-told-2 c = search needs
 
 -- src/hex.rt:65:9
 returns-2 : tie.Need-returns-2
-returns-2 c = ?
+returns-2 c = no-low (c .before .before .value2 .ensures) (c .enum-told2 .given .1)
 
 -- src/hex.rt:67:14
 mul-t7 : tie.Need-mul-t7
-mul-t7 c = ?
+mul-t7 c = omega (arith, digit-lt (c .before .before .before .before .before .before .before .value .ensures) (c .before .before .before .before .before .h .given .1))
 
 -- src/hex.rt:67:14
 add-t8 : tie.Need-add-t8
-add-t8 c = ?
+add-t8 c = omega (
+  arith,
+  digit-lt (c .before .before .before .before .before .before .before .value .ensures) (c .before .before .before .before .before .h .given .1),
+  digit-lt (c .before .before .before .value2 .ensures) (c .before .l .given .1),
+)
 
 -- src/hex.rt:58:1
 returns-3 : tie.Need-returns-3
-returns-3 c = ?
+returns-3 c =
+    both-digits (c .before .before .before .before .before .before .before .value .ensures) (c .before .before .before .before .before .h .given .1)
+    (c .before .before .before .value2 .ensures) (c .before .l .given .1)
 
 pub byte-of-spec : {M : Type 1} → statement M
 byte-of-spec =

@@ -1,3 +1,4 @@
+use Rattle.digits.specs.Paper.Hex.{hexDigit}
 use borrow.Author.Needs.{needs}
 use Rattle.digits.proofs.hex.digit.Statement.{statement}
 use Rattle.digits.proofs.hex.digit.Tie as tie
@@ -14,7 +15,8 @@ array-read-result c = search needs
 
 -- src/hex.rt:23:1
 returns : tie.Need-returns
-returns c = ?
+unfolding hexDigit
+returns c = search needs
 
 pub digit-spec : {M : Type 1} → statement M
 digit-spec = tie.close (tie.spec cast-result array-read-result returns)

@@ -1,3 +1,4 @@
+use Rattle.digits.proofs.Laws.Hex.{word-bytes}
 use borrow.Author.Needs.{needs}
 use Rattle.digits.proofs.hex.four_digits.Statement.{statement}
 use Rattle.digits.proofs.hex.four_digits.Tie as tie
@@ -39,7 +40,7 @@ array-read-t17 c = search needs
 
 -- src/hex.rt:71:1
 returns : tie.Need-returns
-returns c = ?
+returns c = word-bytes _ _ _ (c .before .two-digits .ensures) (c .two-digits2 .ensures)
 
 pub four-digits-spec : {M : Type 1} → statement M
 four-digits-spec =

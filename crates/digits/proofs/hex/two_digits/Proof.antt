@@ -1,3 +1,5 @@
+use Rattle.digits.proofs.Laws.Hex.{byte-digits}
+use native.Mathlib.Omega.{arith}
 use borrow.Author.Needs.{needs}
 use Rattle.digits.proofs.hex.two_digits.Statement.{statement}
 use Rattle.digits.proofs.hex.two_digits.Tie as tie
@@ -15,7 +17,7 @@ digit-requires-2 c κs = search needs
 
 -- src/hex.rt:51:1
 returns : tie.Need-returns
-returns c = ?
+returns c = byte-digits _ _ _ (omega arith) (c .before .digit .ensures) (c .digit2 .ensures)
 
 pub two-digits-spec : {M : Type 1} → statement M
 two-digits-spec = tie.close (tie.spec digit-requires digit-requires-2 returns)

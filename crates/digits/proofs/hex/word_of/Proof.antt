@@ -1,3 +1,4 @@
+use Rattle.digits.proofs.Laws.HexReads.{no-front, no-back, both-bytes}
 use borrow.Author.Needs.{needs}
 use Rattle.digits.proofs.hex.word_of.Statement.{statement}
 use Rattle.digits.proofs.hex.word_of.Tie as tie
@@ -27,7 +28,7 @@ enum-told c = search needs
 
 -- src/hex.rt:84:9
 returns : tie.Need-returns
-returns c = ?
+returns c = no-front _ (search needs) (c .before .before .byte-of .ensures) (c .enum-told .given .1)
 
 -- src/hex.rt:86:31
 array-read-byte-of-3 : tie.Need-array-read-byte-of-3
@@ -51,7 +52,7 @@ enum-told-2 c = search needs
 
 -- src/hex.rt:87:9
 returns-2 : tie.Need-returns-2
-returns-2 c = ?
+returns-2 c = no-back _ (search needs) (c .before .before .byte-of2 .ensures) (c .enum-told2 .given .1)
 
 -- src/hex.rt:89:15
 cast-t17 : tie.Need-cast-t17
@@ -71,7 +72,9 @@ add-t20 c = search needs
 
 -- src/hex.rt:80:1
 returns-3 : tie.Need-returns-3
-returns-3 c = ?
+returns-3 c =
+    both-bytes _ (search needs) (c .before .before .before .before .before .before .before .byte-of .ensures) (c .before .before .before .before .before .h .given .1)
+    (c .before .before .before .byte-of2 .ensures) (c .before .l .given .1)
 
 pub word-of-spec : {M : Type 1} → statement M
 word-of-spec =

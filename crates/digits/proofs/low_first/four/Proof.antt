@@ -1,3 +1,5 @@
+use mathlib.Core.Path.{refl}
+use Rattle.digits.specs.Paper.LowFirst.{lowFirst}
 use borrow.Author.Needs.{needs}
 use Rattle.digits.proofs.low_first.four.Statement.{statement}
 use Rattle.digits.proofs.low_first.four.Tie as tie
@@ -17,12 +19,13 @@ cast-t10 : tie.Need-cast-t10
 cast-t10 c = search needs
 
 -- src/low_first.rt:34:9
-cast-t14 : tie.Need-cast-t14
-cast-t14 c = search needs
+cast-t15 : tie.Need-cast-t15
+cast-t15 c = search needs
 
 -- src/low_first.rt:27:1
 returns : tie.Need-returns
-returns c = ?
+unfolding lowFirst
+returns c = refl
 
 pub four-spec : {M : Type 1} → statement M
-four-spec = tie.close (tie.spec cast-t3 cast-t6 cast-t10 cast-t14 returns)
+four-spec = tie.close (tie.spec cast-t3 cast-t6 cast-t10 cast-t15 returns)

@@ -1,3 +1,5 @@
+use mathlib.Core.Path.{refl}
+use Rattle.digits.specs.Paper.LowFirst.{lowFirst}
 use borrow.Author.Needs.{needs}
 use Rattle.digits.proofs.low_first.two.Statement.{statement}
 use Rattle.digits.proofs.low_first.two.Tie as tie
@@ -9,12 +11,13 @@ cast-t3 : tie.Need-cast-t3
 cast-t3 c = search needs
 
 -- src/low_first.rt:24:23
-cast-t5 : tie.Need-cast-t5
-cast-t5 c = search needs
+cast-t6 : tie.Need-cast-t6
+cast-t6 c = search needs
 
 -- src/low_first.rt:21:1
 returns : tie.Need-returns
-returns c = ?
+unfolding lowFirst
+returns c = refl
 
 pub two-spec : {M : Type 1} → statement M
-two-spec = tie.close (tie.spec cast-t3 cast-t5 returns)
+two-spec = tie.close (tie.spec cast-t3 cast-t6 returns)
