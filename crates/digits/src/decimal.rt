@@ -1,11 +1,22 @@
-// Decimal digits, without leading zeros.
+// Decimal digits without leading zeros, and back.
+use super::slices;
+ghost use mathlib.Core.Path.{_≡_};
+ghost use Prim.Native.Nat.{_≤_, _^_, _<_};
+ghost use lib.ListN.{length};
 ghost use Rattle.digits.specs.Paper.Decimal.{decimal};
-ghost use Rattle.digits.specs.Paper.Answers.{AtEnd};
+ghost use Rattle.digits.specs.Paper.Answers.{AtEnd, ReadsDecimal};
+ghost use Rattle.digits.specs.Work.Decimal.{guess};
 
 // The digits of a number: they are the characters from `from` on, and the characters before are 0.
 pub struct Decimal {
     pub chars: [u8; 20],
     pub from: usize,
+}
+
+// What decimal digits are read as: a number of 32 bits, or that they are none's.
+pub enum Whole {
+    Is(u32),
+    NoNumber,
 }
 
 // The digits of n.
@@ -22,4 +33,38 @@ pub fn digits(n: u64) -> Decimal
     }
     chars[from] = 48 + rest as u8;
     Decimal { chars, from }
+}
+
+// The number whose digits are the characters of s.
+pub fn number_of(s: &[u8]) -> Whole
+    ensures { λ r. ⌜ ReadsDecimal (now (s .entry)) r ⌝ }
+{
+    if 10 < s.len() {
+        return Whole::NoNumber;
+    }
+    let n = guessed(s);
+    if 0xFFFF_FFFF < n {
+        return Whole::NoNumber;
+    }
+    let d = digits(n);
+    let chars = d.chars;
+    let from = d.from;
+    if slices::same(&chars[from..20], s) {
+        return Whole::Is(n as u32);
+    }
+    Whole::NoNumber
+}
+
+// The number that the characters of s make, each taken for a digit: what it is if s is a number's.
+fn guessed(s: &[u8]) -> u64
+    requires { ⌜ length (now s) ≤ 10 ⌝ }
+    ensures { λ r. ⌜ r ≡ guess 0 (now (s .entry)) ⌝ }
+{
+    let mut n: u64 = 0;
+    let mut i = 0;
+    while i < s.len() {
+        n = n * 10 + (s[i] as u64 + 2) % 10;
+        i += 1;
+    }
+    n
 }

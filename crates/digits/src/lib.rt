@@ -2,3 +2,4 @@
 pub mod decimal;
 pub mod hex;
 pub mod low_first;
+pub mod slices;

@@ -1,6 +1,6 @@
 -- Bytes: of a list, of its parts, and of two lists.
 -- Assumes nothing.
-use Prim.Native.Nat.{ℕ, zero, suc, _+_, _<_}
+use Prim.Native.Nat.{ℕ, zero, suc, _+_, _-_, _<_}
 use mathlib.Core.List.{List, [], _∷_, _++_}
 use lib.Dec.{lit<}
 use lib.ListN.{getD, take, drop}
@@ -36,4 +36,4 @@ pub bytes-drop : (n : ℕ) (s : List ℕ) → Bytes s → Bytes (drop n s)
 bytes-drop n s h = record { each = λ i. rw getD-drop (h .each (n + i)) }
 
 pub bytes-part : (a e : ℕ) (s : List ℕ) → Bytes s → Bytes (part a e s)
-bytes-part a e s h = bytes-take _ _ (bytes-drop a s h)
+bytes-part a e s h = bytes-take (e - a) (drop a s) (bytes-drop a s h)

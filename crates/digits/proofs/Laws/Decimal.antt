@@ -5,13 +5,17 @@ use mathlib.Core.Bool.{Bool, true, false, cond}
 use mathlib.Core.List.{List, [], _∷_, _++_, append-assoc, append-nil}
 use Prim.Native.Nat.{ℕ, zero, suc, _+_, _-_, _*_, _/_, _%_, _^_, _≤_, _<_}
 use native.Mathlib.Omega.{arith}
-use native.Mathlib.Nat.{pow-suc, le-refl}
+use native.Mathlib.Nat.{pow-suc, pow-le-pow-right, zero-lt-suc, le-refl, le-trans}
 use native.Mathlib.Numerals.{add-one}
 use lib.Dec.{ltb}
-use lib.ListN.{length, set, replicate, length-append}
+use lib.ListN.{length, getD, take, drop, set, replicate, length-append, length-replicate, drop-of-length-le}
+use lib.Seq.{drop-cons, drop-at, take-all}
 use borrow.Author.Tests.{lt-ltb, le-ltb, ltb-true, ltb-false}
-use Rattle.digits.specs.Paper.Decimal.{decimalDigit, decimalIn, decimal}
+use Rattle.digits.specs.Paper.Decimal.{decimalDigit, decimalIn, enough, decimal}
+use Rattle.digits.specs.Paper.Read.{Reads, is, none, Tells}
 use Rattle.digits.specs.Paper.Answers.{AtEnd}
+use Rattle.digits.specs.Work.Decimal.{guess}
+use Rattle.digits.proofs.Laws.Tests.{told, untold}
 
 -- a number is below 10, or it is not
 by-ten : (n : ℕ) {C : Type 0} → (n < 10 → C) → (10 ≤ n → C) → C
@@ -32,26 +36,45 @@ in-more : (most n : ℕ) → 10 ≤ n → decimalIn (suc most) n ≡ decimalIn m
 unfolding decimalIn
 in-more most n h = simp (le-ltb n 10 h)
 
+tenth-lt : (k n : ℕ) → n < 10 ^ suc (suc k) → n / 10 < 10 ^ suc k
+tenth-lt k n h = let p : n < 10 ^ suc k * 10 = subst (λ (x : ℕ). n < x) (pow-suc 10 (suc k)) h in omega arith
+
 -- any bound that is large enough gives the same
-in-any : (f g n : ℕ) → n ≤ f → n ≤ g → decimalIn f n ≡ decimalIn g n
-in-any zero g n h k = let z : n < 10 = omega arith in in-small zero n z ∙ sym (in-small g n z)
-in-any (suc f) zero n h k = let z : n < 10 = omega arith in in-small (suc f) n z ∙ sym (in-small zero n z)
+in-any : (f g n : ℕ) → n < 10 ^ suc f → n < 10 ^ suc g → decimalIn f n ≡ decimalIn g n
+in-any zero g n h k = in-small zero n h ∙ sym (in-small g n h)
+in-any (suc f) zero n h k = in-small (suc f) n k ∙ sym (in-small zero n k)
 in-any (suc f) (suc g) n h k =
     by-ten n (λ l. in-small (suc f) n l ∙ sym (in-small (suc g) n l))
     (λ l. in-more f n l
-    ∙ ap (λ (d : List ℕ). d ++ (decimalDigit (n % 10) ∷ [])) (in-any f g (n / 10) (omega arith) (omega arith))
+    ∙ ap (λ (d : List ℕ). d ++ (decimalDigit (n % 10) ∷ [])) (in-any f g (n / 10) (tenth-lt f n h) (tenth-lt g n k))
     ∙ sym (in-more g n l))
+
+below-power : (n : ℕ) → n < 10 ^ suc n
+below-power zero = omega arith
+below-power (suc n) = omega (arith, below-power n, pow-suc 10 (suc n))
+
+is-enough : (n : ℕ) → n < 10 ^ suc (enough n)
+unfolding enough
+is-enough n = go (ltb n (10 ^ 20)) refl
+  where
+    go : (t : Bool) → ltb n (10 ^ 20) ≡ t → n < 10 ^ suc (cond t 19 n)
+    go true e = ltb-true n (10 ^ 20) e
+    go false e = below-power n
 
 pub decimal-small : (n : ℕ) → n < 10 → decimal n ≡ decimalDigit n ∷ []
 unfolding decimal
-decimal-small n h = in-small n n h
+decimal-small n h = in-small (enough n) n h
 
 pub decimal-more : (n : ℕ) → 10 ≤ n → decimal n ≡ decimal (n / 10) ++ (decimalDigit (n % 10) ∷ [])
 unfolding decimal
-decimal-more zero h = absurd (omega arith)
-decimal-more (suc n) h =
-    in-more n (suc n) h
-    ∙ ap (λ (d : List ℕ). d ++ (decimalDigit (suc n % 10) ∷ [])) (in-any n (suc n / 10) (suc n / 10) (omega arith) (le-refl (suc n / 10)))
+decimal-more n h = go (enough n) (is-enough n)
+  where
+    go : (f : ℕ) → n < 10 ^ suc f → decimalIn f n ≡ decimalIn (enough (n / 10)) (n / 10) ++ (decimalDigit (n % 10) ∷ [])
+    go zero k = absurd (omega arith)
+    go (suc f) k =
+        in-more f n h
+        ∙ ap (λ (d : List ℕ). d ++ (decimalDigit (n % 10) ∷ []))
+        (in-any f (enough (n / 10)) (n / 10) (tenth-lt f n k) (is-enough (n / 10)))
 
 -- ---- how many
 
@@ -83,7 +106,7 @@ pub record Left (room n : ℕ) (chars : List ℕ) (from rest : ℕ) : Type 0 whe
   pub whole : decimal n ≡ decimal rest ++ done
   pub chars-are : chars ≡ replicate (suc from) 0 ++ done
   pub place : suc from + length done ≡ room
-  pub enough : rest < 10 ^ suc from
+  pub places : rest < 10 ^ suc from
 
 pub left-start : (from n : ℕ) → n < 10 ^ suc from → Left (suc from) n (replicate (suc from) 0) from n
 left-start from n h =
@@ -92,7 +115,7 @@ left-start from n h =
       whole = sym (append-nil (decimal n));
       chars-are = sym (append-nil (replicate (suc from) 0));
       place = omega arith;
-      enough = h;
+      places = h;
     }
 
 module _ {room n from rest : ℕ} {chars : List ℕ} (l : Left room n chars from rest) where
@@ -101,7 +124,7 @@ module _ {room n from rest : ℕ} {chars : List ℕ} (l : Left room n chars from
 
   -- a rest of two digits or more leaves a place for the others
   pub place-left : 9 < rest → 1 ≤ from
-  place-left h = go from (l .enough)
+  place-left h = go from (l .places)
     where
       go : (k : ℕ) → rest < 10 ^ suc k → 1 ≤ k
       go zero m = absurd (omega arith)
@@ -111,7 +134,7 @@ module _ {room n from rest : ℕ} {chars : List ℕ} (l : Left room n chars from
   left-next h =
       let p : 1 ≤ from = place-left h in
       let e : suc (from - 1) ≡ from = omega arith in
-      let t : rest < 10 ^ from * 10 = subst (λ (x : ℕ). rest < x) (pow-suc 10 from) (l .enough) in
+      let t : rest < 10 ^ from * 10 = subst (λ (x : ℕ). rest < x) (pow-suc 10 from) (l .places) in
       let d : rest / 10 < 10 ^ from = omega arith in
       record {
         done = decimalDigit (rest % 10) ∷ l .done;
@@ -120,7 +143,7 @@ module _ {room n from rest : ℕ} {chars : List ℕ} (l : Left room n chars from
             ∙ append-assoc (decimal (rest / 10)) (decimalDigit (rest % 10) ∷ []) (l .done);
         chars-are = stored (48 + rest % 10) ∙ ap (λ (k : ℕ). replicate k 0 ++ (48 + rest % 10) ∷ l .done) (sym e);
         place = omega (arith, l .place);
-        enough = subst (λ (k : ℕ). rest / 10 < 10 ^ k) (sym e) d;
+        places = subst (λ (k : ℕ). rest / 10 < 10 ^ k) (sym e) d;
       }
 
   pub left-end : rest ≤ 9 → AtEnd room (decimal n) (set chars from (48 + rest)) from
@@ -131,3 +154,93 @@ module _ {room n from rest : ℕ} {chars : List ℕ} (l : Left room n chars from
         place = omega (arith, l .place, ap length e);
         text-last = stored (48 + rest) ∙ ap (λ (x : List ℕ). replicate from 0 ++ x) (sym e);
       }
+
+-- ---- and back
+
+guess-append : (s t : List ℕ) (n : ℕ) → guess n (s ++ t) ≡ guess (guess n s) t
+unfolding guess
+guess-append [] t n = refl
+guess-append (c ∷ s) t n = guess-append s t (n * 10 + (c + 2) % 10)
+
+one-digit : (n v : ℕ) → v < 10 → guess n (decimalDigit v ∷ []) ≡ n * 10 + v
+unfolding guess
+one-digit n v h = let e : (48 + v + 2) % 10 ≡ v = omega arith in rw e
+
+guess-in : (most n : ℕ) → n ≤ most → guess 0 (decimal n) ≡ n
+guess-in zero n h = ap (guess 0) (decimal-small n (omega arith)) ∙ one-digit 0 n (omega arith) ∙ omega arith
+guess-in (suc most) n h =
+    by-ten n (λ l. ap (guess 0) (decimal-small n l) ∙ one-digit 0 n l ∙ omega arith)
+    (λ l.
+    let e : n / 10 * 10 + n % 10 ≡ n = omega arith in
+    ap (guess 0) (decimal-more n l) ∙ guess-append (decimal (n / 10)) (decimalDigit (n % 10) ∷ []) 0
+    ∙ ap (λ (x : ℕ). guess x (decimalDigit (n % 10) ∷ [])) (guess-in most (n / 10) (omega arith))
+    ∙ one-digit (n / 10) (n % 10) (omega arith) ∙ e)
+
+-- a number's digits are taken for that number
+pub guess-decimal : (n : ℕ) → guess 0 (decimal n) ≡ n
+guess-decimal n = guess-in n n (le-refl n)
+
+-- NO TWO NUMBERS HAVE THE SAME DIGITS
+pub decimal-inj : (m n : ℕ) → decimal m ≡ decimal n → m ≡ n
+decimal-inj m n e = sym (guess-decimal m) ∙ ap (guess 0) e ∙ guess-decimal n
+
+-- the loop over s: n has been made of i characters, and what is left makes the whole of it
+pub record Guessing (s : List ℕ) (n i : ℕ) : Type 0 where
+  pub within : i ≤ length s
+  pub small : n < 10 ^ i
+  pub rest : guess n (drop i s) ≡ guess 0 s
+
+pub guessing-next : {s : List ℕ} {n i : ℕ} → Guessing s n i → i < length s → Guessing s (n * 10 + (getD s i 0 + 2) % 10) (i + 1)
+unfolding guess
+guessing-next {s} {n} {i} g h =
+    let p : 10 ^ (i + 1) ≡ 10 ^ i * 10 = ap (λ (k : ℕ). 10 ^ k) (add-one i) ∙ pow-suc 10 i in
+    record {
+      within = omega arith;
+      small = omega (arith, g .small, p);
+      rest =
+          ap (λ (k : ℕ). guess (n * 10 + (getD s i 0 + 2) % 10) (drop k s)) (add-one i)
+          ∙ ap (guess n) (sym (drop-cons s i 0 h)) ∙ g .rest;
+    }
+
+pub guessing-end : {s : List ℕ} {n i : ℕ} → Guessing s n i → length s ≤ i → n ≡ guess 0 s
+unfolding guess
+guessing-end {s} {n} {i} g h = sym (ap (guess n) (drop-of-length-le s h)) ∙ g .rest
+
+-- at most ten characters make no more than ten digits
+pub guessing-lt : {s : List ℕ} {n i : ℕ} → Guessing s n i → length s ≤ 10 → n < 10 ^ 10
+guessing-lt {s} {n} {i} g h =
+    let p : 10 ^ i ≤ 10 ^ 10 = pow-le-pow-right (zero-lt-suc 9) (le-trans (g .within) h) in
+    omega (arith, g .small)
+
+-- ---- what reading answers
+
+module _ (s : List ℕ) where
+  pub none-long : 10 < length s → Reads (λ n. n < 2 ^ 32) decimal 7 s 7 0
+  none-long h = none (λ n l e. let k : length (decimal n) ≤ 10 = length-decimal 9 n (omega arith) in omega (arith, ap length e))
+
+  pub none-large : (m : ℕ) → m ≡ guess 0 s → 4294967295 < m → Reads (λ n. n < 2 ^ 32) decimal 7 s 7 0
+  none-large m g h = none (λ n l e. let k : m ≡ n = g ∙ ap (guess 0) (sym e) ∙ guess-decimal n in omega arith)
+
+  pub none-other : (m : ℕ) → m ≡ guess 0 s → (decimal m ≡ s → ⊥) → Reads (λ n. n < 2 ^ 32) decimal 7 s 7 0
+  none-other m g h = none (λ n l e. h (ap decimal (g ∙ ap (guess 0) (sym e) ∙ guess-decimal n) ∙ e))
+
+-- the characters of a text at the end of its room
+pub text-part : {room from : ℕ} {text chars : List ℕ} → AtEnd room text chars from → take (room - from) (drop from chars) ≡ text
+text-part {room} {from} {text} {chars} a =
+    ap (λ (l : List ℕ). take (room - from) (drop from l)) (a .text-last)
+    ∙ ap (take (room - from)) (drop-at (replicate from 0) text from (length-replicate from 0))
+    ∙ take-all (room - from) text (omega (arith, a .place))
+
+pub length-chars : {room from : ℕ} {text chars : List ℕ} → AtEnd room text chars from → length chars ≡ room
+length-chars {room} {from} {text} {chars} a =
+    ap length (a .text-last) ∙ length-append (replicate from 0) text
+    ∙ ap (λ (k : ℕ). k + length text) (length-replicate from 0) ∙ a .place
+
+-- the test of the characters against the digits of the guessed number m
+module _ (s : List ℕ) (m from : ℕ) (chars : List ℕ) (g : m ≡ guess 0 s) (d : AtEnd 20 (decimal m) chars from) where
+  pub read-same : {b : Bool} → m ≤ 4294967295 → Tells (take (20 - from) (drop from chars) ≡ s) b → b ≡ true
+      → Reads (λ n. n < 2 ^ 32) decimal 7 s 0 m
+  read-same h t e = is {v = m} (omega arith) (sym (text-part d) ∙ told t e)
+
+  pub read-other : {b : Bool} → Tells (take (20 - from) (drop from chars) ≡ s) b → b ≡ false → Reads (λ n. n < 2 ^ 32) decimal 7 s 7 0
+  read-other t e = none-other s m g (λ f. untold t e (text-part d ∙ f))
