@@ -1,12 +1,11 @@
--- What the definitions say of digits and bytes, for a reader: each writer can be read back, and lower case is no digit.
+-- What the definitions of digits and bytes come to, for a reader.
 -- Assumes nothing.
 use mathlib.Core.Path.{_≡_}
+use mathlib.Core.Bool.{_&&_, _||_}
 use mathlib.Core.List.{List}
-use Prim.Native.Nat.{ℕ, zero, suc, _+_, _^_, _≤_, _<_}
-use native.Mathlib.Omega.{arith}
-use native.Mathlib.Nat.{not-suc-le-zero}
-use lib.Dec.{T, eqb, ltb}
-use lib.ListN.{length, getD, List·getD-append}
+use Prim.Native.Nat.{ℕ, suc, _^_, _≤_, _<_}
+use lib.Dec.{T, leb}
+use lib.ListN.{length, getD}
 use Rattle.digits.specs.Paper.Bytes.{Bytes}
 use Rattle.digits.specs.Paper.Hex.{hexDigit, hexByte, hexWord, hexBytes}
 use Rattle.digits.specs.Paper.Decimal.{decimal}
@@ -15,7 +14,11 @@ use Rattle.digits.proofs.Laws.Hex as hex
 use Rattle.digits.proofs.Laws.Decimal as decimals
 use Rattle.digits.proofs.Laws.LowFirst as low
 
--- no two values have the same digit, no two bytes the same two, no two numbers of 16 bits the same four, no two byte strings the same hex
+-- A HEX DIGIT IS UPPER CASE: `0` to `9` or `A` to `F`
+pub upper-case : (v : ℕ) → v < 16 → T ((leb 48 (hexDigit v) && leb (hexDigit v) 57) || (leb 65 (hexDigit v) && leb (hexDigit v) 70))
+upper-case = hex.digit-upper
+
+-- NO TWO VALUES ARE WRITTEN ALIKE: as a hex digit, as two, as four, as many; in decimal; in bytes of one width
 pub one-hex-digit : (u v : ℕ) → u < 16 → v < 16 → hexDigit u ≡ hexDigit v → u ≡ v
 one-hex-digit = hex.digit-inj
 
@@ -28,9 +31,22 @@ one-hex-word = hex.word-inj
 pub one-hex : (s t : List ℕ) → Bytes s → Bytes t → hexBytes s ≡ hexBytes t → s ≡ t
 one-hex = hex.hex-inj
 
--- no two numbers have the same decimal digits, nor, at one width, the same bytes
 pub one-decimal : (m n : ℕ) → decimal m ≡ decimal n → m ≡ n
 one-decimal = decimals.decimal-inj
 
 pub one-low-first : (width u v : ℕ) → u < 256 ^ width → v < 256 ^ width → lowFirst width u ≡ lowFirst width v → u ≡ v
 one-low-first = low.low-inj
+
+-- DECIMAL DIGITS ARE `0` TO `9`, WITHOUT LEADING ZEROS, and k are enough for a number below 10 ^ k
+pub decimal-digits : (n i : ℕ) → i < length (decimal n) → (48 ≤ getD (decimal n) i 0) × (getD (decimal n) i 0 ≤ 57)
+decimal-digits = decimals.chars-digits
+
+pub decimal-no-leading-zero : (n : ℕ) → 0 < n → 48 < getD (decimal n) 0 0
+decimal-no-leading-zero = decimals.no-leading-zero
+
+pub decimal-short : (k n : ℕ) → n < 10 ^ suc k → length (decimal n) ≤ suc k
+decimal-short = decimals.length-decimal
+
+-- ALL BYTES OF A WIDTH ARE A NUMBER'S
+pub low-first-all : (s : List ℕ) → Bytes s → (n : ℕ) × (n < 256 ^ length s) × (lowFirst (length s) n ≡ s)
+low-first-all = low.low-all

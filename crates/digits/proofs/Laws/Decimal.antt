@@ -8,7 +8,7 @@ use native.Mathlib.Omega.{arith}
 use native.Mathlib.Nat.{pow-suc, pow-le-pow-right, zero-lt-suc, le-refl, le-trans}
 use native.Mathlib.Numerals.{add-one}
 use lib.Dec.{ltb}
-use lib.ListN.{length, getD, take, drop, set, replicate, length-append, length-replicate, drop-of-length-le}
+use lib.ListN.{length, getD, take, drop, set, replicate, length-append, length-replicate, drop-of-length-le, List·getD-append}
 use lib.Seq.{drop-cons, drop-at, take-all}
 use borrow.Author.Tests.{lt-ltb, le-ltb, ltb-true, ltb-false}
 use Rattle.digits.specs.Paper.Decimal.{decimalDigit, decimalIn, enough, decimal}
@@ -244,3 +244,45 @@ module _ (s : List ℕ) (m from : ℕ) (chars : List ℕ) (g : m ≡ guess 0 s) 
 
   pub read-other : {b : Bool} → Tells (take (20 - from) (drop from chars) ≡ s) b → b ≡ false → Reads (λ n. n < 2 ^ 32) decimal 7 s 7 0
   read-other t e = none-other s m g (λ f. untold t e (text-part d ∙ f))
+
+-- ---- what the characters are
+
+-- c is one of `0` to `9`
+abbrev Digit : ℕ → Type 0
+Digit c = (48 ≤ c) × (c ≤ 57)
+
+one-char : (v i : ℕ) → v < 10 → i < 1 → Digit (getD (decimalDigit v ∷ []) i 0)
+one-char v zero h k = (omega arith, omega arith)
+one-char v (suc i) h k = absurd (omega arith)
+
+-- of a list with an element more, at a place in it: in the list, or that element
+at-last : (s : List ℕ) (v i : ℕ) → v < 10 → ((k : ℕ) → k < length s → Digit (getD s k 0)) → i < length s + 1 → Digit (getD (s ++ (decimalDigit v ∷ [])) i 0)
+at-last [] v i h f k = one-char v i h k
+at-last (x ∷ s) v zero h f k = f 0 (omega arith)
+at-last (x ∷ s) v (suc i) h f k = at-last s v i h (λ j l. f (suc j) (omega arith)) (omega arith)
+
+chars-in : (most n : ℕ) → n ≤ most → (i : ℕ) → i < length (decimal n) → Digit (getD (decimal n) i 0)
+chars-in zero n h i k =
+    let e = decimal-small n (omega arith) in
+    subst (λ (d : List ℕ). Digit (getD d i 0)) (sym e) (one-char n i (omega arith) (omega (arith, ap length e)))
+chars-in (suc most) n h i k =
+    by-ten n
+    (λ l. let e = decimal-small n l in subst (λ (d : List ℕ). Digit (getD d i 0)) (sym e) (one-char n i l (omega (arith, ap length e))))
+    (λ l. subst (λ (d : List ℕ). Digit (getD d i 0)) (sym (decimal-more n l))
+    (at-last (decimal (n / 10)) (n % 10) i (omega arith) (chars-in most (n / 10) (omega arith)) (omega (arith, length-more n l))))
+
+pub chars-digits : (n i : ℕ) → i < length (decimal n) → (48 ≤ getD (decimal n) i 0) × (getD (decimal n) i 0 ≤ 57)
+chars-digits n i h = chars-in n n (le-refl n) i h
+
+first-in : (most n : ℕ) → n ≤ most → 0 < n → 48 < getD (decimal n) 0 0
+first-in zero n h p = absurd (omega arith)
+first-in (suc most) n h p =
+    by-ten n
+    (λ l. subst (λ (d : List ℕ). 48 < getD d 0 0) (sym (decimal-small n l)) (omega arith))
+    (λ l. subst (λ (d : List ℕ). 48 < getD d 0 0) (sym (decimal-more n l))
+    (rw (List·getD-append (decimal (n / 10)) (decimalDigit (n % 10) ∷ []) 0 0 (length-some (n / 10)))
+    (first-in most (n / 10) (omega arith) (omega arith))))
+
+-- the first is no `0`, but of the number 0
+pub no-leading-zero : (n : ℕ) → 0 < n → 48 < getD (decimal n) 0 0
+no-leading-zero n p = first-in n n (le-refl n) p

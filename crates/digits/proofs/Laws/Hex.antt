@@ -1,11 +1,11 @@
 -- Hex digits there and back.
 -- Assumes nothing.
 use mathlib.Core.Path.{_≡_, refl, sym, ap, ap₂, _∙_, subst}
-use mathlib.Core.Bool.{Bool, true, false, cond}
+use mathlib.Core.Bool.{Bool, true, false, _&&_, _||_, cond}
 use mathlib.Core.List.{List, [], _∷_, _++_}
 use Prim.Native.Nat.{ℕ, zero, suc, _+_, _*_, _/_, _%_, _<_}
 use native.Mathlib.Omega.{arith}
-use lib.Dec.{T, eqb, ltb, eqb→eq}
+use lib.Dec.{T, eqb, leb, ltb, eqb→eq}
 use lib.ListN.{length, getD}
 use Rattle.digits.specs.Paper.Ascii.{ascii}
 use Rattle.digits.specs.Paper.Bytes.{Bytes}
@@ -36,6 +36,14 @@ place-lt c = go (ltb c 65)
 
 pub digit-inj : (u v : ℕ) → u < 16 → v < 16 → hexDigit u ≡ hexDigit v → u ≡ v
 digit-inj u v h k e = sym (place-digit u h) ∙ ap placeOf e ∙ place-digit v k
+
+-- a digit is one of `0` to `9` and `A` to `F`
+upper : ℕ → ℕ → Bool
+upper v c = (leb 48 c && leb c 57) || (leb 65 c && leb c 70)
+
+pub digit-upper : (v : ℕ) → v < 16 → T ((leb 48 (hexDigit v) && leb (hexDigit v) 57) || (leb 65 (hexDigit v) && leb (hexDigit v) 70))
+unfolding hexDigit upper
+digit-upper v h = at upper (ascii "0123456789ABCDEF") tt v h
 
 -- what is not the digit at its place is no digit
 pub no-digit : (c : ℕ) → (hexDigit (placeOf c) ≡ c → ⊥) → (v : ℕ) → v < 16 → hexDigit v ≡ c → ⊥

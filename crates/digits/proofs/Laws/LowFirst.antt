@@ -63,6 +63,9 @@ value-lt (suc w) (x ∷ s) b e =
     let h = value-lt w s (bytes-tail b) l in
     rw pow-suc (omega (arith, bytes-head b))
 
+pub low-all : (s : List ℕ) → Bytes s → (n : ℕ) × (n < 256 ^ length s) × (lowFirst (length s) n ≡ s)
+low-all s b = (lowValue s, value-lt (length s) s b (le-refl (length s)), low-value s b)
+
 -- ---- read from the last byte to the first
 
 -- one byte more in front

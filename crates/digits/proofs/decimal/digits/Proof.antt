@@ -1,9 +1,9 @@
+-- `digits::decimal::digits` meets its contract: the digits that are done stand at the end, and those of the rest have their places before them.
+-- Assumes nothing.
 use native.Mathlib.Omega.{arith}
 use Rattle.digits.proofs.Laws.Decimal.{Left, left-start, place-left, left-next, left-end}
 use Rattle.digits.proofs.decimal.digits.Statement.{statement}
 use Rattle.digits.proofs.decimal.digits.Tie as tie
-use Rattle.digits.proofs.decimal.digits.Reads as reads
-use Rattle.digits.proofs.decimal.digits.Lts as lts
 
 abbrev Inv-loop : tie.InvT-loop
 Inv-loop n chars₀ from₀ rest₀ chars from rest = Left 20 n chars from rest
@@ -11,47 +11,36 @@ Inv-loop n chars₀ from₀ rest₀ chars from rest = Left 20 n chars from rest
 abbrev μ-loop : tie.MeasureT-loop
 μ-loop n chars₀ from₀ rest₀ chars from rest = rest
 
--- src/decimal.rt:18:5
 loop-holds : tie.Need-loop-holds Inv-loop μ-loop
 loop-holds c = left-start 19 (c .args .n) (omega arith)
 
--- src/decimal.rt:19:28
 cast-chars : tie.Need-cast-chars Inv-loop μ-loop
 cast-chars c = omega arith
 
--- src/decimal.rt:19:23
 add-chars : tie.Need-add-chars Inv-loop μ-loop
 add-chars c = omega arith
 
--- src/decimal.rt:19:9
 array-write-chars : tie.Need-array-write-chars Inv-loop μ-loop
 array-write-chars c = omega (arith, c .before .loop .inv .place)
 
--- src/decimal.rt:21:9
 sub-from : tie.Need-sub-from Inv-loop μ-loop
 sub-from c = place-left (c .before .loop .inv) (omega arith)
 
--- src/decimal.rt:18:5
 loop-less : tie.Need-loop-less Inv-loop μ-loop
 loop-less c = omega arith
 
--- src/decimal.rt:18:5
 loop-again : tie.Need-loop-again Inv-loop μ-loop
 loop-again c = left-next (c .before .loop .inv) (omega arith)
 
--- src/decimal.rt:23:24
 cast-chars-2 : tie.Need-cast-chars-2 Inv-loop μ-loop
 cast-chars-2 c = omega arith
 
--- src/decimal.rt:23:19
 add-chars-2 : tie.Need-add-chars-2 Inv-loop μ-loop
 add-chars-2 c = omega arith
 
--- src/decimal.rt:23:5
 array-write-chars-2 : tie.Need-array-write-chars-2 Inv-loop μ-loop
 array-write-chars-2 c = omega (arith, c .before .loop .inv .place)
 
--- src/decimal.rt:12:1
 returns : tie.Need-returns Inv-loop μ-loop
 returns c = left-end (c .before .loop .inv) (omega arith)
 

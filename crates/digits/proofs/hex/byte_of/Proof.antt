@@ -1,49 +1,38 @@
+-- `digits::hex::byte_of` meets its contract: two digits that are read make the byte, and where one is none there is no byte.
+-- Assumes nothing.
 use native.Mathlib.Omega.{arith}
-use Rattle.digits.proofs.Laws.HexReads.{no-high, no-low, digit-lt, both-digits}
 use borrow.Author.Needs.{needs}
+use Rattle.digits.proofs.Laws.HexReads.{no-high, no-low, digit-lt, both-digits}
 use Rattle.digits.proofs.hex.byte_of.Statement.{statement}
 use Rattle.digits.proofs.hex.byte_of.Tie as tie
-use Rattle.digits.proofs.hex.byte_of.Reads as reads
-use Rattle.digits.proofs.hex.byte_of.Lts as lts
-use Rattle.digits.proofs.hex.value.Reads as value-reads
 
--- src/hex.rt:61:23
 value-requires : tie.Need-value-requires
 value-requires c κs = search needs
 
--- src/hex.rt:61:18
 enum-known-h : tie.Need-enum-known-h
 enum-known-h c = search needs
 
--- src/hex.rt:62:9
 enum-told : tie.Need-enum-told
 enum-told c = search needs
 
--- src/hex.rt:62:9
 returns : tie.Need-returns
 returns c = no-high (c .before .before .value .ensures) (c .enum-told .given .1)
 
--- src/hex.rt:64:23
 value-requires-2 : tie.Need-value-requires-2
 value-requires-2 c κs = search needs
 
--- src/hex.rt:64:18
 enum-known-l : tie.Need-enum-known-l
 enum-known-l c = search needs
 
--- src/hex.rt:65:9
 enum-told-2 : tie.Need-enum-told-2
 enum-told-2 c = search needs
 
--- src/hex.rt:65:9
 returns-2 : tie.Need-returns-2
 returns-2 c = no-low (c .before .before .value2 .ensures) (c .enum-told2 .given .1)
 
--- src/hex.rt:67:14
 mul-t7 : tie.Need-mul-t7
 mul-t7 c = omega (arith, digit-lt (c .before .before .before .before .before .before .before .value .ensures) (c .before .before .before .before .before .h .given .1))
 
--- src/hex.rt:67:14
 add-t8 : tie.Need-add-t8
 add-t8 c = omega (
   arith,
@@ -51,7 +40,6 @@ add-t8 c = omega (
   digit-lt (c .before .before .before .value2 .ensures) (c .before .l .given .1),
 )
 
--- src/hex.rt:58:1
 returns-3 : tie.Need-returns-3
 returns-3 c =
     both-digits (c .before .before .before .before .before .before .before .value .ensures) (c .before .before .before .before .before .h .given .1)

@@ -1,44 +1,34 @@
-use Rattle.digits.proofs.Laws.Hex.{word-bytes}
+-- `digits::hex::four_digits` meets its contract: the digits of two bytes, one after the other.
+-- Assumes nothing.
 use borrow.Author.Needs.{needs}
+use Rattle.digits.proofs.Laws.Hex.{word-bytes}
 use Rattle.digits.proofs.hex.four_digits.Statement.{statement}
 use Rattle.digits.proofs.hex.four_digits.Tie as tie
-use Rattle.digits.proofs.hex.four_digits.Reads as reads
-use Rattle.digits.proofs.hex.four_digits.Lts as lts
-use Rattle.digits.proofs.hex.two_digits.Reads as two-digits-reads
 
--- src/hex.rt:74:27
 cast-two-digits : tie.Need-cast-two-digits
 cast-two-digits c = search needs
 
--- src/hex.rt:74:16
 two-digits-requires : tie.Need-two-digits-requires
 two-digits-requires c κs = search needs
 
--- src/hex.rt:75:26
 cast-two-digits-2 : tie.Need-cast-two-digits-2
 cast-two-digits-2 c = search needs
 
--- src/hex.rt:75:15
 two-digits-requires-2 : tie.Need-two-digits-requires-2
 two-digits-requires-2 c κs = search needs
 
--- src/hex.rt:76:6
 array-read-t6 : tie.Need-array-read-t6
 array-read-t6 c = search needs
 
--- src/hex.rt:76:15
 array-read-t11 : tie.Need-array-read-t11
 array-read-t11 c = search needs
 
--- src/hex.rt:76:24
 array-read-t14 : tie.Need-array-read-t14
 array-read-t14 c = search needs
 
--- src/hex.rt:76:32
 array-read-t17 : tie.Need-array-read-t17
 array-read-t17 c = search needs
 
--- src/hex.rt:71:1
 returns : tie.Need-returns
 returns c = word-bytes _ _ _ (c .before .two-digits .ensures) (c .two-digits2 .ensures)
 

@@ -1,76 +1,58 @@
-use Rattle.digits.proofs.Laws.HexReads.{no-front, no-back, both-bytes}
+-- `digits::hex::word_of` meets its contract: two bytes that are read make the number, and where one is none there is no number.
+-- Assumes nothing.
 use borrow.Author.Needs.{needs}
+use Rattle.digits.proofs.Laws.HexReads.{no-front, no-back, both-bytes}
 use Rattle.digits.proofs.hex.word_of.Statement.{statement}
 use Rattle.digits.proofs.hex.word_of.Tie as tie
-use Rattle.digits.proofs.hex.word_of.Reads as reads
-use Rattle.digits.proofs.hex.word_of.Lts as lts
-use Rattle.digits.proofs.hex.byte_of.Reads as byte-of-reads
 
--- src/hex.rt:83:31
 array-read-byte-of : tie.Need-array-read-byte-of
 array-read-byte-of c = search needs
 
--- src/hex.rt:83:37
 array-read-byte-of-2 : tie.Need-array-read-byte-of-2
 array-read-byte-of-2 c = search needs
 
--- src/hex.rt:83:23
 byte-of-requires : tie.Need-byte-of-requires
 byte-of-requires c κs = search needs
 
--- src/hex.rt:83:18
 enum-known-h : tie.Need-enum-known-h
 enum-known-h c = search needs
 
--- src/hex.rt:84:9
 enum-told : tie.Need-enum-told
 enum-told c = search needs
 
--- src/hex.rt:84:9
 returns : tie.Need-returns
 returns c = no-front _ (search needs) (c .before .before .byte-of .ensures) (c .enum-told .given .1)
 
--- src/hex.rt:86:31
 array-read-byte-of-3 : tie.Need-array-read-byte-of-3
 array-read-byte-of-3 c = search needs
 
--- src/hex.rt:86:37
 array-read-byte-of-4 : tie.Need-array-read-byte-of-4
 array-read-byte-of-4 c = search needs
 
--- src/hex.rt:86:23
 byte-of-requires-2 : tie.Need-byte-of-requires-2
 byte-of-requires-2 c κs = search needs
 
--- src/hex.rt:86:18
 enum-known-l : tie.Need-enum-known-l
 enum-known-l c = search needs
 
--- src/hex.rt:87:9
 enum-told-2 : tie.Need-enum-told-2
 enum-told-2 c = search needs
 
--- src/hex.rt:87:9
 returns-2 : tie.Need-returns-2
 returns-2 c = no-back _ (search needs) (c .before .before .byte-of2 .ensures) (c .enum-told2 .given .1)
 
--- src/hex.rt:89:15
 cast-t17 : tie.Need-cast-t17
 cast-t17 c = search needs
 
--- src/hex.rt:89:14
 mul-t18 : tie.Need-mul-t18
 mul-t18 c = search needs
 
--- src/hex.rt:89:33
 cast-t19 : tie.Need-cast-t19
 cast-t19 c = search needs
 
--- src/hex.rt:89:14
 add-t20 : tie.Need-add-t20
 add-t20 c = search needs
 
--- src/hex.rt:80:1
 returns-3 : tie.Need-returns-3
 returns-3 c =
     both-bytes _ (search needs) (c .before .before .before .before .before .before .before .byte-of .ensures) (c .before .before .before .before .before .h .given .1)

@@ -1,28 +1,23 @@
+-- `digits::low_first::four` meets its contract: by computation.
+-- Assumes nothing.
 use mathlib.Core.Path.{refl}
-use Rattle.digits.specs.Paper.LowFirst.{lowFirst}
 use borrow.Author.Needs.{needs}
+use Rattle.digits.specs.Paper.LowFirst.{lowFirst}
 use Rattle.digits.proofs.low_first.four.Statement.{statement}
 use Rattle.digits.proofs.low_first.four.Tie as tie
-use Rattle.digits.proofs.low_first.four.Reads as reads
-use Rattle.digits.proofs.low_first.four.Lts as lts
 
--- src/low_first.rt:31:9
 cast-t3 : tie.Need-cast-t3
 cast-t3 c = search needs
 
--- src/low_first.rt:32:9
 cast-t6 : tie.Need-cast-t6
 cast-t6 c = search needs
 
--- src/low_first.rt:33:9
 cast-t10 : tie.Need-cast-t10
 cast-t10 c = search needs
 
--- src/low_first.rt:34:9
 cast-t15 : tie.Need-cast-t15
 cast-t15 c = search needs
 
--- src/low_first.rt:27:1
 returns : tie.Need-returns
 unfolding lowFirst
 returns c = refl

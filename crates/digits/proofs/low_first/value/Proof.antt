@@ -1,17 +1,16 @@
-use native.Mathlib.Omega.{arith}
-use Rattle.digits.specs.Work.LowFirst.{lowValue}
-use denote.Ref.{now}
-use native.Mathlib.Nat.{le-refl}
-use lib.ListN.{length, getD, drop, drop-of-length-le}
-use lib.Dec.{lit<}
+-- `digits::low_first::value` meets its contract: the number of what has been read, from the last byte to the first.
+-- Assumes nothing.
 use mathlib.Core.Path.{_≡_, ap, sym, _∙_, subst}
 use Prim.Native.Nat.{ℕ, _+_, _-_, _*_, _^_, _≤_, _<_}
-use Rattle.digits.proofs.Laws.Bytes.{bytes-nil}
+use native.Mathlib.Nat.{le-refl}
+use native.Mathlib.Omega.{arith}
+use lib.Dec.{lit<}
+use lib.ListN.{length, getD, drop, drop-of-length-le}
+use denote.Ref.{now}
+use Rattle.digits.specs.Work.LowFirst.{lowValue}
 use Rattle.digits.proofs.Laws.LowFirst.{value-step, value-part}
 use Rattle.digits.proofs.low_first.value.Statement.{statement}
 use Rattle.digits.proofs.low_first.value.Tie as tie
-use Rattle.digits.proofs.low_first.value.Reads as reads
-use Rattle.digits.proofs.low_first.value.Lts as lts
 
 abbrev Inv-loop : tie.InvT-loop
 Inv-loop s i₀ n₀ i n = (i ≤ length s) × (n ≡ lowValue (drop i s)) × (n < 2 ^ 32)
@@ -19,36 +18,28 @@ Inv-loop s i₀ n₀ i n = (i ≤ length s) × (n ≡ lowValue (drop i s)) × (n
 abbrev μ-loop : tie.MeasureT-loop
 μ-loop s i₀ n₀ i n = i
 
--- src/low_first.rt:62:5
 loop-holds : tie.Need-loop-holds Inv-loop μ-loop
 unfolding lowValue
 loop-holds c = (omega arith, rw (drop-of-length-le (now (c .args .s)) (le-refl _)), lit< tt)
 
--- src/low_first.rt:63:9
 sub-i : tie.Need-sub-i Inv-loop μ-loop
 sub-i c = omega arith
 
--- src/low_first.rt:64:13
 shared-slice-read-n : tie.Need-shared-slice-read-n Inv-loop μ-loop
 shared-slice-read-n c = omega arith
 
--- src/low_first.rt:64:13
 cast-n : tie.Need-cast-n Inv-loop μ-loop
 cast-n c = omega (arith, c .shared-slice-known .given (c .before .before .loop .i - 1))
 
--- src/low_first.rt:64:27
 mul-n : tie.Need-mul-n Inv-loop μ-loop
 mul-n c = omega arith
 
--- src/low_first.rt:64:13
 add-n : tie.Need-add-n Inv-loop μ-loop
 add-n c = omega (arith, c .shared-slice-known .given (c .before .before .loop .i - 1))
 
--- src/low_first.rt:62:5
 loop-less : tie.Need-loop-less Inv-loop μ-loop
 loop-less c = omega arith
 
--- src/low_first.rt:62:5
 loop-again : tie.Need-loop-again Inv-loop μ-loop
 loop-again c =
     let l = c .before .before .loop in
@@ -62,11 +53,9 @@ loop-again c =
           (value-part 4 s (l .i - 1) (record { each = λ i. c .shared-slice-known .given i .fits }) (c .before .before .before .pre)),
     )
 
--- src/low_first.rt:66:5
 cast-result : tie.Need-cast-result Inv-loop μ-loop
 cast-result c = omega arith
 
--- src/low_first.rt:56:1
 returns : tie.Need-returns Inv-loop μ-loop
 returns c = let l = c .before .loop in let z : l .i ≡ 0 = omega arith in l .inv .1 ∙ rw z
 
