@@ -1,8 +1,7 @@
 -- Known digits, computed.
 -- Assumes nothing.
 use mathlib.Core.Path.{_≡_, refl}
-use mathlib.Core.List.{List, [], _∷_}
-use Prim.Native.Nat.{ℕ, _<_}
+use mathlib.Core.List.{[], _∷_}
 use Rattle.digits.specs.Paper.Ascii.{ascii}
 use Rattle.digits.specs.Paper.Hex.{hexDigit, hexByte, hexWord, hexBytes}
 use Rattle.digits.specs.Paper.Decimal.{decimalIn, enough, decimal}

@@ -2,12 +2,11 @@
 -- Assumes nothing.
 use mathlib.Core.Path.{_≡_, refl, sym, ap, ap₂, _∙_}
 use mathlib.Core.Bool.{Bool}
-use mathlib.Core.List.{List, [], _∷_, _++_}
-use Prim.Native.Nat.{ℕ, _+_, _<_}
+use mathlib.Core.List.{List, _++_}
+use Prim.Native.Nat.{ℕ, _+_}
 use native.Mathlib.Omega.{arith}
 use lib.ListN.{length, replicate}
 use Rattle.digits.specs.Paper.Decimal.{decimal}
-use Rattle.digits.specs.Paper.Hex.{hexDigit}
 use Rattle.digits.specs.Paper.Read.{Tells, holds, fails}
 use Rattle.digits.specs.Paper.Answers.{byteRefusal, byteValue, wordRefusal, wordValue, numberRefusal, numberValue, wholeRefusal, wholeValue, ReadsDigit, ReadsByte, ReadsWord, ReadsNumber, ReadsDecimal, AtEnd}
 use Rattle.digits.specs.declared.hex.Byte.{Byte}

@@ -1,7 +1,7 @@
 // Decimal digits without leading zeros, and back.
 use super::slices;
 ghost use mathlib.Core.Path.{_≡_};
-ghost use Prim.Native.Nat.{_≤_, _^_, _<_};
+ghost use Prim.Native.Nat.{_≤_, _<_};
 ghost use lib.ListN.{length};
 ghost use Rattle.digits.specs.Paper.Decimal.{decimal};
 ghost use Rattle.digits.specs.Paper.Answers.{AtEnd, ReadsDecimal};

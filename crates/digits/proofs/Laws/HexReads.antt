@@ -1,13 +1,13 @@
 -- Reading two digits and four, by the readings of their halves.
 -- Assumes nothing.
-use mathlib.Core.Path.{_≡_, refl, sym, ap, ap₂, _∙_, subst}
-use mathlib.Core.List.{List, [], _∷_, _++_}
+use mathlib.Core.Path.{_≡_, refl, sym, ap, _∙_, subst}
+use mathlib.Core.List.{List, [], _∷_}
 use Prim.Native.Nat.{ℕ, _+_, _*_, _/_, _%_, _<_}
 use native.Mathlib.Omega.{arith}
 use lib.ListN.{length, getD}
-use Rattle.digits.specs.Paper.Hex.{hexDigit, hexByte, hexWord}
-use Rattle.digits.specs.Paper.Read.{Reads, is, none}
-use Rattle.digits.specs.Paper.Answers.{byteRefusal, byteValue, ReadsDigit, ReadsByte, ReadsWord}
+use Rattle.digits.specs.Paper.Hex.{hexDigit, hexByte}
+use Rattle.digits.specs.Paper.Read.{is, none}
+use Rattle.digits.specs.Paper.Answers.{ReadsDigit, ReadsByte, ReadsWord}
 use Rattle.digits.specs.declared.hex.Byte.{Byte}
 use Rattle.digits.specs.declared.hex.Byte.the-variants.{Is, NoDigit}
 use Rattle.digits.specs.declared.hex.Word.the-variants.{Is as WordIs, NoDigit as NoWord}

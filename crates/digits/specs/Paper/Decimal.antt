@@ -1,7 +1,7 @@
 -- 01, Homiq: "decimal without leading zeros"; Numbers: "a whole part of one digit or without leading zero".
 -- Assumes nothing.
 use Prim.Native.Nat.{ℕ, zero, suc, _+_, _/_, _%_, _^_}
-use mathlib.Core.Bool.{Bool, cond}
+use mathlib.Core.Bool.{cond}
 use mathlib.Core.List.{List, [], _∷_, _++_}
 use lib.Dec.{ltb}
 
