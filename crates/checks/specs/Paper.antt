@@ -1,5 +1,6 @@
 pub mod Bits
 pub mod Check
 pub mod Buses
+pub mod Xor
 pub mod Stretch
 pub mod Rules

@@ -1,0 +1,5 @@
+pub mod Register
+pub mod Numbers
+pub mod Feed
+pub mod Burst
+pub mod Rotate

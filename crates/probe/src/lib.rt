@@ -1,0 +1,83 @@
+// The checks by C's calling convention, for the tests and benchmarks that are written in C. Not part of the product.
+ghost use mathlib.Core.Path.{_≡_};
+ghost use Rattle.checks.specs.Paper.Check.{feed, check};
+ghost use Rattle.checks.specs.Paper.Buses.{nikobusCrc16, nikobusCrc8, nestCrc, nibeXor, homiqCrc};
+use checks::homiq;
+use checks::nest;
+use checks::nibe;
+use checks::nikobus;
+
+// The check value of s, and the state after s where it was v before.
+#[no_mangle]
+pub extern "C" fn probe_nikobus_crc16(s: &[u8]) -> u16
+    ensures { λ r. ⌜ r ≡ check nikobusCrc16 (now (s .entry)) ⌝ }
+{
+    nikobus::Crc16::of(s)
+}
+
+#[no_mangle]
+pub extern "C" fn probe_nikobus_crc16_after(v: u16, s: &[u8]) -> u16
+    ensures { λ r. ⌜ r ≡ feed nikobusCrc16 v (now (s .entry)) ⌝ }
+{
+    nikobus::Crc16 { value: v }.bytes(s).value
+}
+
+// The check value of s, and the state after s where it was v before.
+#[no_mangle]
+pub extern "C" fn probe_nikobus_crc8(s: &[u8]) -> u8
+    ensures { λ r. ⌜ r ≡ check nikobusCrc8 (now (s .entry)) ⌝ }
+{
+    nikobus::Crc8::of(s)
+}
+
+#[no_mangle]
+pub extern "C" fn probe_nikobus_crc8_after(v: u8, s: &[u8]) -> u8
+    ensures { λ r. ⌜ r ≡ feed nikobusCrc8 v (now (s .entry)) ⌝ }
+{
+    nikobus::Crc8 { value: v }.bytes(s).value
+}
+
+// The check value of s, and the state after s where it was v before.
+#[no_mangle]
+pub extern "C" fn probe_nest_crc(s: &[u8]) -> u16
+    ensures { λ r. ⌜ r ≡ check nestCrc (now (s .entry)) ⌝ }
+{
+    nest::Crc::of(s)
+}
+
+#[no_mangle]
+pub extern "C" fn probe_nest_crc_after(v: u16, s: &[u8]) -> u16
+    ensures { λ r. ⌜ r ≡ feed nestCrc v (now (s .entry)) ⌝ }
+{
+    nest::Crc { value: v }.bytes(s).value
+}
+
+// The check value of s, and the state after s where it was v before.
+#[no_mangle]
+pub extern "C" fn probe_nibe_xor(s: &[u8]) -> u8
+    ensures { λ r. ⌜ r ≡ check nibeXor (now (s .entry)) ⌝ }
+{
+    nibe::Xor::of(s)
+}
+
+#[no_mangle]
+pub extern "C" fn probe_nibe_xor_after(v: u8, s: &[u8]) -> u8
+    ensures { λ r. ⌜ r ≡ feed nibeXor v (now (s .entry)) ⌝ }
+{
+    nibe::Xor { value: v }.bytes(s).value
+}
+
+// The check value of s, and the state after s where it was v before.
+#[no_mangle]
+pub extern "C" fn probe_homiq_crc(s: &[u8]) -> u8
+    ensures { λ r. ⌜ r ≡ check homiqCrc (now (s .entry)) ⌝ }
+{
+    homiq::Crc::of(s)
+}
+
+#[no_mangle]
+pub extern "C" fn probe_homiq_crc_after(v: u8, s: &[u8]) -> u8
+    ensures { λ r. ⌜ r ≡ feed homiqCrc v (now (s .entry)) ⌝ }
+{
+    homiq::Crc { value: v }.bytes(s).value
+}
