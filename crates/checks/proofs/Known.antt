@@ -3,6 +3,7 @@
 use mathlib.Core.Path.{_≡_, refl}
 use mathlib.Core.List.{List, [], _∷_}
 use Prim.Native.Nat.{ℕ}
+use Rattle.digits.specs.Paper.Ascii.{ascii}
 use Rattle.checks.specs.Paper.Bits.{lows, bits, ofLows, number, bitsOfBytes}
 use Rattle.checks.specs.Paper.Check.{polyBits, feed, check}
 use Rattle.checks.specs.Paper.Buses.{nikobusCrc16, nikobusCrc8, nestCrc, nibeXor, homiqCrc}
@@ -11,89 +12,75 @@ use Rattle.checks.specs.Paper.Buses.{nikobusCrc16, nikobusCrc8, nestCrc,
 
 -- 01: "001 calls the check of `82 00 02 00 00 00` 0x08B2. The rule gives 0xB208"
 pub nest-six : check nestCrc (0x82 ∷ 0x00 ∷ 0x02 ∷ 0x00 ∷ 0x00 ∷ 0x00 ∷ []) ≡ 0xB208
-unfolding check feed polyBits bits lows number ofLows bitsOfBytes
+unfolding feed polyBits bits lows number ofLows bitsOfBytes
 nest-six = refl
 
 -- 01, known point (c), the reset frame: `D5 AA 96 FF 00 00 00 A3 4B`, low byte first
 pub nest-reset : check nestCrc (0xFF ∷ 0x00 ∷ 0x00 ∷ 0x00 ∷ []) ≡ 0x4BA3
-unfolding check feed polyBits bits lows number ofLows bitsOfBytes
+unfolding feed polyBits bits lows number ofLows bitsOfBytes
 nest-reset = refl
 
 -- 01, known point (a): `$10110000B8CF9D` CR is link; the payload's bytes
 pub nikobus-payload : check nikobusCrc16 (0x11 ∷ 0x00 ∷ 0x00 ∷ []) ≡ 0xB8CF
-unfolding check feed polyBits bits lows number ofLows bitsOfBytes
+unfolding feed polyBits bits lows number ofLows bitsOfBytes
 nikobus-payload = refl
 
--- the same, the characters `$10110000B8CF`
-pub nikobus-characters : check nikobusCrc8 (36 ∷ 49 ∷ 48 ∷ 49 ∷ 49 ∷ 48 ∷ 48 ∷ 48 ∷ 48 ∷ 66 ∷ 56 ∷ 67 ∷ 70 ∷ []) ≡ 0x9D
-unfolding check feed polyBits bits lows number ofLows bitsOfBytes
+-- the same: the characters from `$` to the end of the CRC16
+pub nikobus-characters : check nikobusCrc8 (ascii "$10110000B8CF") ≡ 0x9D
+unfolding feed polyBits bits lows number ofLows bitsOfBytes
 nikobus-characters = refl
 
--- 01, known point (g): `<;I.3;1;0H;0;42;s;134;>` passes; the characters `I.310H042s`
-pub homiq-six : check homiqCrc (73 ∷ 46 ∷ 51 ∷ 49 ∷ 48 ∷ 72 ∷ 48 ∷ 52 ∷ 50 ∷ 115 ∷ []) ≡ 134
-unfolding check feed polyBits bits lows number ofLows bitsOfBytes
+-- 01, known point (g): `<;I.3;1;0H;0;42;s;134;>` passes; its six fields joined
+pub homiq-six : check homiqCrc (ascii "I.310H042s") ≡ 134
+unfolding feed polyBits bits lows number ofLows bitsOfBytes
 homiq-six = refl
 
--- 01, known point (h): "its acknowledgement has 64"; the characters `I.3100H42a`
-pub homiq-acknowledged : check homiqCrc (73 ∷ 46 ∷ 51 ∷ 49 ∷ 48 ∷ 48 ∷ 72 ∷ 52 ∷ 50 ∷ 97 ∷ []) ≡ 64
-unfolding check feed polyBits bits lows number ofLows bitsOfBytes
+-- 01, known point (h): "its acknowledgement has 64"; its six fields joined
+pub homiq-acknowledged : check homiqCrc (ascii "I.3100H42a") ≡ 64
+unfolding feed polyBits bits lows number ofLows bitsOfBytes
 homiq-acknowledged = refl
 
 -- 01, on 002: "only `C0 69 02 64 00 66` has a right check byte": over the length and the data
 pub nibe-ask : check nibeXor (0x02 ∷ 0x64 ∷ 0x00 ∷ []) ≡ 0x66
-unfolding check feed polyBits bits lows number ofLows bitsOfBytes
+unfolding feed polyBits bits lows number ofLows bitsOfBytes
 nibe-ask = refl
 
 -- 01: "Errors to guard against: .. checking Nibe from C0", which would give CF
 pub nibe-from-start : check nibeXor (0xC0 ∷ 0x69 ∷ 0x02 ∷ 0x64 ∷ 0x00 ∷ []) ≡ 0xCF
-unfolding check feed polyBits bits lows number ofLows bitsOfBytes
+unfolding feed polyBits bits lows number ofLows bitsOfBytes
 nibe-from-start = refl
 
 -- 01, Nibe: "the command is not covered": with it the check would be 0F
 pub nibe-from-command : check nibeXor (0x69 ∷ 0x02 ∷ 0x64 ∷ 0x00 ∷ []) ≡ 0x0F
-unfolding check feed polyBits bits lows number ofLows bitsOfBytes
+unfolding feed polyBits bits lows number ofLows bitsOfBytes
 nibe-from-command = refl
 
 -- ---- the check value of the characters `123456789`, which catalogues of checks give
 
 abbrev digits : List ℕ
-digits = 49 ∷ 50 ∷ 51 ∷ 52 ∷ 53 ∷ 54 ∷ 55 ∷ 56 ∷ 57 ∷ []
+digits = ascii "123456789"
 
 -- CRC-16/IBM-3740
 pub nikobus16-catalogue : check nikobusCrc16 digits ≡ 0x29B1
-unfolding check feed polyBits bits lows number ofLows bitsOfBytes
+unfolding feed polyBits bits lows number ofLows bitsOfBytes
 nikobus16-catalogue = refl
 
 -- no catalogue has this one: x^8 + x^7 + x^4 + x^3 + 1, high bit first, from 0
 pub nikobus8-catalogue : check nikobusCrc8 digits ≡ 0x95
-unfolding check feed polyBits bits lows number ofLows bitsOfBytes
+unfolding feed polyBits bits lows number ofLows bitsOfBytes
 nikobus8-catalogue = refl
 
 -- CRC-16/XMODEM
 pub nest-catalogue : check nestCrc digits ≡ 0x31C3
-unfolding check feed polyBits bits lows number ofLows bitsOfBytes
+unfolding feed polyBits bits lows number ofLows bitsOfBytes
 nest-catalogue = refl
 
 -- the exclusive or
 pub nibe-catalogue : check nibeXor digits ≡ 0x31
-unfolding check feed polyBits bits lows number ofLows bitsOfBytes
+unfolding feed polyBits bits lows number ofLows bitsOfBytes
 nibe-catalogue = refl
 
 -- CRC-8/MAXIM-DOW
 pub homiq-catalogue : check homiqCrc digits ≡ 0xA1
-unfolding check feed polyBits bits lows number ofLows bitsOfBytes
+unfolding feed polyBits bits lows number ofLows bitsOfBytes
 homiq-catalogue = refl
-
--- ---- one place more than the burst theorem allows
-
--- A STRETCH OF 17 CAN GO UNSEEN by a check of 16 bits: these differ by the polynomial with its highest term, from the 8th bit to
--- the 24th.
-pub sharp : check nestCrc (0x00 ∷ 0x00 ∷ 0x00 ∷ []) ≡ check nestCrc (0x01 ∷ 0x10 ∷ 0x21 ∷ [])
-unfolding check feed polyBits bits lows number ofLows bitsOfBytes
-sharp = refl
-
--- 01, known point (l): "Nest payloads `00 00 00` and `01 10 21`, same id, have one CRC"; the id 0x0082
-pub nest-sharp : check nestCrc (0x82 ∷ 0x00 ∷ 0x03 ∷ 0x00 ∷ 0x00 ∷ 0x00 ∷ 0x00 ∷ [])
-    ≡ check nestCrc (0x82 ∷ 0x00 ∷ 0x03 ∷ 0x00 ∷ 0x01 ∷ 0x10 ∷ 0x21 ∷ [])
-unfolding check feed polyBits bits lows number ofLows bitsOfBytes
-nest-sharp = refl

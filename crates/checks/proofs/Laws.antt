@@ -3,3 +3,4 @@ pub mod Numbers
 pub mod Feed
 pub mod Burst
 pub mod Rotate
+pub mod Unseen

@@ -139,5 +139,4 @@ checks-last-set = refl
 -- another check value.
 pub found : (c : Check) → List·Memᴰ c checks → (a b : List ℕ) → Bytes a → Bytes b → length a ≡ length b
     → Burst c a b → check c a ≡ check c b → a ≡ b
-unfolding check
 found c m a b ha hb l w e = burst-bytes c (last-set-of c checks m checks-last-set) (c .start) a b ha hb l w e

@@ -34,7 +34,6 @@ unfolding feed
 feed-lt c v s = number-lt (c .order) (c .width) _ (length-held c v (bitsOfBytes (c .order) s))
 
 pub check-lt : (c : Check) (s : List ℕ) → check c s < 2 ^ c .width
-unfolding check
 check-lt c s = feed-lt c (c .start) s
 
 -- FEEDING IN PIECES IS FEEDING THE WHOLE.

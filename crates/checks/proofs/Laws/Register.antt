@@ -6,7 +6,7 @@ use mathlib.Core.Path.{_≡_, refl, sym, ap, _∙_}
 use Prim.Native.Nat.{ℕ, zero, suc, _≤_}
 use native.Mathlib.Omega.{arith}
 use native.Mathlib.Numerals.{add-one}
-use lib.ListN.{length, length-append}
+use lib.ListN.{length, length-append, replicate}
 use Rattle.checks.specs.Paper.Check.{xor, mix, shift, run}
 
 -- ---- xor
@@ -35,6 +35,12 @@ xor-cancel-right false true false e = e
 xor-cancel-right false true true e = sym e
 xor-cancel-right true false false e = e
 xor-cancel-right true false true e = sym e
+
+xor-twice : (a b : Bool) → xor (xor a b) b ≡ a
+xor-twice false false = refl
+xor-twice false true = refl
+xor-twice true false = refl
+xor-twice true true = refl
 
 -- ---- mix
 
@@ -68,6 +74,19 @@ mix-zero (false ∷ a) [] = refl
 mix-zero (true ∷ a) [] = refl
 mix-zero [] (y ∷ b) = refl
 mix-zero (x ∷ a) (y ∷ b) = cc (mix-zero a b)
+
+-- nor do zeros
+pub mix-zeros : (t : List Bool) (n : ℕ) → mix t (replicate n false) ≡ t
+mix-zeros t zero = refl
+mix-zeros [] (suc n) = refl
+mix-zeros (false ∷ t) (suc n) = cc (mix-zeros t n)
+mix-zeros (true ∷ t) (suc n) = cc (mix-zeros t n)
+
+-- added twice, bits are as before
+pub mix-twice : (a b : List Bool) → mix (mix a b) b ≡ a
+mix-twice a [] = refl
+mix-twice [] (y ∷ b) = refl
+mix-twice (x ∷ a) (y ∷ b) = cc (xor-twice x y, mix-twice a b)
 
 mix-cancel : (a b c : List Bool) → length b ≡ length c → length b ≤ length a → mix a b ≡ mix a c → b ≡ c
 mix-cancel a [] [] l h e = refl

@@ -4,7 +4,7 @@
 use mathlib.Core.Bool.{Bool, true, false}
 use mathlib.Core.List.{List, [], _∷_, _++_, append-nil, append-assoc}
 use mathlib.Core.Path.{_≡_, refl, sym, ap, _∙_}
-use Prim.Native.Nat.{ℕ, zero, suc, _+_, _<_}
+use Prim.Native.Nat.{ℕ, suc, _+_, _<_}
 use native.Mathlib.Omega.{arith}
 use lib.Bits.{bitXor, xor-lt}
 use lib.ListN.{length, length-append, replicate, length-replicate}
@@ -13,19 +13,13 @@ use Rattle.checks.specs.Paper.Bits.{highFirst, bits, lows}
 use Rattle.checks.specs.Paper.Check.{mix, shift, polyBits, feed, check}
 use Rattle.checks.specs.Paper.Buses.{nibeXor}
 use Rattle.checks.specs.Paper.Xor.{xorFrom, xorOf}
-use Rattle.checks.proofs.Laws.Register.{mix-append, length-mix, shifts}
+use Rattle.checks.proofs.Laws.Register.{length-mix, mix-append, mix-zeros, shifts}
 use Rattle.checks.proofs.Laws.Numbers.{length-bits, bits-xor}
 use Rattle.checks.proofs.Laws.Feed.{feed-append, feed-byte, feed-nil}
 
 -- x^(n+1) + 1, less its highest term
 abbrev round : ℕ → List Bool
 round n = replicate n false ++ (true ∷ [])
-
-mix-zeros : (t : List Bool) (n : ℕ) → mix t (replicate n false) ≡ t
-mix-zeros t zero = refl
-mix-zeros [] (suc n) = refl
-mix-zeros (false ∷ t) (suc n) = cc (mix-zeros t n)
-mix-zeros (true ∷ t) (suc n) = cc (mix-zeros t n)
 
 shift-round : (n : ℕ) (k : Bool) (t : List Bool) → length t ≡ n → shift (round n) (k ∷ t) ≡ t ++ (k ∷ [])
 shift-round n false t h = refl
@@ -67,5 +61,4 @@ feed-xors v (b ∷ s) hv hs =
 
 -- NIBE'S CHECK IS THE XOR OF THE BYTES.
 pub xor-law : (s : List ℕ) → Bytes s → check nibeXor s ≡ xorOf s
-unfolding check
 xor-law s h = feed-xors 0 s (omega arith) h

@@ -47,5 +47,5 @@ unfoldable pub feed : Check → ℕ → List ℕ → ℕ
 feed c v s = number (c .order) (run (polyBits c) (held c v) (bitsOfBytes (c .order) s))
 
 -- the check value of the bytes
-unfoldable pub check : Check → List ℕ → ℕ
+abbrev pub check : Check → List ℕ → ℕ
 check c s = feed c (c .start) s

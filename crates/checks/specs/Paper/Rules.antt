@@ -1,6 +1,5 @@
 -- What the code's description of a check says, in the paper's words.
 -- Assumes nothing.
-use Prim.Native.Nat.{ℕ}
 use Rattle.checks.specs.Paper.Bits as paper
 use Rattle.checks.specs.Paper.Check.{Check}
 use Rattle.checks.specs.declared.rule.Order.{Order}

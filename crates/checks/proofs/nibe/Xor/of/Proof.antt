@@ -1,7 +1,6 @@
 -- `checks::nibe::Xor::of` meets its contract: the bytes are fed from the start.
 -- Assumes nothing.
 use borrow.Author.Needs.{needs}
-use Rattle.checks.specs.Paper.Check.{check}
 use Rattle.checks.proofs.nibe.Xor.of.Statement.{statement}
 use Rattle.checks.proofs.nibe.Xor.of.Tie as tie
 
@@ -12,7 +11,6 @@ bytes-requires : tie.Need-bytes-requires
 bytes-requires c κs = search needs
 
 returns : tie.Need-returns
-unfolding check
 returns c = cc
 
 pub of-spec : {M : Type 1} → statement M
