@@ -1,7 +1,7 @@
 /* The proved checks against a second implementation that shares nothing with them: the remainder of a division of polynomials,
    on an array of bits, as the textbooks define a check value. (The engines go by a shifting register.)
 
-   checks SEED: prints the seed, each difference, and `N passed, M failed`. */
+   checks SEED: prints the seed, each difference, and `N passed, M failed`: a test is a check and a property, over all inputs. */
 #include "probe.h"
 
 enum { MOST = 1100 };
@@ -32,15 +32,18 @@ static const struct check checks[] = {
     {"homiq crc", 8, 0x31, 0, 1, homiq, homiq_after},
 };
 
-static unsigned passed, failed;
+enum property { WHOLE, PIECES, BURST, UNSEEN, PROPERTIES };
 
-static void expect(const char *what, const struct check *c, usize n, u32 got, u32 wanted) {
-    if (got == wanted) {
-        passed++;
+static const char *const names[PROPERTIES] = {"the whole", "three pieces", "a burst is seen", "17 bits go unseen"};
+
+static unsigned tried[sizeof checks / sizeof *checks][PROPERTIES], wrong[sizeof checks / sizeof *checks][PROPERTIES];
+
+static void expect(enum property p, const struct check *c, usize n, u32 got, u32 wanted) {
+    tried[c - checks][p]++;
+    if (got == wanted)
         return;
-    }
-    failed++;
-    printf("%s: %s of %lu bytes: %X, and it should be %X\n", c->name, what, (unsigned long)n, got, wanted);
+    if (!wrong[c - checks][p]++)
+        printf("%s: %s, of %lu bytes: %X, and it should be %X\n", c->name, names[p], (unsigned long)n, got, wanted);
 }
 
 /* The remainder of the message times x^width by the polynomial, with the start added to its first bits. */
@@ -86,12 +89,12 @@ static void fill(u8 *s, usize n) {
 /* The whole; the same in three pieces; and a difference within a stretch as long as the check is wide is seen. */
 static void trial(const struct check *c, u8 *s, usize n) {
     u32 wanted = remainder_of(c, s, n);
-    expect("the whole", c, n, c->whole(s, n), wanted);
+    expect(WHOLE, c, n, c->whole(s, n), wanted);
     usize a = any() % (n + 1), b = a + any() % (n - a + 1);
     u16 v = c->after((u16)c->start, s, a);
     v = c->after(v, s + a, b - a);
     v = c->after(v, s + b, n - b);
-    expect("three pieces", c, n, v, wanted);
+    expect(PIECES, c, n, v, wanted);
     if (!n)
         return;
     usize first = any() % (8 * n);
@@ -102,7 +105,7 @@ static void trial(const struct check *c, u8 *s, usize n) {
         s[i / 8] ^= (u8)(1u << (c->low_first ? i % 8 : 7 - i % 8));
         flipped++;
     }
-    expect("a burst is seen", c, n, flipped && c->whole(s, n) != wanted, 1);
+    expect(BURST, c, n, flipped && c->whole(s, n) != wanted, 1);
 }
 
 int main(int count, char **words) {
@@ -126,7 +129,16 @@ int main(int count, char **words) {
     }
     /* 01, known point (l): 17 bits can go unseen */
     u8 zeros[3] = {0, 0, 0}, poly[3] = {0x01, 0x10, 0x21};
-    expect("17 bits go unseen", checks + 2, 3, probe_nest_crc(zeros, 3), probe_nest_crc(poly, 3));
-    printf("%u passed, %u failed\n", passed, failed);
+    expect(UNSEEN, checks + 2, 3, probe_nest_crc(zeros, 3), probe_nest_crc(poly, 3));
+
+    unsigned passed = 0, failed = 0, comparisons = 0;
+    for (usize k = 0; k < sizeof checks / sizeof *checks; k++) {
+        for (int p = 0; p < PROPERTIES; p++) {
+            comparisons += tried[k][p];
+            passed += tried[k][p] && !wrong[k][p];
+            failed += wrong[k][p] != 0;
+        }
+    }
+    printf("%u comparisons\n%u passed, %u failed\n", comparisons, passed, failed);
     return failed != 0;
 }

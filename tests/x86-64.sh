@@ -8,7 +8,7 @@ lib=$kit/toolchain/lib
 
 # build OUT SOURCE ARCHIVE
 build() {
-    "$tools/clang" --target=x86_64-linux-gnu -std=c11 -O2 -fPIE -fno-builtin -Wall -Wextra -Werror -c "$2" -o "$1.o" &&
+    "$tools/clang" --target=x86_64-linux-gnu -std=c11 -O3 -fPIE -fno-builtin -Wall -Wextra -Werror -c "$2" -o "$1.o" &&
         "$tools/ld.lld" -pie -dynamic-linker "$lib/ld-linux-x86-64.so.2" -rpath "$lib" -o "$1" \
             "$lib/Scrt1.o" "$lib/crti.o" "$lib/crtbeginS.o" "$1.o" "$3" \
             "$lib/libc.so.6" "$lib/libc_nonshared.a" "$lib/ld-linux-x86-64.so.2" "$lib/libgcc.a" "$lib/crtendS.o" "$lib/crtn.o"

@@ -22,15 +22,13 @@ pub(crate) fn bytes(v: u16, poly: u16, s: &[u8]) -> u16
 pub(crate) fn byte(v: u16, poly: u16, b: u8) -> u16
     ensures { λ r. ⌜ r ≡ feed (high16 poly) v (b ∷ []) ⌝ }
 {
-    let v0 = v ^ ((b as u16) * 256);
-    let v1 = shifted(v0, poly);
-    let v2 = shifted(v1, poly);
-    let v3 = shifted(v2, poly);
-    let v4 = shifted(v3, poly);
-    let v5 = shifted(v4, poly);
-    let v6 = shifted(v5, poly);
-    let v7 = shifted(v6, poly);
-    shifted(v7, poly)
+    let mut r = v ^ ((b as u16) * 256);
+    let mut k = 0u8;
+    while k < 8 {
+        r = shifted(r, poly);
+        k += 1;
+    }
+    r
 }
 
 // The register one place on.

@@ -22,15 +22,13 @@ pub(crate) fn bytes(v: u8, poly: u8, s: &[u8]) -> u8
 pub(crate) fn byte(v: u8, poly: u8, b: u8) -> u8
     ensures { λ r. ⌜ r ≡ feed (high8 poly) v (b ∷ []) ⌝ }
 {
-    let v0 = v ^ b;
-    let v1 = shifted(v0, poly);
-    let v2 = shifted(v1, poly);
-    let v3 = shifted(v2, poly);
-    let v4 = shifted(v3, poly);
-    let v5 = shifted(v4, poly);
-    let v6 = shifted(v5, poly);
-    let v7 = shifted(v6, poly);
-    shifted(v7, poly)
+    let mut r = v ^ b;
+    let mut k = 0u8;
+    while k < 8 {
+        r = shifted(r, poly);
+        k += 1;
+    }
+    r
 }
 
 // The register one place on.

@@ -3,13 +3,13 @@
 use mathlib.Core.Bool.{Bool}
 use mathlib.Core.List.{List, [], _∷_, _++_, append-nil, append-assoc}
 use mathlib.Core.Path.{_≡_, refl, sym, ap, _∙_}
-use Prim.Native.Nat.{ℕ, suc, _+_, _^_, _≤_, _<_}
+use Prim.Native.Nat.{ℕ, suc, _+_, _-_, _^_, _≤_, _<_}
 use native.Mathlib.Numerals.{add-one}
 use native.Mathlib.Omega.{arith}
 use lib.ListN.{length, getD, drop, drop-of-length-le}
 use lib.Seq.{drop-cons}
 use Rattle.checks.specs.Paper.Bits.{Order, bits, number, bitsOfBytes}
-use Rattle.checks.specs.Paper.Check.{Check, mix, run, held, polyBits, feed, check}
+use Rattle.checks.specs.Paper.Check.{Check, mix, shift, run, held, polyBits, feed, check}
 use Rattle.checks.proofs.Laws.Register.{shifts, length-run, run-append, run-shifts}
 use Rattle.checks.proofs.Laws.Numbers.{length-bits, number-bits, bits-number, number-lt}
 
@@ -62,6 +62,31 @@ feed-byte c v b r hw hr e =
     (e ∙ ap (λ (k : ℕ). shifts (polyBits c) k (mix (held c v) (bits o 8 b))) (sym n)
     ∙ sym (run-shifts (polyBits c) (held c v) (bits o 8 b) (omega (arith, length-bits o (c .width) v)))
     ∙ ap (run (polyBits c) (held c v)) (sym (append-nil (bits o 8 b))))
+
+-- a loop over the places: what is left of the eight leads from the register of r to where all eight lead from the byte's
+pub record Shifting (c : Check) (v b r k : ℕ) : Type 0 where
+  pub steps : k ≤ 8
+  pub fits : r < 2 ^ c .width
+  pub same : shifts (polyBits c) (8 - k) (held c r) ≡ shifts (polyBits c) 8 (mix (held c v) (bits (c .order) 8 b))
+
+pub shifting-start : {c : Check} {v b r : ℕ} → r < 2 ^ c .width → held c r ≡ mix (held c v) (bits (c .order) 8 b) → Shifting c v b r 0
+shifting-start {c} h e = record { steps = omega arith; fits = h; same = ap (shifts (polyBits c) 8) e }
+
+pub shifting-next : {c : Check} {v b r k : ℕ} (n : ℕ) → Shifting c v b r k → k < 8 → n < 2 ^ c .width
+    → held c n ≡ shift (polyBits c) (held c r) → Shifting c v b n (k + 1)
+shifting-next {c} {v} {b} {r} {k} n l h f e =
+    let m : 8 - k ≡ suc (8 - (k + 1)) = omega arith in
+    record {
+      steps = omega arith;
+      fits = f;
+      same =
+          ap (shifts (polyBits c) (8 - (k + 1))) e ∙ sym (ap (λ (j : ℕ). shifts (polyBits c) j (held c r)) m) ∙ l .same;
+    }
+
+pub shifting-end : {c : Check} {v b r k : ℕ} → Shifting c v b r k → 8 ≤ k → 8 ≤ c .width → r ≡ feed c v (b ∷ [])
+shifting-end {c} {v} {b} {r} {k} l h w =
+    let m : 8 - k ≡ 0 = omega arith in
+    feed-byte c v b r w (l .fits) (sym (ap (λ (j : ℕ). shifts (polyBits c) j (held c r)) m) ∙ l .same)
 
 -- ---- a loop over the bytes of s, from the state v: at i, what is left leads from the state r to where the whole leads
 

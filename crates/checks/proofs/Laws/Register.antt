@@ -150,12 +150,6 @@ abbrev pub shifts : List Bool → ℕ → List Bool → List Bool
 shifts p zero s = s
 shifts p (suc n) s = shifts p n (shift p s)
 
--- eight registers, each the one before it one place on
-pub shifts-8 : (p : List Bool) {r r₀ r₁ r₂ r₃ r₄ r₅ r₆ r₇ r₈ : List Bool} → r₀ ≡ r
-    → r₁ ≡ shift p r₀ → r₂ ≡ shift p r₁ → r₃ ≡ shift p r₂ → r₄ ≡ shift p r₃
-    → r₅ ≡ shift p r₄ → r₆ ≡ shift p r₅ → r₇ ≡ shift p r₆ → r₈ ≡ shift p r₇ → r₈ ≡ shifts p 8 r
-shifts-8 p e₀ e₁ e₂ e₃ e₄ e₅ e₆ e₇ e₈ = cc
-
 shifts-inj : (q : List Bool) (n : ℕ) (s t : List Bool) → length s ≡ suc (length q) → length t ≡ suc (length q)
     → shifts (q ++ (true ∷ [])) n s ≡ shifts (q ++ (true ∷ [])) n t → s ≡ t
 shifts-inj q zero s t hs ht e = e

@@ -1,43 +1,47 @@
 -- `checks::high16::byte` meets its contract: the byte is laid at the register's head, and eight shifts follow.
 -- Assumes nothing.
-use borrow.Author.Needs.{needs}
+use Prim.Native.Nat.{_-_, _*_}
 use native.Mathlib.Omega.{arith}
-use Rattle.checks.specs.Paper.Bits.{highFirst, bits}
+use lib.Bits.{xor-lt}
+use borrow.Author.Needs.{needs}
+use Rattle.checks.specs.Paper.Bits.{highFirst}
 use Rattle.checks.specs.Paper.Check.{polyBits}
 use Rattle.checks.specs.Work.Engines.{high16}
-use Rattle.checks.proofs.Laws.Register.{shifts-8}
+use Rattle.checks.proofs.Laws.Feed.{Shifting, shifting-start, shifting-next, shifting-end}
 use Rattle.checks.proofs.Laws.Numbers.{bits-laid}
-use Rattle.checks.proofs.Laws.Feed.{feed-byte}
 use Rattle.checks.proofs.high16.byte.Statement.{statement}
 use Rattle.checks.proofs.high16.byte.Tie as tie
 
-returns : tie.Need-returns
+abbrev Inv-loop : tie.InvT-loop
+Inv-loop v poly b r₀ k₀ r k = Shifting (high16 poly) v b r k
+
+abbrev μ-loop : tie.MeasureT-loop
+μ-loop v poly b r₀ k₀ r k = 8 - k
+
+mul-r : tie.Need-mul-r Inv-loop μ-loop
+mul-r c = omega arith
+
+loop-holds : tie.Need-loop-holds Inv-loop μ-loop
+loop-holds c =
+    shifting-start (xor-lt 16 (c .args .v) (c .args .b * 256) (omega arith) (omega arith)) (bits-laid highFirst 8 8 (c .args .v) (c .args .b) (omega arith))
+
+shifted-requires : tie.Need-shifted-requires Inv-loop μ-loop
+shifted-requires c κs = search needs
+
+add-k : tie.Need-add-k Inv-loop μ-loop
+add-k c = omega arith
+
+loop-less : tie.Need-loop-less Inv-loop μ-loop
+loop-less c = omega arith
+
+loop-again : tie.Need-loop-again Inv-loop μ-loop
 unfolding polyBits
-returns c =
-    let c7 = c .before in
-    let c6 = c7 .before in
-    let c5 = c6 .before in
-    let c4 = c5 .before in
-    let c3 = c4 .before in
-    let c2 = c3 .before in
-    let c1 = c2 .before in
-    let a = c1 .before .args in
-    feed-byte (high16 (a .poly)) (a .v) (a .b) (c .shifted8 .result) (omega arith) (omega arith)
-    (shifts-8 (bits highFirst 16 (a .poly)) (bits-laid highFirst 8 8 (a .v) (a .b) (omega arith))
-    (c1 .shifted .ensures) (c2 .shifted2 .ensures) (c3 .shifted3 .ensures) (c4 .shifted4 .ensures)
-    (c5 .shifted5 .ensures) (c6 .shifted6 .ensures) (c7 .shifted7 .ensures) (c .shifted8 .ensures))
+loop-again c = shifting-next (c .shifted .result) (c .before .before .loop .inv) (omega arith) (omega arith) (c .shifted .ensures)
+
+returns : tie.Need-returns Inv-loop μ-loop
+returns c = shifting-end (c .before .loop .inv) (omega arith) (omega arith)
 
 pub byte-spec : {M : Type 1} → statement M
 byte-spec =
     tie.close
-    (tie.spec
-    (λ c. search needs)
-    (λ c κs. search needs)
-    (λ c κs. search needs)
-    (λ c κs. search needs)
-    (λ c κs. search needs)
-    (λ c κs. search needs)
-    (λ c κs. search needs)
-    (λ c κs. search needs)
-    (λ c κs. search needs)
-    returns)
+    (tie.spec Inv-loop μ-loop mul-r loop-holds shifted-requires add-k loop-less loop-again returns)
