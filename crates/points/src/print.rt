@@ -1,0 +1,34 @@
+// What the cases are written with.
+use libc::STDOUT_FILENO;
+
+// Some bytes as they are.
+pub fn bytes(s: &[u8]) {
+    io::write_all(STDOUT_FILENO, s);
+}
+
+// A number in decimal digits.
+pub fn number(n: u64) {
+    let d = digits::decimal::digits(n);
+    let chars = d.chars;
+    let from = d.from;
+    bytes(&chars[from..]);
+}
+
+// Bytes in hex.
+pub fn hex(s: &[u8]) {
+    let mut i = 0;
+    while i < s.len() {
+        bytes(&digits::hex::two_digits(s[i]));
+        i += 1;
+    }
+}
+
+// A refusal.
+pub fn refused(n: u64) {
+    bytes(b"refused ");
+    number(n);
+}
+
+pub fn end() {
+    bytes(b"\n");
+}
