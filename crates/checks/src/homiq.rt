@@ -1,5 +1,5 @@
 // The check of a Homiq frame.
-use super::low8;
+use super::bitwise::low8;
 use super::rule::Order;
 use super::rule::Rule;
 ghost use mathlib.Core.Path.{_≡_};
@@ -8,7 +8,7 @@ ghost use Rattle.checks.specs.Paper.Check.{feed, check};
 ghost use Rattle.checks.specs.Paper.Buses.{homiqCrc};
 ghost use Rattle.checks.specs.Paper.Rules.{checkOf};
 
-// Over the six fields joined without separators.
+// The state of the CRC, over the six fields joined without separators.
 pub struct Crc {
     pub value: u8,
 }

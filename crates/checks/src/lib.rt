@@ -1,8 +1,6 @@
-// Check values of the four buses, bit by bit. Each check has a state type of its own.
-mod high16;
-mod high8;
+// Check values of the four buses. Each check has a state type of its own, in its bus's module.
+mod bitwise;
 pub mod homiq;
-mod low8;
 pub mod nest;
 pub mod nibe;
 pub mod nikobus;

@@ -1,5 +1,5 @@
 // The check of a Nest frame.
-use super::high16;
+use super::bitwise::high16;
 use super::rule::Order;
 use super::rule::Rule;
 ghost use mathlib.Core.Path.{_≡_};
@@ -8,7 +8,7 @@ ghost use Rattle.checks.specs.Paper.Check.{feed, check};
 ghost use Rattle.checks.specs.Paper.Buses.{nestCrc};
 ghost use Rattle.checks.specs.Paper.Rules.{checkOf};
 
-// Over id, length and payload.
+// The state of the CRC, over id, length and payload.
 pub struct Crc {
     pub value: u16,
 }

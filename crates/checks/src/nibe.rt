@@ -7,7 +7,7 @@ ghost use Rattle.checks.specs.Paper.Check.{feed, check};
 ghost use Rattle.checks.specs.Paper.Buses.{nibeXor};
 ghost use Rattle.checks.specs.Paper.Rules.{checkOf};
 
-// Over the length and the data; the start mark and the command are not covered.
+// The state of the XOR, over the length and the data; the start mark and the command are not covered.
 pub struct Xor {
     pub value: u8,
 }

@@ -1,6 +1,6 @@
 // The two checks of a Nikobus link.
-use super::high8;
-use super::high16;
+use super::bitwise::high8;
+use super::bitwise::high16;
 use super::rule::Order;
 use super::rule::Rule;
 ghost use mathlib.Core.Path.{_≡_};
@@ -9,7 +9,7 @@ ghost use Rattle.checks.specs.Paper.Check.{feed, check};
 ghost use Rattle.checks.specs.Paper.Buses.{nikobusCrc16, nikobusCrc8};
 ghost use Rattle.checks.specs.Paper.Rules.{checkOf};
 
-// Over the payload's bytes.
+// The state of CRC16, over the payload's bytes.
 pub struct Crc16 {
     pub value: u16,
 }
@@ -68,7 +68,7 @@ impl Crc16 {
     }
 }
 
-// Over the characters from `$` to the end of the CRC16.
+// The state of CRC8, over the characters from `$` to the end of the CRC16.
 pub struct Crc8 {
     pub value: u8,
 }

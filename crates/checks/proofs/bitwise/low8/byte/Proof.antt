@@ -1,0 +1,44 @@
+-- `checks::bitwise::low8::byte` meets its contract: the byte is laid at the register's head, and eight shifts follow.
+-- Assumes nothing.
+use Prim.Native.Nat.{_-_}
+use native.Mathlib.Omega.{arith}
+use lib.Bits.{xor-lt}
+use borrow.Author.Needs.{needs}
+use Rattle.checks.specs.Paper.Bits.{lowFirst}
+use Rattle.checks.specs.Paper.Check.{polyBits}
+use Rattle.checks.specs.Work.Engines.{low8}
+use Rattle.checks.proofs.Laws.Feed.{Shifting, shifting-start, shifting-next, shifting-end}
+use Rattle.checks.proofs.Laws.Numbers.{bits-xor}
+use Rattle.checks.proofs.bitwise.low8.byte.Statement.{statement}
+use Rattle.checks.proofs.bitwise.low8.byte.Tie as tie
+
+abbrev Inv-loop : tie.InvT-loop
+Inv-loop v poly b r₀ k₀ r k = Shifting (low8 poly) v b r k
+
+abbrev μ-loop : tie.MeasureT-loop
+μ-loop v poly b r₀ k₀ r k = 8 - k
+
+loop-holds : tie.Need-loop-holds Inv-loop μ-loop
+loop-holds c =
+    shifting-start (xor-lt 8 (c .args .v) (c .args .b) (omega arith) (omega arith)) (bits-xor lowFirst 8 (c .args .v) (c .args .b))
+
+shifted-requires : tie.Need-shifted-requires Inv-loop μ-loop
+shifted-requires c κs = search needs
+
+add-k : tie.Need-add-k Inv-loop μ-loop
+add-k c = omega arith
+
+loop-less : tie.Need-loop-less Inv-loop μ-loop
+loop-less c = omega arith
+
+loop-again : tie.Need-loop-again Inv-loop μ-loop
+unfolding polyBits
+loop-again c = shifting-next (c .shifted .result) (c .before .before .loop .inv) (omega arith) (omega arith) (c .shifted .ensures)
+
+returns : tie.Need-returns Inv-loop μ-loop
+returns c = shifting-end (c .before .loop .inv) (omega arith) (omega arith)
+
+pub byte-spec : {M : Type 1} → statement M
+byte-spec =
+    tie.close
+    (tie.spec Inv-loop μ-loop loop-holds shifted-requires add-k loop-less loop-again returns)
