@@ -27,11 +27,11 @@ pub fn digits(n: u64) -> Decimal
     let mut from: usize = 19;
     let mut rest = n;
     while 9 < rest {
-        chars[from] = 48 + (rest % 10) as u8;
+        chars[from] = b'0' + (rest % 10) as u8;
         rest = rest / 10;
         from -= 1;
     }
-    chars[from] = 48 + rest as u8;
+    chars[from] = b'0' + rest as u8;
     Decimal { chars, from }
 }
 
@@ -55,7 +55,8 @@ pub fn number_of(s: &[u8]) -> Whole
     Whole::NoNumber
 }
 
-// The number that the characters of s make, each taken for a digit: what it is if s is a number's.
+// The number that the characters of s make, each taken for a digit: what it is if s is a number's. (`0` is 48, so 2 more makes a
+// digit's character end in its value.)
 fn guessed(s: &[u8]) -> u64
     requires { ⌜ length (now s) ≤ 10 ⌝ }
     ensures { λ r. ⌜ r ≡ guess 0 (now (s .entry)) ⌝ }

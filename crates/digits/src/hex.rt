@@ -17,6 +17,7 @@ pub enum Word {
     NoDigit,
 }
 
+// The digit table: `digit` and `value` go by it, and nothing else does.
 const DIGITS: [u8; 16] = *b"0123456789ABCDEF";
 
 // The digit of the low four bits of v.
@@ -41,7 +42,7 @@ pub fn value(c: u8) -> Byte
 fn place(c: u8) -> u8
     ensures { λ r. ⌜ r ≡ placeOf c ⌝ }
 {
-    if c < 65 {
+    if c < b'A' {
         return c % 16;
     }
     (c % 16 + 9) % 16

@@ -6,7 +6,7 @@ use checks::nibe;
 use checks::nikobus;
 
 // The paper's examples.
-pub fn papers() {
+pub(crate) fn papers() {
     nest_crc(b"\x82\x00\x02\x00\x00\x00");
     nest_crc(b"\xff\x00\x00\x00");
     nest_crc(b"\x82\x00\x03\x00\x00\x00\x00");
@@ -23,7 +23,7 @@ pub fn papers() {
 }
 
 // The string whose check values catalogues give, nothing, and one byte.
-pub fn catalogue() {
+pub(crate) fn catalogue() {
     all(b"123456789");
     all(b"");
     all(b"\x00");

@@ -6,7 +6,7 @@ use digits::hex::Word;
 use digits::low_first::Number;
 
 // Each character as a digit, each byte as two, and a number of 16 bits in 257 as four, and back.
-pub fn hex() {
+pub(crate) fn hex() {
     let mut n: u16 = 0;
     while n < 256 {
         value(n as u8);
@@ -59,7 +59,7 @@ fn four_digits(n: u16) {
 }
 
 // The numbers at each power of ten and of two, and texts that are no number's.
-pub fn decimal() {
+pub(crate) fn decimal() {
     powers_of_ten();
     powers_of_two();
     text(b"");
@@ -119,7 +119,7 @@ fn text(s: &[u8]) {
 }
 
 // The numbers at the ends of each width, and byte strings of every length up to five.
-pub fn low_first() {
+pub(crate) fn low_first() {
     one(0);
     one(255);
     two(0);

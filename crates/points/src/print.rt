@@ -2,12 +2,12 @@
 use libc::STDOUT_FILENO;
 
 // Some bytes as they are.
-pub fn bytes(s: &[u8]) {
+pub(crate) fn bytes(s: &[u8]) {
     io::write_all(STDOUT_FILENO, s);
 }
 
 // A number in decimal digits.
-pub fn number(n: u64) {
+pub(crate) fn number(n: u64) {
     let d = digits::decimal::digits(n);
     let chars = d.chars;
     let from = d.from;
@@ -15,7 +15,7 @@ pub fn number(n: u64) {
 }
 
 // Bytes in hex.
-pub fn hex(s: &[u8]) {
+pub(crate) fn hex(s: &[u8]) {
     let mut i = 0;
     while i < s.len() {
         bytes(&digits::hex::two_digits(s[i]));
@@ -24,11 +24,11 @@ pub fn hex(s: &[u8]) {
 }
 
 // A refusal.
-pub fn refused(n: u64) {
+pub(crate) fn refused(n: u64) {
     bytes(b"refused ");
     number(n);
 }
 
-pub fn end() {
+pub(crate) fn end() {
     bytes(b"\n");
 }

@@ -12,7 +12,6 @@ use Rattle.digits.specs.Paper.Bytes.{Bytes}
 use Rattle.digits.specs.Paper.Hex.{hexDigit, hexByte, hexWord, hexBytes}
 use Rattle.digits.specs.Paper.Read.{Reads, is, none}
 use Rattle.digits.specs.Work.Hex.{placeOf}
-use Rattle.digits.proofs.Laws.Tests.{zero≢suc, suc≢zero}
 use Rattle.digits.proofs.Laws.Table.{at}
 use Rattle.digits.proofs.Laws.Bytes.{bytes-head, bytes-tail}
 
@@ -130,8 +129,8 @@ length-hex (b ∷ s) = let h : length (hexBytes s) ≡ length s * 2 = length-hex
 pub hex-inj : (s t : List ℕ) → Bytes s → Bytes t → hexBytes s ≡ hexBytes t → s ≡ t
 unfolding hexBytes hexByte
 hex-inj [] [] h k e = refl
-hex-inj [] (c ∷ t) h k e = absurd (zero≢suc (ap length e))
-hex-inj (b ∷ s) [] h k e = absurd (suc≢zero (ap length e))
+hex-inj [] (c ∷ t) h k e = absurd (omega (arith, ap length e))
+hex-inj (b ∷ s) [] h k e = absurd (omega (arith, ap length e))
 hex-inj (b ∷ s) (c ∷ t) h k e =
     let x : hexDigit (b / 16) ≡ hexDigit (c / 16) = cc in
     let y : hexDigit (b % 16) ≡ hexDigit (c % 16) = cc in

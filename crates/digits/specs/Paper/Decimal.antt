@@ -5,7 +5,7 @@ use mathlib.Core.Bool.{cond}
 use mathlib.Core.List.{List, [], _∷_, _++_}
 use lib.Dec.{ltb}
 
--- the digit of a value below 10
+-- the digit of a value below 10: `0` is 48
 abbrev pub decimalDigit : ℕ → ℕ
 decimalDigit v = 48 + v
 
