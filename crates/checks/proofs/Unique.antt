@@ -1,7 +1,8 @@
 -- Two answers that keep a function's promise are equal. Every promise is an equation of one of three forms.
 -- Assumes nothing.
-use mathlib.Core.Path.{_≡_, refl, sym, _∙_}
+use mathlib.Core.Path.{_≡_, refl, ap}
 use Prim.Native.Nat.{ℕ}
+use Rattle.digits.proofs.Unique.{equation}
 use Rattle.checks.specs.Paper.Check.{Check}
 use Rattle.checks.specs.Paper.Rules.{orderOf, checkOf}
 use Rattle.checks.specs.declared.homiq.Crc as homiq
@@ -13,27 +14,24 @@ use Rattle.checks.specs.declared.rule.Order.{Order}
 use Rattle.checks.specs.declared.rule.Order.the-variants.{HighFirst, LowFirst}
 use Rattle.checks.specs.declared.rule.Rule.{Rule}
 
--- ---- a number, `r ≡ x`
-
-pub number-unique : (x r q : ℕ) → r ≡ x → q ≡ x → r ≡ q
-number-unique x r q e f = e ∙ sym f
+-- ---- a number, `r ≡ x`: `equation` of the crate digits
 
 -- ---- a state, `r .value ≡ x`
 
 pub homiq-unique : (x : ℕ) (r q : homiq.Crc) → r .value ≡ x → q .value ≡ x → r ≡ q
-homiq-unique x r q e f = λ i. record { value = number-unique x (r .value) (q .value) e f i }
+homiq-unique x r q e f = ap (λ (n : ℕ). record { value = n }) (equation e f)
 
 pub nest-unique : (x : ℕ) (r q : nest.Crc) → r .value ≡ x → q .value ≡ x → r ≡ q
-nest-unique x r q e f = λ i. record { value = number-unique x (r .value) (q .value) e f i }
+nest-unique x r q e f = ap (λ (n : ℕ). record { value = n }) (equation e f)
 
 pub nibe-unique : (x : ℕ) (r q : nibe.Xor) → r .value ≡ x → q .value ≡ x → r ≡ q
-nibe-unique x r q e f = λ i. record { value = number-unique x (r .value) (q .value) e f i }
+nibe-unique x r q e f = ap (λ (n : ℕ). record { value = n }) (equation e f)
 
 pub nikobus16-unique : (x : ℕ) (r q : nikobus16.Crc16) → r .value ≡ x → q .value ≡ x → r ≡ q
-nikobus16-unique x r q e f = λ i. record { value = number-unique x (r .value) (q .value) e f i }
+nikobus16-unique x r q e f = ap (λ (n : ℕ). record { value = n }) (equation e f)
 
 pub nikobus8-unique : (x : ℕ) (r q : nikobus8.Crc8) → r .value ≡ x → q .value ≡ x → r ≡ q
-nikobus8-unique x r q e f = λ i. record { value = number-unique x (r .value) (q .value) e f i }
+nikobus8-unique x r q e f = ap (λ (n : ℕ). record { value = n }) (equation e f)
 
 -- ---- a check's constants, `checkOf r ≡ c`
 
@@ -45,6 +43,6 @@ order-inj LowFirst LowFirst e = refl
 
 pub rule-unique : (c : Check) (r q : Rule) → checkOf r ≡ c → checkOf q ≡ c → r ≡ q
 rule-unique c r q e f =
-    let same : checkOf r ≡ checkOf q = e ∙ sym f in
+    let same : checkOf r ≡ checkOf q = equation e f in
     let o : r .order ≡ q .order = order-inj (r .order) (q .order) (λ i. same i .order) in
     λ i. record { width = same i .width; poly = same i .poly; start = same i .start; order = o i }

@@ -23,7 +23,7 @@ pub(crate) fn hex(s: &[u8]) {
     }
 }
 
-// A refusal.
+// A refusal, by the paper's number. (Which number a case has is the definitions' to say, and the caller's here.)
 pub(crate) fn refused(n: u64) {
     bytes(b"refused ");
     number(n);

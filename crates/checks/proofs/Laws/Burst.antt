@@ -9,6 +9,7 @@ use native.Mathlib.Omega.{arith}
 use lib.ListN.{length, getD, take, drop, length-append, length-take, length-drop, take-append-drop}
 use lib.Seq.{ext-getD, getD-drop, take-at, drop-at}
 use Rattle.digits.specs.Paper.Bytes.{Bytes}
+use Rattle.digits.proofs.Laws.Bytes.{bytes-head, bytes-tail}
 use Rattle.checks.specs.Paper.Bits.{Order, bits, lows, bitsOfBytes}
 use Rattle.checks.specs.Paper.Check.{Check, run, held, polyBits, feed, check}
 use Rattle.checks.specs.Paper.Buses.{checks}
@@ -101,10 +102,10 @@ bytes-eq o (x ∷ a) (y ∷ b) l ha hb e =
     sym (drop-at (bits o 8 x) (bitsOfBytes o a) 8 (length-bits o 8 x)) ∙ ap (drop 8) e
     ∙ drop-at (bits o 8 y) (bitsOfBytes o b) 8 (length-bits o 8 y) in
     cc (
-      number-bits o 8 x (ha .each 0),
+      number-bits o 8 x (bytes-head ha),
       first,
-      number-bits o 8 y (hb .each 0),
-      bytes-eq o a b (omega arith) (record { each = λ i. ha .each (suc i) }) (record { each = λ i. hb .each (suc i) }) rest,
+      number-bits o 8 y (bytes-head hb),
+      bytes-eq o a b (omega arith) (bytes-tail ha) (bytes-tail hb) rest,
     )
 
 -- A BURST IN BYTES IS FOUND. Of a check whose polynomial has the constant term 1, from any state: as many bytes, whose bits in the

@@ -9,6 +9,7 @@ use native.Mathlib.Omega.{arith}
 use lib.Bits.{bitXor, xor-lt}
 use lib.ListN.{length, length-append, replicate, length-replicate}
 use Rattle.digits.specs.Paper.Bytes.{Bytes}
+use Rattle.digits.proofs.Laws.Bytes.{bytes-head, bytes-tail}
 use Rattle.checks.specs.Paper.Bits.{highFirst, bits, lows}
 use Rattle.checks.specs.Paper.Check.{mix, shift, polyBits, feed, check}
 use Rattle.checks.specs.Paper.Buses.{nibeXor}
@@ -55,8 +56,8 @@ feed-xors v [] hv hs = feed-nil nibeXor v hv
 feed-xors v (b ∷ s) hv hs =
     cc (
       feed-append nibeXor v (b ∷ []) s,
-      feed-xor v b hv (hs .each 0),
-      feed-xors (bitXor v b) s (xor-lt 8 v b hv (hs .each 0)) (record { each = λ i. hs .each (suc i) }),
+      feed-xor v b hv (bytes-head hs),
+      feed-xors (bitXor v b) s (xor-lt 8 v b hv (bytes-head hs)) (bytes-tail hs),
     )
 
 -- NIBE'S CHECK IS THE XOR OF THE BYTES.
