@@ -4,7 +4,8 @@ use mathlib.Core.Path.{_≡_, refl}
 use mathlib.Core.List.{List, [], _∷_}
 use Prim.Native.Nat.{ℕ}
 use Rattle.digits.specs.Paper.Ascii.{ascii}
-use Rattle.checks.specs.Paper.Bits.{lows, bits, ofLows, number, bitsOfBytes}
+use Rattle.digits.specs.Paper.Bits.{lows}
+use Rattle.checks.specs.Paper.Bits.{bits, ofLows, number, bitsOfBytes}
 use Rattle.checks.specs.Paper.Check.{polyBits, feed, check}
 use Rattle.checks.specs.Paper.Buses.{nikobusCrc16, nikobusCrc8, nestCrc, nibeXor, homiqCrc}
 

@@ -4,6 +4,7 @@ pub mod Bytes
 pub mod Parts
 pub mod Stores
 pub mod Reads
+pub mod Refusals
 pub mod Hex
 pub mod HexReads
 pub mod Decimal

@@ -1,7 +1,9 @@
+pub mod Bits
 pub mod Bytes
 pub mod Ascii
 pub mod Hex
 pub mod Decimal
 pub mod LowFirst
 pub mod Read
+pub mod Refusals
 pub mod Answers

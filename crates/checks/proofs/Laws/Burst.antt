@@ -10,7 +10,8 @@ use lib.ListN.{length, getD, take, drop, length-append, length-take, length-drop
 use lib.Seq.{ext-getD, getD-drop, take-at, drop-at}
 use Rattle.digits.specs.Paper.Bytes.{Bytes}
 use Rattle.digits.proofs.Laws.Bytes.{bytes-head, bytes-tail}
-use Rattle.checks.specs.Paper.Bits.{Order, bits, lows, bitsOfBytes}
+use Rattle.digits.specs.Paper.Bits.{lows}
+use Rattle.checks.specs.Paper.Bits.{Order, bits, bitsOfBytes}
 use Rattle.checks.specs.Paper.Check.{Check, run, held, polyBits, feed, check}
 use Rattle.checks.specs.Paper.Buses.{checks}
 use Rattle.checks.specs.Paper.Stretch.{FitIn, Burst}

@@ -9,7 +9,8 @@ use native.Mathlib.Omega.{arith}
 use lib.Arith.{lt-one, digits-div, digits-mod}
 use lib.Bits.{bitXor, differ, xor-step}
 use lib.ListN.{length, length-reverse}
-use Rattle.checks.specs.Paper.Bits.{Order, highFirst, lowFirst, isSet, lows, bits, worth, ofLows, number}
+use Rattle.digits.specs.Paper.Bits.{isSet, lows}
+use Rattle.checks.specs.Paper.Bits.{Order, highFirst, lowFirst, bits, worth, ofLows, number}
 use Rattle.checks.specs.Paper.Check.{xor, mix, shift}
 use Rattle.checks.proofs.Laws.Register.{mix-append, mix-zero}
 

@@ -10,7 +10,8 @@ use lib.Bits.{bitXor, xor-lt}
 use lib.ListN.{length, length-append, replicate, length-replicate}
 use Rattle.digits.specs.Paper.Bytes.{Bytes}
 use Rattle.digits.proofs.Laws.Bytes.{bytes-head, bytes-tail}
-use Rattle.checks.specs.Paper.Bits.{highFirst, bits, lows}
+use Rattle.digits.specs.Paper.Bits.{lows}
+use Rattle.checks.specs.Paper.Bits.{highFirst, bits}
 use Rattle.checks.specs.Paper.Check.{mix, shift, polyBits, feed, check}
 use Rattle.checks.specs.Paper.Buses.{nibeXor}
 use Rattle.checks.specs.Paper.Xor.{xorFrom, xorOf}

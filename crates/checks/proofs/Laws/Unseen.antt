@@ -8,7 +8,8 @@ use native.Mathlib.Nat.{le-of-suc-le-suc, lt-of-not-le}
 use native.Mathlib.Omega.{arith}
 use lib.ListN.{length, getD, take, replicate, length-replicate, List·getD-eq-default}
 use lib.Seq.{getD-take}
-use Rattle.checks.specs.Paper.Bits.{highFirst, bits, lows, number, bitsOfBytes}
+use Rattle.digits.specs.Paper.Bits.{lows}
+use Rattle.checks.specs.Paper.Bits.{highFirst, bits, number, bitsOfBytes}
 use Rattle.checks.specs.Paper.Check.{mix, shift, run, held, polyBits, feed, check}
 use Rattle.checks.specs.Paper.Buses.{nestCrc}
 use Rattle.checks.specs.Paper.Stretch.{FitIn}

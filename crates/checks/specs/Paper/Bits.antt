@@ -1,21 +1,13 @@
 -- Numbers and bytes as bits, in either order.
 -- Assumes nothing.
-use Prim.Native.Nat.{ℕ, zero, suc, _+_, _*_, _/_, _%_}
+use Prim.Native.Nat.{ℕ, _+_, _*_}
 use mathlib.Core.Bool.{Bool, true, false}
 use mathlib.Core.List.{List, [], _∷_, _++_, reverse}
+use Rattle.digits.specs.Paper.Bits.{lows}
 
 -- 01: "high bit first", "low bit first"
 pub data Order : Type 0 where
   highFirst lowFirst : Order
-
-abbrev pub isSet : ℕ → Bool
-isSet zero = false
-isSet (suc n) = true
-
--- the w low bits of a number, the lowest first
-unfoldable pub lows : ℕ → ℕ → List Bool
-lows zero n = []
-lows (suc w) n = isSet (n % 2) ∷ lows w (n / 2)
 
 -- the w low bits of a number, in an order
 unfoldable pub bits : Order → ℕ → ℕ → List Bool

@@ -215,13 +215,13 @@ guessing-lt {s} {n} {i} g h =
 -- ---- what reading answers
 
 module _ (s : List ℕ) where
-  pub none-long : 10 < length s → Reads (λ n. n < 2 ^ 32) decimal 7 s 7 0
+  pub none-long : 10 < length s → Reads 0 (λ n. n < 2 ^ 32) decimal 7 s 7 0
   none-long h = none (λ n l e. let k : length (decimal n) ≤ 10 = length-decimal 9 n (omega arith) in omega (arith, ap length e))
 
-  pub none-large : (m : ℕ) → m ≡ guess 0 s → 4294967295 < m → Reads (λ n. n < 2 ^ 32) decimal 7 s 7 0
+  pub none-large : (m : ℕ) → m ≡ guess 0 s → 4294967295 < m → Reads 0 (λ n. n < 2 ^ 32) decimal 7 s 7 0
   none-large m g h = none (λ n l e. let k : m ≡ n = g ∙ ap (guess 0) (sym e) ∙ guess-decimal n in omega arith)
 
-  pub none-other : (m : ℕ) → m ≡ guess 0 s → (decimal m ≡ s → ⊥) → Reads (λ n. n < 2 ^ 32) decimal 7 s 7 0
+  pub none-other : (m : ℕ) → m ≡ guess 0 s → (decimal m ≡ s → ⊥) → Reads 0 (λ n. n < 2 ^ 32) decimal 7 s 7 0
   none-other m g h = none (λ n l e. h (ap decimal (g ∙ ap (guess 0) (sym e) ∙ guess-decimal n) ∙ e))
 
 -- the characters of a text at the end of its room
@@ -239,10 +239,10 @@ length-chars {room} {from} {text} {chars} a =
 -- the test of the characters against the digits of the guessed number m
 module _ (s : List ℕ) (m from : ℕ) (chars : List ℕ) (g : m ≡ guess 0 s) (d : AtEnd 20 (decimal m) chars from) where
   pub read-same : {b : Bool} → m ≤ 4294967295 → Tells (take (20 - from) (drop from chars) ≡ s) b → b ≡ true
-      → Reads (λ n. n < 2 ^ 32) decimal 7 s 0 m
+      → Reads 0 (λ n. n < 2 ^ 32) decimal 7 s 0 m
   read-same h t e = is {v = m} (omega arith) (sym (text-part d) ∙ told t e)
 
-  pub read-other : {b : Bool} → Tells (take (20 - from) (drop from chars) ≡ s) b → b ≡ false → Reads (λ n. n < 2 ^ 32) decimal 7 s 7 0
+  pub read-other : {b : Bool} → Tells (take (20 - from) (drop from chars) ≡ s) b → b ≡ false → Reads 0 (λ n. n < 2 ^ 32) decimal 7 s 7 0
   read-other t e = none-other s m g (λ f. untold t e (text-part d ∙ f))
 
 -- ---- what the characters are

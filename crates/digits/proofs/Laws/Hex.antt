@@ -49,13 +49,13 @@ pub no-digit : (c : ℕ) → (hexDigit (placeOf c) ≡ c → ⊥) → (v : ℕ) 
 no-digit c f v h e = f (ap hexDigit (ap placeOf (sym e) ∙ place-digit v h) ∙ e)
 
 -- what looking a digit up in the table answers: v is the place of c, d the digit there
-pub digit-read : (c v d : ℕ) → v ≡ placeOf c → d ≡ hexDigit (v % 16) → d ≡ c → Reads (λ v. v < 16) (λ v. hexDigit v ∷ []) 5 (c ∷ []) 0 v
+pub digit-read : (c v d : ℕ) → v ≡ placeOf c → d ≡ hexDigit (v % 16) → d ≡ c → Reads 0 (λ v. v < 16) (λ v. hexDigit v ∷ []) 5 (c ∷ []) 0 v
 digit-read c v d e f g =
     let h : v < 16 = subst (λ (x : ℕ). x < 16) (sym e) (place-lt c) in
     let m : v % 16 ≡ v = omega arith in
     is h (ap (λ (x : ℕ). x ∷ []) (ap hexDigit (sym m) ∙ sym f ∙ g))
 
-pub digit-unread : (c v d : ℕ) → v ≡ placeOf c → d ≡ hexDigit (v % 16) → (d ≡ c → ⊥) → Reads (λ v. v < 16) (λ v. hexDigit v ∷ []) 5 (c ∷ []) 5 0
+pub digit-unread : (c v d : ℕ) → v ≡ placeOf c → d ≡ hexDigit (v % 16) → (d ≡ c → ⊥) → Reads 0 (λ v. v < 16) (λ v. hexDigit v ∷ []) 5 (c ∷ []) 5 0
 digit-unread c v d e f g =
     let h : v < 16 = subst (λ (x : ℕ). x < 16) (sym e) (place-lt c) in
     let m : v % 16 ≡ v = omega arith in

@@ -82,7 +82,7 @@ value-part w s i b h = value-lt w (drop i s) (bytes-drop i s b) (omega (arith, l
 -- ---- what reading answers
 
 -- bytes of a width that there is are a number's, whose value is n
-pub number-is : (s : List ℕ) (k n : ℕ) → Bytes s → length s ≡ k → Width k → n ≡ lowValue s → Reads (Held (length s)) (lowFirst (length s)) 7 s 0 n
+pub number-is : (s : List ℕ) (k n : ℕ) → Bytes s → length s ≡ k → Width k → n ≡ lowValue s → Reads 0 (Held (length s)) (lowFirst (length s)) 7 s 0 n
 number-is s k n b e w v =
     is {v = n}
     (record {
@@ -92,7 +92,7 @@ number-is s k n b e w v =
     (ap (lowFirst (length s)) v ∙ low-value s b)
 
 pub number-none : (s : List ℕ) → (length s ≡ 1 → ⊥) → (length s ≡ 2 → ⊥) → (length s ≡ 4 → ⊥)
-    → Reads (Held (length s)) (lowFirst (length s)) 7 s 7 0
+    → Reads 0 (Held (length s)) (lowFirst (length s)) 7 s 7 0
 number-none s a b d = none (λ n h e. other (length s) (h .known) a b d)
   where
     other : (k : ℕ) → Width k → (k ≡ 1 → ⊥) → (k ≡ 2 → ⊥) → (k ≡ 4 → ⊥) → ⊥

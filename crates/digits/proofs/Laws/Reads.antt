@@ -6,20 +6,20 @@ use native.Mathlib.Omega.{arith}
 use mathlib.Core.List.{List}
 use Rattle.digits.specs.Paper.Read.{Reads, is, none}
 
-module _ {Limits : ℕ → Type 0} {write : ℕ → List ℕ} {no : ℕ} {s : List ℕ} (refuses : 0 < no) where
+module _ {A : Type 0} {zeros : A} {Limits : A → Type 0} {write : A → List ℕ} {no : ℕ} {s : List ℕ} (refuses : 0 < no) where
   -- an answer of number 0 is the value that is written so
-  pub answered : {k v : ℕ} → Reads Limits write no s k v → k ≡ 0 → Limits v × (write v ≡ s)
+  pub answered : {k : ℕ} {v : A} → Reads zeros Limits write no s k v → k ≡ 0 → Limits v × (write v ≡ s)
   answered (is l e) z = (l, e)
   answered (none f) z = absurd (omega arith)
 
   -- a refusal says that there is none
-  pub refused : {k v : ℕ} → Reads Limits write no s k v → k ≡ no → (u : ℕ) → Limits u → write u ≡ s → ⊥
+  pub refused : {k : ℕ} {v : A} → Reads zeros Limits write no s k v → k ≡ no → (u : A) → Limits u → write u ≡ s → ⊥
   refused (is l e) z = absurd (omega arith)
   refused (none f) z = f
 
   -- of a writer that writes no two values alike, two answers are the same
-  pub one-reading : ((u v : ℕ) → Limits u → Limits v → write u ≡ write v → u ≡ v)
-      → {k m u v : ℕ} → Reads Limits write no s k u → Reads Limits write no s m v → (k ≡ m) × (u ≡ v)
+  pub one-reading : ((u v : A) → Limits u → Limits v → write u ≡ write v → u ≡ v)
+      → {k m : ℕ} {u v : A} → Reads zeros Limits write no s k u → Reads zeros Limits write no s m v → (k ≡ m) × (u ≡ v)
   one-reading inj (is {v = u} l e) (is {v = v} j f) = (refl, inj u v l j (e ∙ sym f))
   one-reading inj (is {v = u} l e) (none f) = absurd (f u l e)
   one-reading inj (none f) (is {v = v} j e) = absurd (f v j e)

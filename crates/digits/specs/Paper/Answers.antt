@@ -54,21 +54,21 @@ wholeValue NoNumber = 0
 
 -- reading one hex digit, two, and four
 abbrev pub ReadsDigit : ℕ → Byte → Type 0
-ReadsDigit c r = Reads (λ v. v < 16) (λ v. hexDigit v ∷ []) 5 (c ∷ []) (byteRefusal r) (byteValue r)
+ReadsDigit c r = Reads 0 (λ v. v < 16) (λ v. hexDigit v ∷ []) 5 (c ∷ []) (byteRefusal r) (byteValue r)
 
 abbrev pub ReadsByte : ℕ → ℕ → Byte → Type 0
-ReadsByte high low r = Reads (λ v. v < 256) hexByte 5 (high ∷ low ∷ []) (byteRefusal r) (byteValue r)
+ReadsByte high low r = Reads 0 (λ v. v < 256) hexByte 5 (high ∷ low ∷ []) (byteRefusal r) (byteValue r)
 
 abbrev pub ReadsWord : List ℕ → Word → Type 0
-ReadsWord d r = Reads (λ v. v < 65536) hexWord 5 d (wordRefusal r) (wordValue r)
+ReadsWord d r = Reads 0 (λ v. v < 65536) hexWord 5 d (wordRefusal r) (wordValue r)
 
 -- reading a number of as many bytes as there are
 abbrev pub ReadsNumber : List ℕ → Number → Type 0
-ReadsNumber s r = Reads (Held (length s)) (lowFirst (length s)) 7 s (numberRefusal r) (numberValue r)
+ReadsNumber s r = Reads 0 (Held (length s)) (lowFirst (length s)) 7 s (numberRefusal r) (numberValue r)
 
 -- reading a number of 32 bits in decimal digits
 abbrev pub ReadsDecimal : List ℕ → Whole → Type 0
-ReadsDecimal s r = Reads (λ n. n < 2 ^ 32) decimal 7 s (wholeRefusal r) (wholeValue r)
+ReadsDecimal s r = Reads 0 (λ n. n < 2 ^ 32) decimal 7 s (wholeRefusal r) (wholeValue r)
 
 -- a text at the end of `room` characters, from the place `from` on, with zeros before it
 pub record AtEnd (room : ℕ) (text chars : List ℕ) (from : ℕ) : Type 0 where

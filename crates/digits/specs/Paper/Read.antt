@@ -6,10 +6,10 @@ use mathlib.Core.Bool.{Bool, true, false}
 use mathlib.Core.List.{List}
 
 -- The right answer to reading s, as a refusal number and a value: 0 and the value within the limits that is written s;
--- or the refusal `no` and 0, where no value within the limits is.
-pub data Reads (Limits : ℕ → Type 0) (write : ℕ → List ℕ) (no : ℕ) (s : List ℕ) : ℕ → ℕ → Type 0 where
-  is : {v : ℕ} → Limits v → write v ≡ s → Reads Limits write no s 0 v
-  none : ((v : ℕ) → Limits v → write v ≡ s → ⊥) → Reads Limits write no s no 0
+-- or the refusal `no` and zeros, where no value within the limits is.
+pub data Reads {A : Type 0} (zeros : A) (Limits : A → Type 0) (write : A → List ℕ) (no : ℕ) (s : List ℕ) : ℕ → A → Type 0 where
+  is : {v : A} → Limits v → write v ≡ s → Reads zeros Limits write no s 0 v
+  none : ((v : A) → Limits v → write v ≡ s → ⊥) → Reads zeros Limits write no s no zeros
 
 -- The right answer to a test: true where A holds, and false where it does not.
 pub data Tells (A : Type 0) : Bool → Type 0 where

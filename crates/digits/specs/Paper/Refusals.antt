@@ -1,0 +1,20 @@
+-- 01, "Refusal numbers": which cause of several refuses a call, and what a call then answers.
+-- Assumes nothing.
+use Prim.Native.Nat.{ℕ, _<_}
+use mathlib.Core.List.{List, [], _∷_}
+
+-- "Tested in the order 8, 2, 3, 7, 5, 6, 4, 1"
+abbrev pub order : List ℕ
+order = 8 ∷ 2 ∷ 3 ∷ 7 ∷ 5 ∷ 6 ∷ 4 ∷ 1 ∷ []
+
+-- the first number of the list whose cause applies; 0 where none does
+pub data First (Cause : ℕ → Type 0) : List ℕ → ℕ → Type 0 where
+  clear : First Cause [] 0
+  here : {no : ℕ} {later : List ℕ} → Cause no → First Cause (no ∷ later) no
+  after : {no first : ℕ} {later : List ℕ} → (Cause no → ⊥) → First Cause later first → First Cause (no ∷ later) first
+
+-- The right answer of a call, as a refusal number and a value: where no cause applies, 0 and the right value; else the number of
+-- the first cause that does, and zeros ("Refusals return zeros").
+pub data Answers {A : Type 0} (zeros : A) (Cause : ℕ → Type 0) (Right : A → Type 0) : ℕ → A → Type 0 where
+  answers : {v : A} → First Cause order 0 → Right v → Answers zeros Cause Right 0 v
+  refuses : {no : ℕ} → 0 < no → First Cause order no → Answers zeros Cause Right no zeros
