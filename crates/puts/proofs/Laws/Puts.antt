@@ -1,0 +1,80 @@
+-- Writers one after the other.
+-- Assumes nothing.
+use mathlib.Core.Path.{_≡_, refl, sym, ap, _∙_, subst}
+use mathlib.Core.Bool.{Bool, true, false}
+use mathlib.Core.List.{List, [], _∷_, _++_}
+use Prim.Native.Nat.{ℕ, suc, _+_, min, _≤_, _<_}
+use native.Mathlib.Numerals.{add-one}
+use native.Mathlib.Omega.{arith}
+use lib.Dec.{leb}
+use lib.ListN.{length, take, drop, getD, set, length-set, length-append}
+use lib.Seq.{sets, take-at, take-suc, set-out, length-sets}
+use borrow.Author.Tests.{leb-true, leb-false}
+use Rattle.digits.proofs.Laws.Stores.{sets-append, sets-front}
+use Rattle.puts.specs.Paper.Put.{Put, last}
+
+-- no bytes
+pub none : (r : List ℕ) (a : ℕ) → Put r r a a []
+none r a = record { same = refl; puts = λ h k. (refl, omega arith) }
+
+-- stores behind the end do nothing
+sets-out : (vs l : List ℕ) (i : ℕ) → length l ≤ i → sets l i vs ≡ l
+sets-out [] l i h = refl
+sets-out (v ∷ vs) l i h = ap (λ (x : List ℕ). sets x (suc i) vs) (set-out l i v h) ∙ sets-out vs l (suc i) (omega arith)
+
+-- a second run where the first ends, or at the largest place where that is behind it
+joined : (us vs l : List ℕ) (a b : ℕ) → length l ≤ last → b ≡ min (a + length us) last → sets (sets l a us) b vs ≡ sets l a (us ++ vs)
+joined us vs l a b h e = go (leb (a + length us) last) refl
+  where
+    go : (t : Bool) → leb (a + length us) last ≡ t → sets (sets l a us) b vs ≡ sets l a (us ++ vs)
+    go true c =
+        let q : a + length us ≤ last = leb-true (a + length us) last c in
+        let f : b ≡ a + length us = omega arith in
+        ap (λ (x : ℕ). sets (sets l a us) x vs) f ∙ sets-append us vs l a
+    go false c =
+        let q : last < a + length us = leb-false (a + length us) last c in
+        let g : length (sets l a us) ≤ b = omega (arith, length-sets l a us) in
+        let k : length (sets l a us) ≤ a + length us = omega (arith, length-sets l a us) in
+        sets-out vs (sets l a us) b g ∙ sym (sets-out vs (sets l a us) (a + length us) k) ∙ sets-append us vs l a
+
+-- one writer, and then another from where it ended
+infixr 20 _then_
+pub _then_ : {r s t : List ℕ} {a b c : ℕ} {us vs : List ℕ} → Put r s a b us → Put s t b c vs → Put r t a c (us ++ vs)
+_then_ {r} {s} {t} {a} {b} {c} {us} {vs} p q =
+    record {
+      same = q .same ∙ p .same;
+      puts = λ h k.
+          let n = length-append us vs in
+          let e = p .puts h k in
+          let f : b ≡ min (a + length us) last = e .1 in
+          let l : length s ≡ length r = p .same in
+          let g = q .puts (omega arith) (omega arith) in
+          let m : c ≡ min (b + length vs) last = g .1 in
+          (g .0 ∙ ap (λ (x : List ℕ). sets x b vs) (e .0) ∙ joined us vs r a b h f, omega arith);
+    }
+
+pub puts-as : {r s : List ℕ} {a b : ℕ} {us vs : List ℕ} → us ≡ vs → Put r s a b us → Put r s a b vs
+puts-as {r} {s} {a} {b} e p = subst (λ (x : List ℕ). Put r s a b x) e p
+
+-- a byte that the room has a place for, and one that it has none for
+pub within : (r : List ℕ) (a b : ℕ) → a < length r → Put r (set r a b) a (a + 1) (b ∷ [])
+within r a b h = record { same = length-set r a b; puts = λ k j. (refl, omega arith) }
+
+pub beyond : (r : List ℕ) (a b n : ℕ) → length r ≤ a → n ≡ min (a + 1) last → Put r r a n (b ∷ [])
+beyond r a b n h e = record { same = refl; puts = λ k j. (sym (set-out r a b h), omega arith) }
+
+-- a loop's turn over the bytes of s
+pub step : {r t u : List ℕ} {a b c : ℕ} (s : List ℕ) (i : ℕ) → i < length s
+    → Put r t a b (take i s) → Put t u b c (getD s i 0 ∷ []) → Put r u a c (take (i + 1) s)
+step s i h p q = puts-as (sym (ap (λ (j : ℕ). take j s) (add-one i) ∙ take-suc s i 0 h)) (p then q)
+
+-- bytes at the front of a room that has room for them: how many, the room, and its front
+module _ {r s bs : List ℕ} {n : ℕ} (p : Put r s 0 n bs) (h : length r ≤ last) (l : length bs ≤ length r) where
+  pub front-count : n ≡ length bs
+  front-count = omega (arith, p .puts h (omega arith) .1)
+
+  pub front-room : s ≡ bs ++ drop (length bs) r
+  front-room = p .puts h (omega arith) .0 ∙ sets-front bs r l
+
+  pub front-bytes : take n s ≡ bs
+  front-bytes = ap (take n) front-room ∙ take-at bs (drop (length bs) r) n (sym front-count)

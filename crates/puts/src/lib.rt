@@ -1,0 +1,43 @@
+// Writers into a lent room: each puts its bytes at a place of the room, as far as the room goes, and answers the place behind them.
+// So no writer asks anything of the room, and the same writer measures, in a room too short, and writes.
+use digits::decimal;
+ghost use mathlib.Core.List.{[], _∷_};
+ghost use Rattle.digits.specs.Paper.Decimal.{decimal};
+ghost use Rattle.puts.specs.Paper.Put.{Put};
+
+// Puts one byte.
+pub fn byte(b: u8, room: &mut [u8], at: usize) -> usize
+    ensures { λ r. ⌜ Put (now (room .entry)) (now (room .exit)) at r (b ∷ []) ⌝ }
+{
+    if at < room.len() {
+        room[at] = b;
+        return at + 1;
+    }
+    if at < usize::MAX {
+        return at + 1;
+    }
+    at
+}
+
+// Puts the bytes of s.
+pub fn bytes(s: &[u8], room: &mut [u8], at: usize) -> usize
+    ensures { λ r. ⌜ Put (now (room .entry)) (now (room .exit)) at r (now (s .entry)) ⌝ }
+{
+    let mut next = at;
+    let mut i = 0;
+    while i < s.len() {
+        next = byte(s[i], room, next);
+        i += 1;
+    }
+    next
+}
+
+// Puts the decimal digits of n.
+pub fn whole(n: u64, room: &mut [u8], at: usize) -> usize
+    ensures { λ r. ⌜ Put (now (room .entry)) (now (room .exit)) at r (decimal n) ⌝ }
+{
+    let d = decimal::digits(n);
+    let chars = d.chars;
+    let from = d.from;
+    bytes(&chars[from..20], room, at)
+}
