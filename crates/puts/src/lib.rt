@@ -1,9 +1,16 @@
 // Writers into a lent room: each puts its bytes at a place of the room, as far as the room goes, and answers the place behind them.
 // So no writer asks anything of the room, and the same writer measures, in a room too short, and writes.
 use digits::decimal;
+use digits::refusal::Refusal;
 ghost use mathlib.Core.List.{[], _∷_};
 ghost use Rattle.digits.specs.Paper.Decimal.{decimal};
 ghost use Rattle.puts.specs.Paper.Put.{Put};
+
+// What a call answers that writes into a lent room: how many bytes it wrote, or why it wrote none.
+pub enum Written {
+    Bytes(usize),
+    Refused(Refusal),
+}
 
 // Puts one byte.
 pub fn byte(b: u8, room: &mut [u8], at: usize) -> usize

@@ -1,7 +1,23 @@
--- 01, "Refusal numbers": which cause of several refuses a call, and what a call then answers.
+-- 01, "Refusal numbers": the table, which cause of several refuses a call, and what a call then answers.
 -- Assumes nothing.
 use Prim.Native.Nat.{ℕ, _<_}
 use mathlib.Core.List.{List, [], _∷_}
+use Rattle.digits.specs.declared.refusal.Refusal.{Refusal}
+use Rattle.digits.specs.declared.refusal.Refusal.the-variants.{NoFrame, Kind, Place, Room, Limits, Above, Form, Book}
+
+-- "no frame from that place on"; "kind not 1 to 5"; "place beyond the buffer's length; entry number not below the count"; "lent
+-- room too short for the answer"; "a field, frame or book outside its limits; a raw number out of range, or not held by its width
+-- and sign"; "a message with the content of one above it in the table"; "width, decimals or number text not as above, or a text
+-- whose number is out of range"; "not a valid book"
+abbrev pub refusalNumber : Refusal → ℕ
+refusalNumber NoFrame = 1
+refusalNumber Kind = 2
+refusalNumber Place = 3
+refusalNumber Room = 4
+refusalNumber Limits = 5
+refusalNumber Above = 6
+refusalNumber Form = 7
+refusalNumber Book = 8
 
 -- "Tested in the order 8, 2, 3, 7, 5, 6, 4, 1"
 abbrev pub order : List ℕ

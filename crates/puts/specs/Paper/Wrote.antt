@@ -4,7 +4,9 @@
 use Prim.Native.Nat.{ℕ, _<_}
 use mathlib.Core.List.{List, _++_}
 use lib.ListN.{length, drop}
-use Rattle.digits.specs.Paper.Refusals.{order, First}
+use Rattle.digits.specs.Paper.Refusals.{refusalNumber, order, First}
+use Rattle.puts.specs.declared.Written.{Written}
+use Rattle.puts.specs.declared.Written.the-variants.{Bytes, Refused}
 
 -- The right outcome of a call that writes bs from the front of a lent room, as a refusal number, a count of bytes and the room
 -- afterwards: where no cause applies, 0, the bytes' count, and the bytes with the rest of the room behind them; else the number
@@ -12,3 +14,16 @@ use Rattle.digits.specs.Paper.Refusals.{order, First}
 pub data Wrote (Cause : ℕ → Type 0) (bs room : List ℕ) : ℕ → ℕ → List ℕ → Type 0 where
   wrote : First Cause order 0 → Wrote Cause bs room 0 (length bs) (bs ++ drop (length bs) room)
   refused : {no : ℕ} → 0 < no → First Cause order no → Wrote Cause bs room no 0 room
+
+-- what a writer answers, as a refusal number and a count
+abbrev pub writtenRefusal : Written → ℕ
+writtenRefusal (Bytes n) = 0
+writtenRefusal (Refused why) = refusalNumber why
+
+abbrev pub writtenCount : Written → ℕ
+writtenCount (Bytes n) = n
+writtenCount (Refused why) = 0
+
+-- r is the right answer, and `later` the right room afterwards, of a call that writes bs from the front of a lent room
+abbrev pub Writes : (ℕ → Type 0) → List ℕ → List ℕ → Written → List ℕ → Type 0
+Writes Cause bs room r later = Wrote Cause bs room (writtenRefusal r) (writtenCount r) later

@@ -1,0 +1,6 @@
+pub mod Raw
+pub mod Text
+pub mod ByteValues
+pub mod Single
+pub mod Panel
+pub mod Answers

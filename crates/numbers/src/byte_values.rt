@@ -1,0 +1,172 @@
+// Numbers as 1, 2 or 4 bytes, low byte first, signed (two's complement) or not, there and back.
+use super::raw;
+use digits::low_first;
+use digits::low_first::Number;
+use digits::refusal::Refusal;
+use puts::Written;
+ghost use mathlib.Core.Path.{_≡_};
+ghost use mathlib.Core.Bool.{true};
+ghost use Prim.Native.Nat.{_^_, _≤_, _<_};
+ghost use lib.IntN.{natAbs};
+ghost use lib.ListN.{length};
+ghost use Rattle.digits.specs.Paper.LowFirst.{Width};
+ghost use Rattle.digits.specs.Paper.Read.{Tells};
+ghost use Rattle.puts.specs.Paper.Wrote.{Writes};
+ghost use Rattle.numbers.specs.Paper.Raw.{Raw};
+ghost use Rattle.numbers.specs.Paper.ByteValues.{least, most, Holds, twos, valueBytes};
+ghost use Rattle.numbers.specs.Paper.Answers.{ValueCause, AnswersValue};
+ghost use Rattle.numbers.specs.Work.ByteValues.{standsBelow, ofTwos};
+
+// What bytes are read as.
+pub enum Value {
+    Is(i64),
+    Refused(Refusal),
+}
+
+// Writes a number as so many bytes from the front of the room.
+pub fn write(raw: i64, width: usize, signed: bool, room: &mut [u8]) -> Written
+    ensures { λ r. ⌜ Writes (ValueCause width signed raw (length (now (room .entry)))) (valueBytes width raw) (now (room .entry)) r (now (room .exit)) ⌝ }
+{
+    if !is_width(width) {
+        return Written::Refused(Refusal::Form);
+    }
+    if !holds(raw, width, signed) {
+        return Written::Refused(Refusal::Limits);
+    }
+    if room.len() < width {
+        return Written::Refused(Refusal::Room);
+    }
+    let four = low_first::four(in_twos(raw, width));
+    Written::Bytes(puts::bytes(&four[0..width], room, 0))
+}
+
+// The number that so many bytes are.
+pub fn read(s: &[u8], width: usize, signed: bool) -> Value
+    ensures { λ r. ⌜ AnswersValue width signed (now (s .entry)) r ⌝ }
+{
+    if !is_width(width) {
+        return Value::Refused(Refusal::Form);
+    }
+    if s.len() != width {
+        return Value::Refused(Refusal::Limits);
+    }
+    let Number::Is(n) = low_first::number_of(s) else {
+        return Value::Refused(Refusal::Limits);
+    };
+    Value::Is(of_twos(n, width, signed))
+}
+
+fn is_width(width: usize) -> bool
+    ensures { λ r. ⌜ Tells (Width width) r ⌝ }
+{
+    if width == 1 {
+        return true;
+    }
+    if width == 2 {
+        return true;
+    }
+    if width == 4 {
+        return true;
+    }
+    false
+}
+
+// Whether so many bytes hold a number.
+fn holds(raw: i64, width: usize, signed: bool) -> bool
+    requires { ⌜ Width width ⌝ }
+    ensures { λ r. ⌜ Tells (Holds width signed raw) r ⌝ }
+{
+    raw::between(smallest(width, signed), largest(width, signed), raw)
+}
+
+fn smallest(width: usize, signed: bool) -> i64
+    requires { ⌜ Width width ⌝ }
+    ensures { λ r. ⌜ r ≡ least width signed ⌝ }
+{
+    if !signed {
+        return 0;
+    }
+    if width == 1 {
+        return -128;
+    }
+    if width == 2 {
+        return -32_768;
+    }
+    -2_147_483_648
+}
+
+fn largest(width: usize, signed: bool) -> i64
+    requires { ⌜ Width width ⌝ }
+    ensures { λ r. ⌜ r ≡ most width signed ⌝ }
+{
+    if signed {
+        return signed_largest(width);
+    }
+    if width == 1 {
+        return 255;
+    }
+    if width == 2 {
+        return 65_535;
+    }
+    4_294_967_295
+}
+
+fn signed_largest(width: usize) -> i64
+    requires { ⌜ Width width ⌝ }
+    ensures { λ r. ⌜ r ≡ most width true ⌝ }
+{
+    if width == 1 {
+        return 127;
+    }
+    if width == 2 {
+        return 32_767;
+    }
+    2_147_483_647
+}
+
+// How many numbers so many bytes can be.
+fn all(width: usize) -> u64
+    requires { ⌜ Width width ⌝ }
+    ensures { λ r. ⌜ r ≡ 256 ^ width ⌝ }
+{
+    if width == 1 {
+        return 256;
+    }
+    if width == 2 {
+        return 65_536;
+    }
+    4_294_967_296
+}
+
+// The number of so many bytes that stands for a number which they hold.
+fn in_twos(raw: i64, width: usize) -> u32
+    requires { ⌜ Width width × Raw raw × (natAbs raw ≤ 256 ^ width) ⌝ }
+    ensures { λ r. ⌜ r ≡ twos width raw ⌝ }
+{
+    let n = raw::magnitude(raw);
+    if raw::below_zero(raw) {
+        return (all(width) - n as u64) as u32;
+    }
+    n
+}
+
+// The number that a number of so many bytes stands for.
+fn of_twos(n: u32, width: usize, signed: bool) -> i64
+    requires { ⌜ Width width × (n < 256 ^ width) ⌝ }
+    ensures { λ r. ⌜ r ≡ ofTwos width signed n ⌝ }
+{
+    if stands_below_zero(n, width, signed) {
+        return raw::with_sign(true, all(width) - n as u64);
+    }
+    raw::with_sign(false, n as u64)
+}
+
+fn stands_below_zero(n: u32, width: usize, signed: bool) -> bool
+    requires { ⌜ Width width ⌝ }
+    ensures { λ r. ⌜ r ≡ standsBelow width signed n ⌝ }
+{
+    if signed {
+        return all(width) <= 2 * n as u64;
+    }
+    false
+}
