@@ -1,2 +1,4 @@
 pub mod Signs
 pub mod Causes
+pub mod Text
+pub mod Reader

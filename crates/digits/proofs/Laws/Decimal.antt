@@ -157,12 +157,12 @@ module _ {room n from rest : ℕ} {chars : List ℕ} (l : Left room n chars from
 
 -- ---- and back
 
-guess-append : (s t : List ℕ) (n : ℕ) → guess n (s ++ t) ≡ guess (guess n s) t
+pub guess-append : (s t : List ℕ) (n : ℕ) → guess n (s ++ t) ≡ guess (guess n s) t
 unfolding guess
 guess-append [] t n = refl
 guess-append (c ∷ s) t n = guess-append s t (n * 10 + (c + 2) % 10)
 
-one-digit : (n v : ℕ) → v < 10 → guess n (decimalDigit v ∷ []) ≡ n * 10 + v
+pub one-digit : (n v : ℕ) → v < 10 → guess n (decimalDigit v ∷ []) ≡ n * 10 + v
 unfolding guess
 one-digit n v h = let e : (48 + v + 2) % 10 ≡ v = omega arith in rw e
 
