@@ -100,7 +100,13 @@ fn largest(width: usize, signed: bool) -> i64
     ensures { λ r. ⌜ r ≡ most width signed ⌝ }
 {
     if signed {
-        return signed_largest(width);
+        if width == 1 {
+            return 127;
+        }
+        if width == 2 {
+            return 32_767;
+        }
+        return 2_147_483_647;
     }
     if width == 1 {
         return 255;
@@ -109,19 +115,6 @@ fn largest(width: usize, signed: bool) -> i64
         return 65_535;
     }
     4_294_967_295
-}
-
-fn signed_largest(width: usize) -> i64
-    requires { ⌜ Width width ⌝ }
-    ensures { λ r. ⌜ r ≡ most width true ⌝ }
-{
-    if width == 1 {
-        return 127;
-    }
-    if width == 2 {
-        return 32_767;
-    }
-    2_147_483_647
 }
 
 // How many numbers so many bytes can be.

@@ -12,6 +12,7 @@ use Rattle.digits.specs.Paper.Bytes.{Bytes}
 use Rattle.digits.specs.Paper.LowFirst.{Width, one, two, four, Held, lowFirst}
 use Rattle.digits.specs.Paper.Read.{Reads, is, none}
 use Rattle.digits.specs.Work.LowFirst.{lowValue}
+use Rattle.digits.proofs.Laws.Reads.{refused}
 use Rattle.digits.proofs.Laws.Bytes.{bytes-nil, bytes-cons, bytes-head, bytes-tail, bytes-drop}
 
 pub length-low : (w n : ℕ) → length (lowFirst w n) ≡ w
@@ -91,11 +92,17 @@ number-is s k n b e w v =
     })
     (ap (lowFirst (length s)) v ∙ low-value s b)
 
+pub no-width : {k : ℕ} → (k ≡ 1 → ⊥) → (k ≡ 2 → ⊥) → (k ≡ 4 → ⊥) → Width k → ⊥
+no-width a b d one = a refl
+no-width a b d two = b refl
+no-width a b d four = d refl
+
 pub number-none : (s : List ℕ) → (length s ≡ 1 → ⊥) → (length s ≡ 2 → ⊥) → (length s ≡ 4 → ⊥)
     → Reads 0 (Held (length s)) (lowFirst (length s)) 7 s 7 0
-number-none s a b d = none (λ n h e. other (length s) (h .known) a b d)
-  where
-    other : (k : ℕ) → Width k → (k ≡ 1 → ⊥) → (k ≡ 2 → ⊥) → (k ≡ 4 → ⊥) → ⊥
-    other k one a b d = a refl
-    other k two a b d = b refl
-    other k four a b d = d refl
+number-none s a b d = none (λ n h e. no-width a b d (h .known))
+
+-- bytes of a width that there is are never refused
+pub never-refused : (s : List ℕ) → Bytes s → Width (length s) → {k m : ℕ} → Reads 0 (Held (length s)) (lowFirst (length s)) 7 s k m → k ≡ 7 → ⊥
+never-refused s b w r e =
+    let a = low-all s b in
+    refused (lit< tt) r e (a .0) (record { known = w; below = a .1 }) (a .2)

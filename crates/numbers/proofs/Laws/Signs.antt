@@ -16,12 +16,17 @@ use mir.ValLaws.{toZ-ofZ, toZ-pos}
 use Rattle.digits.specs.Paper.Read.{Tells, holds, fails}
 use Rattle.numbers.specs.Paper.Raw.{Between, Raw}
 use Rattle.numbers.specs.Paper.Text.{belowZero}
+use Rattle.numbers.specs.Work.Text.{signed}
 
 abbrev pub back : ℤ → ℤ
 back z = toZ w64 (ofZ w64 z)
 
 pub read-back : (z : ℤ) → SFits w64 z → back z ≡ z
 read-back z f = toZ-ofZ w64 z f
+
+-- what is said of the number read back is said of the number
+pub said : (P : ℤ → Type 0) (z : ℤ) → SFits w64 z → P (back z) → P z
+said P z f p = subst P (read-back z f) p
 
 -- ---- tests
 
@@ -87,6 +92,10 @@ plus n h = toZ-pos w64 n (lt-of-lt-of-le h (lit≤ tt))
 neg-fits : (n : ℕ) → n < 2 ^ 48 → SFits w64 (negℤ (pos n))
 neg-fits zero h = record { sfits = lit< tt }
 neg-fits (suc n) h = record { sfits = omega arith }
+
+pub signed-fits : (m : Bool) (n : ℕ) → n < 2 ^ 48 → SFits w64 (signed m n)
+signed-fits true n h = neg-fits n h
+signed-fits false n h = record { sfits = lt-of-lt-of-le h (lit≤ tt) }
 
 -- each step by which the machine negates n
 pub negated : (n : ℕ) → n < 2 ^ 48 → SFits w64 (pos 0 -ℤ toZ w64 n) × (back (pos 0 -ℤ toZ w64 n) ≡ negℤ (pos n))

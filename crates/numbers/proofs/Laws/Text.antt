@@ -4,7 +4,7 @@ use mathlib.Core.Path.{_≡_, refl, sym, ap, _∙_, subst}
 use mathlib.Core.Bool.{Bool, true, false}
 use mathlib.Core.List.{List, [], _∷_, _++_, append-assoc}
 use Prim.Native.Nat.{ℕ, zero, suc, _+_, _-_, _*_, _/_, _%_, _^_, _≤_, _<_}
-use native.Mathlib.Nat.{pow-suc, zero-lt-suc, one-le-pow, mod-lt}
+use native.Mathlib.Nat.{pow-suc, pow-le-pow-right, zero-lt-suc, one-le-pow, mod-lt, sub-zero}
 use native.Mathlib.Omega.{arith}
 use lib.Arith.{mod-mul}
 use lib.IntN.{ℤ, natAbs}
@@ -14,7 +14,7 @@ use Rattle.digits.specs.Paper.Answers.{AtEnd}
 use Rattle.digits.specs.Paper.Decimal.{decimalDigit, decimal}
 use Rattle.digits.proofs.Laws.Decimal.{decimal-small, decimal-more, length-decimal}
 use Rattle.puts.specs.Paper.Put.{Put, last}
-use Rattle.puts.proofs.Laws.Puts.{front-count, front-bytes}
+use Rattle.puts.proofs.Laws.Puts.{puts-as, front-count, front-bytes}
 use Rattle.numbers.specs.Paper.Raw.{Raw, mostDecimals}
 use Rattle.numbers.specs.Paper.Text.{belowZero, sign, lastDigits, fraction, textOf, text}
 use Rattle.numbers.specs.Work.Text.{Front}
@@ -95,10 +95,26 @@ rest-part {room} {from} {c} {text} {chars} e a h =
     ∙ ap (take (room - e)) (drop-at (replicate from 0 ++ (c ∷ [])) text e k)
     ∙ take-all (room - e) text (omega arith)
 
+-- the digits behind the point, where the code has those of 10 ^ d and the fraction
+pub fraction-part : (d n one : ℕ) {from : ℕ} {chars : List ℕ} → one ≡ 10 ^ d → d ≤ mostDecimals → AtEnd 20 (decimal (one + n % one)) chars from
+    → take (20 - (20 - d)) (drop (20 - d) chars) ≡ lastDigits d n
+fraction-part d n one {from} {chars} e h a =
+    let f : decimal (one + n % one) ≡ decimalDigit 1 ∷ lastDigits d n = ap (λ (x : ℕ). decimal (x + n % x)) e ∙ one-and-fraction d n in
+    rest-part (20 - d) (subst (λ (l : List ℕ). AtEnd 20 l chars from) f a) (omega (arith, length-last d n))
+
+pub unit-le : (d : ℕ) → d ≤ mostDecimals → 10 ^ d ≤ 1000
+unit-le d h = pow-le-pow-right (zero-lt-suc 9) h
+
+-- what is put by sign and magnitude is the number's text
+pub text-put : {r s : List ℕ} {k : ℕ} (y z : ℤ) (d : ℕ) {m : Bool} {n : ℕ} → m ≡ belowZero y → n ≡ natAbs y → y ≡ z → Put r s 0 k (textOf m n d) → Put r s 0 k (text z d)
+text-put y z d {m} {n} e f g p =
+    puts-as (ap (λ (b : Bool). textOf b n d) e ∙ ap (λ (x : ℕ). textOf (belowZero y) x d) f ∙ ap (λ (x : ℤ). text x d) g) p
+
 -- a raw number's text, put at the front of twelve characters
-pub at-front : {r s : List ℕ} {k : ℕ} (z : ℤ) (d : ℕ) → Raw z → d ≤ mostDecimals → length r ≡ 12 → length s ≡ 12
+pub at-front : {r s : List ℕ} {k : ℕ} (z : ℤ) (d : ℕ) → Raw z → d ≤ mostDecimals → length r ≡ 12
     → Put r s 0 k (text z d) → Front (text z d) s k
-at-front {r} {s} {k} z d raw few l m p =
+at-front {r} {s} {k} z d raw few l p =
     let short : length (text z d) ≤ length r = omega (arith, text-short (belowZero z) (natAbs z) d (magnitude-lt z raw) few) in
     let room : length r ≤ last = omega arith in
-    record { room = m; count = front-count p room short; front = front-bytes p room short }
+    let count : k ≡ length (text z d) = front-count p room short in
+    record { room = p .same ∙ l; within = omega arith; count = count; front = ap (λ (n : ℕ). take n s) (sub-zero k) ∙ front-bytes p room short }

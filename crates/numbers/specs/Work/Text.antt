@@ -1,18 +1,20 @@
 -- What the functions on texts say of their parts.
 -- Assumes nothing.
 use mathlib.Core.Path.{_≡_}
-use Prim.Native.Nat.{ℕ, _+_, _*_, _%_}
+use Prim.Native.Nat.{ℕ, _+_, _*_, _%_, _≤_}
 use mathlib.Core.Bool.{Bool, true, false}
 use mathlib.Core.List.{List, [], _∷_}
 use lib.Dec.{ltb, eqb}
 use lib.IntN.{ℤ, pos, negℤ}
-use lib.ListN.{length, take}
+use lib.ListN.{length}
+use Rattle.digits.specs.Paper.Bytes.{part}
 
 -- a text at the front of twelve characters
 pub record Front (text chars : List ℕ) (len : ℕ) : Type 0 where
   pub room : length chars ≡ 12
+  pub within : len ≤ 12
   pub count : len ≡ length text
-  pub front : take len chars ≡ text
+  pub front : part 0 len chars ≡ text
 
 -- ---- what the reader takes a text for, before it tries whether that number's text is the one that it has
 

@@ -1,3 +1,23 @@
+use mir.Syntax.{w32, w64}
+use mir.Val.{Fits}
+use Rattle.numbers.proofs.Laws.Text.{ten-pos, one-and-fraction, fraction-some, fraction-none, rest-part, at-front, fraction-part, unit-le, text-put, length-last, text-short}
+use native.Mathlib.Nat.{mod-lt}
+use Rattle.digits.proofs.Laws.Decimal.{length-chars}
+use Rattle.digits.specs.Paper.Answers.{AtEnd}
+use Rattle.digits.specs.Paper.Decimal.{decimal}
+use Rattle.numbers.proofs.Laws.Signs.{back, read-back, less, not-less, too-low, too-high, within, below, Cast, plain, turned, plus, negated}
+use mathlib.Core.Path.{_≡_, refl, sym, ap, _∙_, subst}
+use mathlib.Core.Bool.{Bool, true, false}
+use lib.IntN.{ℤ, pos, _-ℤ_, natAbs}
+use mir.Syntax.{w64}
+use mir.Val.{SFits}
+use native.Mathlib.Omega.{arith}
+use Rattle.numbers.proofs.Laws.Text.{ten-pos, one-and-fraction, fraction-some, fraction-none, rest-part, at-front, length-last, text-short}
+use Rattle.numbers.proofs.Laws.Reader.{Valued, valued-next, valued-end, valued-lt, point-here, point-later, no-point, minus-at, minus-none}
+use Rattle.puts.proofs.Laws.Puts.{none, _then_, puts-as}
+use Prim.Native.Nat.{ℕ, _+_, _-_, _/_, _%_, _^_, _≤_, _<_}
+use mathlib.Core.List.{List, [], _∷_, _++_}
+use lib.ListN.{length, take, drop}
 use borrow.Author.Needs.{needs}
 use Rattle.numbers.proofs.text.put_fraction.Statement.{statement}
 use Rattle.numbers.proofs.text.put_fraction.Tie as tie
@@ -8,9 +28,19 @@ use Rattle.numbers.proofs.text.unit.Reads as unit-reads
 use Rattle.puts.proofs.byte.Reads as byte-reads
 use Rattle.puts.proofs.bytes.Reads as bytes-reads
 
+-- the sum of a unit and what is below it is at most 1999
+small : (c : tie.After-unit) → Fits w32 (c .unit .result + c .before .before .before .args .n % c .unit .result) × Fits w64 (c .unit .result + c .before .before .before .args .n % c .unit .result)
+small c =
+    let s = c .before .before .before in
+    let h = unit-le (s .args .decimals) (s .pre) in
+    let p = ten-pos (s .args .decimals) in
+    let e = c .unit .ensures in
+    let m : s .args .n % c .unit .result < c .unit .result = mod-lt (s .args .n) (omega arith) in
+    (omega arith, omega arith)
+
 -- src/text.rt:112:9
 returns : tie.Need-returns
-returns c = ?
+returns c = puts-as (sym (fraction-none _ _ (c .if1 .taken))) (none _ _)
 
 -- src/text.rt:114:9
 unit-requires : tie.Need-unit-requires
@@ -18,15 +48,15 @@ unit-requires c κs = search needs
 
 -- src/text.rt:115:36
 rem-digits : tie.Need-rem-digits
-rem-digits c = ?
+rem-digits c = rw (c .unit .ensures) (ten-pos (c .before .before .before .args .decimals))
 
 -- src/text.rt:115:30
 add-digits : tie.Need-add-digits
-add-digits c = ?
+add-digits c = small c .0
 
 -- src/text.rt:115:29
 cast-digits : tie.Need-cast-digits
-cast-digits c = ?
+cast-digits c = small c .1
 
 -- src/text.rt:115:9
 digits-requires : tie.Need-digits-requires
@@ -50,7 +80,7 @@ part-bytes-start c = search needs
 
 -- src/text.rt:119:17
 part-bytes-end : tie.Need-part-bytes-end
-part-bytes-end c = ?
+part-bytes-end c = omega (arith, length-chars (c .before .before .before .before .before .before .digits .ensures))
 
 -- src/text.rt:119:5
 bytes-requires : tie.Need-bytes-requires
@@ -62,7 +92,10 @@ same-length c = search needs
 
 -- src/text.rt:107:1
 returns-2 : tie.Need-returns-2
-returns-2 c = ?
+returns-2 c =
+    let s = c .before .before .before .before .before .before .before .before .before .before .before .before .before .before .before in
+    puts-as (sym (fraction-some (s .args .decimals) (s .args .n) (c .before .before .before .before .before .before .before .before .before .before .before .before .before .if1 .left)))
+    (c .before .before .before .before .before .before .before .before .byte .ensures then puts-as (fraction-part (s .args .decimals) (s .args .n) _ (c .before .before .before .before .before .before .before .before .before .before .before .before .unit .ensures) (s .pre) (c .before .before .before .before .before .before .before .before .before .before .before .digits .ensures)) (c .before .before .bytes .ensures))
 
 pub put-fraction-spec : {M : Type 1} → statement M
 put-fraction-spec =

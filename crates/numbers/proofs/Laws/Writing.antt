@@ -1,0 +1,73 @@
+-- What a call that writes into a lent room answers, way by way.
+-- Assumes nothing.
+use mathlib.Core.Path.{_≡_, ap, _∙_}
+use mathlib.Core.Bool.{Bool}
+use Prim.Native.Nat.{ℕ, _≤_, _<_}
+use native.Mathlib.Nat.{sub-zero}
+use native.Mathlib.Omega.{arith}
+use mathlib.Core.List.{List}
+use lib.Dec.{lit<}
+use lib.IntN.{ℤ}
+use lib.ListN.{length, take}
+use Rattle.digits.specs.Paper.Bytes.{part}
+use Rattle.digits.specs.Paper.LowFirst.{Width, lowFirst}
+use Rattle.digits.proofs.Laws.LowFirst.{length-low, low-take}
+use Rattle.digits.specs.declared.refusal.Refusal.the-variants.{Room, Limits, Form}
+use Rattle.puts.specs.Paper.Put.{Put, last}
+use Rattle.puts.specs.Paper.Wrote.{refused, Writes}
+use Rattle.puts.specs.declared.Written.{Written}
+use Rattle.puts.specs.declared.Written.the-variants.{Bytes, Refused}
+use Rattle.puts.proofs.Laws.Wrote.{wrote-by}
+use Rattle.numbers.specs.Paper.Raw.{Raw, mostDecimals}
+use Rattle.numbers.specs.Paper.Text.{text}
+use Rattle.numbers.specs.Paper.ByteValues.{Holds, twos, valueBytes}
+use Rattle.numbers.specs.Paper.Answers as A
+use Rattle.numbers.specs.Paper.Answers.{TextCause, ValueCause}
+use Rattle.numbers.proofs.Laws.Causes.{first-7, first-5, first-4, no-cause, text-only, decimals-right, range-right, room-enough, value-only, width-right, held-right, bytes-enough}
+use Rattle.numbers.proofs.Laws.Values.{width-le}
+
+-- ---- text::write
+module _ (z : ℤ) (d : ℕ) (room : List ℕ) where
+  abbrev Text : Written → List ℕ → Type 0
+  Text = Writes (TextCause z d (length room)) (text z d) room
+
+  pub bad-decimals : mostDecimals < d → Text (Refused Form) room
+  bad-decimals h = refused (lit< tt) (first-7 (text-only z d (length room)) (A.decimals h))
+
+  module _ (few : d ≤ mostDecimals) where
+    pub bad-range : (Raw z → ⊥) → Text (Refused Limits) room
+    bad-range f = refused (lit< tt) (first-5 (text-only z d (length room)) (decimals-right few) (A.range f))
+
+    module _ (raw : Raw z) where
+      pub bad-room : length room < length (text z d) → Text (Refused Room) room
+      bad-room h = refused (lit< tt) (first-4 (text-only z d (length room)) (decimals-right few) (range-right raw) (A.room h))
+
+      pub text-written : {later : List ℕ} {k : ℕ} → length (text z d) ≤ length room → length room ≤ last → Put room later 0 k (text z d) → Text (Bytes k) later
+      text-written h l p = wrote-by (no-cause (text-only z d (length room)) (decimals-right few) (range-right raw) (room-enough h)) p l h
+
+-- ---- byte_values::write
+
+-- the bytes of every width are the first of the four
+pub value-part : {w : ℕ} (z : ℤ) {n : ℕ} {bytes : List ℕ} → Width w → n ≡ twos w z → bytes ≡ lowFirst 4 n → part 0 w bytes ≡ valueBytes w z
+value-part {w} z {n} {bytes} known e f =
+    ap (λ (k : ℕ). take k bytes) (sub-zero w) ∙ ap (take w) f ∙ low-take w 4 n (width-le known) ∙ ap (lowFirst w) e
+
+module _ (w : ℕ) (signed : Bool) (z : ℤ) (room : List ℕ) where
+  abbrev Value : Written → List ℕ → Type 0
+  Value = Writes (ValueCause w signed z (length room)) (valueBytes w z) room
+
+  pub bad-width : (Width w → ⊥) → Value (Refused Form) room
+  bad-width f = refused (lit< tt) (first-7 (value-only w signed z (length room)) (A.width f))
+
+  module _ (known : Width w) where
+    pub not-held : (Holds w signed z → ⊥) → Value (Refused Limits) room
+    not-held f = refused (lit< tt) (first-5 (value-only w signed z (length room)) (width-right known) (A.held f))
+
+    module _ (held : Holds w signed z) where
+      pub no-room : length room < w → Value (Refused Room) room
+      no-room h = refused (lit< tt) (first-4 (value-only w signed z (length room)) (width-right known) (held-right held) (A.room h))
+
+      pub value-written : {later : List ℕ} {k : ℕ} → w ≤ length room → length room ≤ last → Put room later 0 k (valueBytes w z) → Value (Bytes k) later
+      value-written h l p =
+          wrote-by (no-cause (value-only w signed z (length room)) (width-right known) (held-right held) (bytes-enough h)) p l
+          (omega (arith, length-low w (twos w z)))
