@@ -1,7 +1,11 @@
 pub mod Signs
+pub mod Range
 pub mod Causes
 pub mod Text
 pub mod Reader
 pub mod Values
 pub mod Writing
 pub mod Reading
+pub mod Zeros
+pub mod Exact
+pub mod Held
