@@ -1,7 +1,7 @@
 -- Ranges: how far from zero a number of one is; and what `raw::in_range` told of a number, which it is given as the machine reads it
 -- back, where the code goes on by `if !in_range(z)`.
 -- Assumes nothing.
-use mathlib.Core.Path.{_≡_, subst}
+use mathlib.Core.Path.{_≡_}
 use mathlib.Core.Bool.{Bool, true, false, not}
 use Prim.Native.Nat.{ℕ, suc-le-suc, _≤_}
 use native.Mathlib.Nat.{le-trans}
@@ -13,7 +13,7 @@ use mir.Val.{SFits}
 use Rattle.digits.specs.Paper.Read.{Tells}
 use Rattle.digits.proofs.Laws.Tests.{told, untold}
 use Rattle.numbers.specs.Paper.Raw.{Between, Raw}
-use Rattle.numbers.proofs.Laws.Signs.{back, read-back}
+use Rattle.numbers.proofs.Laws.Signs.{back, said}
 
 -- no number of a range is farther from zero than m where neither end is
 pub near-zero : (m : ℕ) (least most z : ℤ) → Between least most z → natAbs least ≤ m → natAbs most ≤ m → natAbs z ≤ m
@@ -24,7 +24,7 @@ near-zero m (negsuc a) most (negsuc n) r h k = le-trans (suc-le-suc (leb→le n 
 
 module _ {z : ℤ} (f : SFits w64 z) {b : Bool} (t : Tells (Raw (back z)) b) where
   of-number : Tells (Raw z) b
-  of-number = subst (λ (y : ℤ). Tells (Raw y) b) (read-back z f) t
+  of-number = said (λ (y : ℤ). Tells (Raw y) b) z f t
 
   pub refused : not b ≡ true → Raw z → ⊥
   refused e = untold of-number (not-true b e)

@@ -2,23 +2,21 @@
 -- Assumes nothing.
 use mathlib.Core.Path.{_≡_, refl, sym, ap, _∙_, subst}
 use mathlib.Core.Bool.{Bool, true, false, true≢false, false≢true}
-use mathlib.Core.List.{List}
 use Prim.Native.Nat.{ℕ, zero, suc, _-_, _*_, _/_, _^_, _≤_, _<_}
 use native.Mathlib.Omega.{arith}
 use lib.Dec.{T, leb, leb→le, le→leb, lit<}
 use lib.IntN.{ℤ, pos, negsuc, negℤ, natAbs}
-use lib.ListN.{length, take, drop}
 use lib.Signed.{leZ, _≤ℤ_, leZ-yes}
 use borrow.Author.Tests.{leb-true, leb-false}
 use mir.Syntax.{w64}
 use mir.Val.{SFits}
-use Rattle.digits.specs.Paper.LowFirst.{Width, one, two, four, lowFirst}
+use Rattle.digits.specs.Paper.LowFirst.{Width, one, two, four}
 use Rattle.digits.specs.Paper.Read.{Tells}
-use Rattle.digits.proofs.Laws.LowFirst.{low-inj, no-width}
+use Rattle.digits.proofs.Laws.LowFirst.{low-inj}
 use Rattle.numbers.specs.Paper.Raw.{Between, Raw}
 use Rattle.numbers.specs.Paper.Text.{belowZero}
 use Rattle.numbers.specs.Paper.ByteValues.{least, most, Holds, twos, valueBytes}
-use Rattle.numbers.specs.Work.ByteValues.{standsBelow, fromTwos, ofTwos}
+use Rattle.numbers.specs.Work.ByteValues.{fromTwos, ofTwos}
 use Rattle.numbers.proofs.Laws.Signs.{back, read-back}
 
 -- ---- widths

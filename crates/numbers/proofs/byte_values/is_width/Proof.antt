@@ -1,40 +1,22 @@
-use Rattle.numbers.proofs.Laws.Signs.{back, read-back, less, not-less, too-low, too-high, within, below, Cast, plain, turned, plus, negated}
-use mathlib.Core.Path.{_≡_, refl, sym, ap, _∙_, subst}
-use mathlib.Core.Bool.{Bool, true, false}
-use lib.IntN.{ℤ, pos, _-ℤ_, natAbs}
-use mir.Syntax.{w64}
-use mir.Val.{SFits}
-use native.Mathlib.Omega.{arith}
-use borrow.Author.Needs.{needs}
-use Rattle.numbers.proofs.Laws.Values.{is-four, width-le, Size, size, In, held-in, in-held, in-raw, in-size, twos-lt, value-inj, of-twos, twos-below, twos-above, below-some, ends-fit, between-ends}
-use Rattle.digits.specs.Paper.Read.{Tells, holds, fails}
+-- `numbers::byte_values::is_width` meets its contract: test by test.
+-- Assumes nothing.
+use mathlib.Core.Path.{sym, subst}
+use Prim.Native.Nat.{_-_}
+use Rattle.digits.specs.Paper.Read.{holds, fails}
 use Rattle.digits.specs.Paper.LowFirst.{Width, one, two, four}
-use Rattle.digits.proofs.Laws.LowFirst.{no-width, low-take}
-use borrow.Author.Tests.{not-true, not-false}
-use Prim.Native.Nat.{ℕ, _-_, _*_, _^_, _≤_, _<_}
-use lib.IntN.{negsuc}
-use Rattle.numbers.specs.Paper.ByteValues.{least, most, twos}
-use Rattle.numbers.specs.Work.ByteValues.{standsBelow, fromTwos, ofTwos}
-use Rattle.numbers.proofs.Laws.Signs.{said, signed-fits}
-use lib.Dec.{leb}
+use Rattle.digits.proofs.Laws.LowFirst.{no-width}
 use Rattle.numbers.proofs.byte_values.is_width.Statement.{statement}
 use Rattle.numbers.proofs.byte_values.is_width.Tie as tie
-use Rattle.numbers.proofs.byte_values.is_width.Reads as reads
-use Rattle.numbers.proofs.byte_values.is_width.Lts as lts
 
--- src/byte_values.rt:63:9
 returns : tie.Need-returns
 returns c = holds (subst Width (sym (c .if1 .taken)) one)
 
--- src/byte_values.rt:66:9
 returns-2 : tie.Need-returns-2
 returns-2 c = holds (subst Width (sym (c .if2 .taken)) two)
 
--- src/byte_values.rt:69:9
 returns-3 : tie.Need-returns-3
 returns-3 c = holds (subst Width (sym (c .if3 .taken)) four)
 
--- src/byte_values.rt:59:1
 returns-4 : tie.Need-returns-4
 returns-4 c = fails (no-width (c .before .before .if1 .left) (c .before .if2 .left) (c .if3 .left))
 

@@ -1,41 +1,22 @@
-use Rattle.numbers.proofs.Laws.Values.{is-four, width-le, Size, size, In, held-in, in-held, in-raw, in-size, twos-lt, value-inj, of-twos, twos-below, twos-above, below-some, end-is, ends-fit, between-ends}
-use Rattle.numbers.proofs.Laws.Signs.{back, read-back, less, not-less, too-low, too-high, within, below, Cast, plain, turned, plus, negated}
-use mathlib.Core.Path.{_≡_, refl, sym, ap, _∙_, subst}
-use mathlib.Core.Bool.{Bool, true, false}
-use lib.IntN.{ℤ, pos, _-ℤ_, natAbs}
-use mir.Syntax.{w64}
-use mir.Val.{SFits}
-use native.Mathlib.Omega.{arith}
-use borrow.Author.Needs.{needs}
-use Rattle.numbers.proofs.Laws.Values.{is-four, width-le, Size, size, In, held-in, in-held, in-raw, in-size, twos-lt, value-inj, of-twos, twos-below, twos-above, below-some, ends-fit, between-ends}
-use Rattle.digits.specs.Paper.Read.{Tells, holds, fails}
-use Rattle.digits.specs.Paper.LowFirst.{Width, one, two, four}
-use Rattle.digits.proofs.Laws.LowFirst.{no-width, low-take}
+-- `numbers::byte_values::smallest` meets its contract: width by width.
+-- Assumes nothing.
+use mathlib.Core.Path.{refl}
+use Prim.Native.Nat.{_-_}
 use borrow.Author.Tests.{not-true, not-false}
-use Prim.Native.Nat.{ℕ, _-_, _*_, _^_, _≤_, _<_}
-use lib.IntN.{negsuc}
-use Rattle.numbers.specs.Paper.ByteValues.{least, most, twos}
-use Rattle.numbers.specs.Work.ByteValues.{standsBelow, fromTwos, ofTwos}
-use Rattle.numbers.proofs.Laws.Signs.{said, signed-fits}
-use lib.Dec.{leb}
+use Rattle.numbers.specs.Paper.ByteValues.{least}
+use Rattle.numbers.proofs.Laws.Values.{is-four, end-is}
 use Rattle.numbers.proofs.byte_values.smallest.Statement.{statement}
 use Rattle.numbers.proofs.byte_values.smallest.Tie as tie
-use Rattle.numbers.proofs.byte_values.smallest.Reads as reads
-use Rattle.numbers.proofs.byte_values.smallest.Lts as lts
 
--- src/byte_values.rt:87:9
 returns : tie.Need-returns
 returns c = end-is least {w = c .before .args .width} {s = c .before .args .signed} (not-true _ (c .if1 .taken)) refl
 
--- src/byte_values.rt:90:9
 returns-2 : tie.Need-returns-2
 returns-2 c = end-is least {s = c .before .before .args .signed} (not-false _ (c .before .if1 .left)) (c .if2 .taken)
 
--- src/byte_values.rt:93:9
 returns-3 : tie.Need-returns-3
 returns-3 c = end-is least {s = c .before .before .before .args .signed} (not-false _ (c .before .before .if1 .left)) (c .if3 .taken)
 
--- src/byte_values.rt:82:1
 returns-4 : tie.Need-returns-4
 returns-4 c = end-is least {s = c .before .before .before .args .signed} (not-false _ (c .before .before .if1 .left)) (is-four (c .before .before .before .pre) (c .before .if2 .left) (c .if3 .left))
 

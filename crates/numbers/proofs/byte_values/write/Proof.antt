@@ -1,37 +1,23 @@
-use Rattle.digits.proofs.Laws.LowFirst.{length-low}
-use lib.ListN.{length}
-use Rattle.numbers.proofs.Laws.Signs.{back, read-back, less, not-less, too-low, too-high, within, below, Cast, plain, turned, plus, negated}
-use mathlib.Core.Path.{_≡_, refl, sym, ap, _∙_, subst}
-use mathlib.Core.Bool.{Bool, true, false}
-use lib.IntN.{ℤ, pos, _-ℤ_, natAbs}
-use mir.Syntax.{w64}
-use mir.Val.{SFits}
+-- `numbers::byte_values::write` meets its contract: each refusal by the test before it, and else the first of the four bytes.
+-- Assumes nothing.
+use mathlib.Core.Path.{ap, _∙_}
+use Prim.Native.Nat.{_-_}
 use native.Mathlib.Omega.{arith}
-use Rattle.numbers.proofs.Laws.Values.{is-four, width-le, Size, size, In, held-in, in-held, in-raw, in-size, twos-lt, value-inj, of-twos, twos-below, twos-above, below-some, end-is, ends-fit, between-ends}
-use Rattle.digits.specs.Paper.Read.{Tells, holds, fails}
-use Rattle.digits.specs.Paper.LowFirst.{Width, one, two, four}
-use Rattle.digits.proofs.Laws.LowFirst.{no-width, low-take}
+use lib.ListN.{length}
+use lib.IntN.{ℤ}
 use borrow.Author.Tests.{not-true, not-false}
-use Prim.Native.Nat.{ℕ, _-_, _*_, _^_, _≤_, _<_}
-use lib.IntN.{negsuc}
-use Rattle.numbers.specs.Paper.ByteValues.{least, most, twos}
-use Rattle.numbers.specs.Work.ByteValues.{standsBelow, fromTwos, ofTwos}
-use Rattle.numbers.proofs.Laws.Signs.{said, signed-fits}
-use lib.Dec.{leb}
-use Rattle.numbers.proofs.Laws.Writing.{value-part, bad-width, not-held, no-room, value-written}
+use borrow.Author.Needs.{needs}
+use Rattle.digits.specs.Paper.Read.{Tells, holds}
+use Rattle.digits.specs.Paper.LowFirst.{Width, four}
+use Rattle.digits.proofs.Laws.LowFirst.{length-low}
 use Rattle.digits.proofs.Laws.Tests.{told, untold}
 use Rattle.puts.proofs.Laws.Puts.{puts-as}
-use Rattle.numbers.specs.Paper.ByteValues.{Holds}
-use borrow.Author.Needs.{needs}
+use Rattle.numbers.specs.Paper.ByteValues.{twos, Holds}
+use Rattle.numbers.proofs.Laws.Signs.{back, read-back, said}
+use Rattle.numbers.proofs.Laws.Values.{width-le, size, held-in, in-raw, in-size}
+use Rattle.numbers.proofs.Laws.Writing.{value-part, bad-width, not-held, no-room, value-written}
 use Rattle.numbers.proofs.byte_values.write.Statement.{statement}
 use Rattle.numbers.proofs.byte_values.write.Tie as tie
-use Rattle.numbers.proofs.byte_values.write.Reads as reads
-use Rattle.numbers.proofs.byte_values.write.Lts as lts
-use Rattle.digits.proofs.low_first.four.Reads as four-reads
-use Rattle.numbers.proofs.byte_values.holds.Reads as holds-reads
-use Rattle.numbers.proofs.byte_values.in_twos.Reads as in-twos-reads
-use Rattle.numbers.proofs.byte_values.is_width.Reads as is-width-reads
-use Rattle.puts.proofs.bytes.Reads as bytes-reads
 
 -- what the calls say, of the number itself
 module _ (u : tie.Else2) where
@@ -41,35 +27,29 @@ module _ (u : tie.Else2) where
   held : Holds (u .before .before .before .before .before .args .width) (u .before .before .before .before .before .args .signed) (u .before .before .before .before .before .args .raw)
   held = let s = u .before .before .before .before .before in said (Holds (s .args .width) (s .args .signed)) (s .args .raw) (s .fits .raw) (told (u .before .holds .ensures) (not-false _ (u .if2 .left)))
 
--- src/byte_values.rt:30:9
 is-width-requires : tie.Need-is-width-requires
 is-width-requires c κs = search needs
 
--- src/byte_values.rt:31:9
 returns : tie.Need-returns
 returns c =
     let s = c .before .before .before in
     bad-width (s .args .width) (s .args .signed) (s .args .raw) (s .args .room .now) (untold (c .before .is-width .ensures) (not-true _ (c .if1 .taken)))
 
--- src/byte_values.rt:33:9
 holds-requires : tie.Need-holds-requires
 holds-requires c κs = told (c .before .is-width .ensures) (not-false _ (c .if1 .left))
 
--- src/byte_values.rt:34:9
 returns-2 : tie.Need-returns-2
 returns-2 c =
     let s = c .before .before .before .before .before in
     not-held (s .args .width) (s .args .signed) (s .args .raw) (s .args .room .now) (told (c .before .before .before .is-width .ensures) (not-false _ (c .before .before .if1 .left)))
     (untold (said (λ (y : ℤ). Tells (Holds (s .args .width) (s .args .signed) y) (c .before .holds .result)) (s .args .raw) (s .fits .raw) (c .before .holds .ensures)) (not-true _ (c .if2 .taken)))
 
--- src/byte_values.rt:37:9
 returns-3 : tie.Need-returns-3
 returns-3 c =
     let u = c .before in
     let s = u .before .before .before .before .before in
     no-room (s .args .width) (s .args .signed) (s .args .raw) (s .args .room .now) (known u) (held u) (c .if3 .taken)
 
--- src/byte_values.rt:39:32
 in-twos-requires : tie.Need-in-twos-requires
 in-twos-requires c κs =
     let u = c .before in
@@ -78,31 +58,24 @@ in-twos-requires c κs =
     let i = held-in z (s .args .signed) (back (s .args .raw)) (told (u .before .holds .ensures) (not-false _ (u .if2 .left))) in
     (known u, in-raw z i, in-size z i)
 
--- src/byte_values.rt:39:16
 four-requires : tie.Need-four-requires
 four-requires c κs = search needs
 
--- src/byte_values.rt:40:32
 sub-bytes : tie.Need-sub-bytes
 sub-bytes c = search needs
 
--- src/byte_values.rt:40:32
 part-bytes-start : tie.Need-part-bytes-start
 part-bytes-start c = search needs
 
--- src/byte_values.rt:40:32
 part-bytes-end : tie.Need-part-bytes-end
 part-bytes-end c = let u = c .before .before .before .before in omega (arith, width-le (known u), ap length (c .before .four .ensures), length-low 4 (c .before .before .in-twos .result))
 
--- src/byte_values.rt:40:20
 bytes-requires : tie.Need-bytes-requires
 bytes-requires c κs = search needs
 
--- src/byte_values.rt:27:1
 same-length : tie.Need-same-length
 same-length c = search needs
 
--- src/byte_values.rt:27:1
 returns-4 : tie.Need-returns-4
 returns-4 c =
     let u = c .before .before .before .before .before .before .before .before .before in

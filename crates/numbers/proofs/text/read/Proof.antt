@@ -1,30 +1,22 @@
-use Rattle.numbers.proofs.Laws.Signs.{back, read-back, less, not-less, too-low, too-high, within, below, Cast, plain, turned, plus, negated}
-use mathlib.Core.Path.{_≡_, refl, sym, ap, _∙_, subst}
-use mathlib.Core.Bool.{Bool, true, false}
-use lib.IntN.{ℤ, pos, _-ℤ_, natAbs}
+-- `numbers::text::read` meets its contract: what it answers, it has tried; and the only number whose text it can be is the one tried.
+-- Assumes nothing.
+use mathlib.Core.Path.{_≡_, sym, ap, _∙_, subst}
+use mathlib.Core.Bool.{Bool}
 use native.Mathlib.Omega.{arith}
-use Rattle.numbers.proofs.Laws.Reading.{too-long, too-many, out-of-range, is-number, no-number}
-use Rattle.numbers.proofs.Laws.Signs.{said, signed-fits}
-use Rattle.numbers.proofs.Laws.Reader.{taken}
-use Rattle.digits.proofs.Laws.Tests.{told, untold}
-use borrow.Author.Tests.{not-true, not-false}
-use Rattle.digits.specs.Paper.Read.{Tells}
-use Rattle.numbers.specs.Paper.Raw.{Raw}
-use Rattle.numbers.specs.Paper.Text.{text}
-use Rattle.numbers.specs.Work.Text.{value, minusFirst, signed}
+use lib.IntN.{ℤ}
+use borrow.Author.Needs.{needs}
 use mir.Syntax.{w64}
 use mir.Val.{SFits}
-use borrow.Author.Needs.{needs}
+use Rattle.digits.specs.Paper.Read.{Tells}
+use Rattle.digits.proofs.Laws.Tests.{told, untold}
+use Rattle.numbers.specs.Paper.Text.{text}
+use Rattle.numbers.specs.Work.Text.{minusFirst, signed}
+use Rattle.numbers.proofs.Laws.Range.{refused, passed-back}
+use Rattle.numbers.proofs.Laws.Signs.{said, signed-fits}
+use Rattle.numbers.proofs.Laws.Reading.{too-long, too-many, out-of-range, is-number, no-number}
+use Rattle.numbers.proofs.Laws.Reader.{taken}
 use Rattle.numbers.proofs.text.read.Statement.{statement}
 use Rattle.numbers.proofs.text.read.Tie as tie
-use Rattle.numbers.proofs.text.read.Reads as reads
-use Rattle.numbers.proofs.text.read.Lts as lts
-use Rattle.numbers.proofs.raw.in_range.Reads as in-range-reads
-use Rattle.numbers.proofs.raw.with_sign.Reads as with-sign-reads
-use Rattle.numbers.proofs.text.after_point.Reads as after-point-reads
-use Rattle.numbers.proofs.text.is_text.Reads as is-text-reads
-use Rattle.numbers.proofs.text.minus_first.Reads as minus-first-reads
-use Rattle.numbers.proofs.text.number_in.Reads as number-in-reads
 
 -- the number that the code tries is the one that the text is taken for
 module _ (u : tie.After-with-sign) where
@@ -37,60 +29,47 @@ module _ (u : tie.After-with-sign) where
   fits : SFits w64 (u .with-sign .result)
   fits = subst (SFits w64) (sym (u .with-sign .ensures)) (signed-fits (u .before .before .minus-first .result) (u .before .number-in .result) (u .before .number-in .ensures .1))
 
--- src/text.rt:55:9
 returns : tie.Need-returns
 returns c = too-long _ (c .if1 .taken)
 
--- src/text.rt:57:9
 after-point-requires : tie.Need-after-point-requires
 after-point-requires c κs = search needs
 
--- src/text.rt:59:9
 returns-2 : tie.Need-returns-2
 returns-2 c = too-many _ (omega (arith, c .before .after-point .ensures, c .if2 .taken))
 
--- src/text.rt:61:30
 minus-first-requires : tie.Need-minus-first-requires
 minus-first-requires c κs = search needs
 
--- src/text.rt:61:46
 number-in-requires : tie.Need-number-in-requires
 number-in-requires c κs = search needs
 
--- src/text.rt:61:9
 with-sign-requires : tie.Need-with-sign-requires
 with-sign-requires c κs = search needs
 
--- src/text.rt:62:9
 in-range-requires : tie.Need-in-range-requires
 in-range-requires c κs = search needs
 
--- src/text.rt:63:9
 returns-3 : tie.Need-returns-3
 returns-3 c =
     let u = c .before .before in
     out-of-range (u .before .before .before .before .before .before .before .args .t .now) (u .with-sign .result) (tried u)
-    (untold (said (λ (y : ℤ). Tells (Raw y) (c .before .in-range .result)) (u .with-sign .result) (fits u) (c .before .in-range .ensures)) (not-true _ (c .if3 .taken)))
+    (refused (fits u) (c .before .in-range .ensures) (c .if3 .taken))
 
--- src/text.rt:65:21
 cast-is-text : tie.Need-cast-is-text
 cast-is-text c = search needs
 
--- src/text.rt:65:8
 is-text-requires : tie.Need-is-text-requires
-is-text-requires c κs = (told (c .before .in-range .ensures) (not-false _ (c .if3 .left)), c .before .before .before .before .before .if2 .left)
+is-text-requires c κs = (passed-back (fits (c .before .before)) (c .before .in-range .ensures) (c .if3 .left), c .before .before .before .before .before .if2 .left)
 
--- src/text.rt:66:33
 cast-t13 : tie.Need-cast-t13
 cast-t13 c = search needs
 
--- src/text.rt:66:9
 returns-4 : tie.Need-returns-4
 returns-4 c =
     let u = c .before .before .before .before in
-    is-number (u .before .before .before .before .before .before .before .args .t .now) _ _ (told (c .before .before .before .in-range .ensures) (not-false _ (c .before .before .if3 .left))) (c .before .before .before .before .before .before .before .if2 .left) (told (c .before .is-text .ensures) (c .if4 .taken))
+    is-number (u .before .before .before .before .before .before .before .args .t .now) _ _ (passed-back (fits u) (c .before .before .before .in-range .ensures) (c .before .before .if3 .left)) (c .before .before .before .before .before .before .before .if2 .left) (told (c .before .is-text .ensures) (c .if4 .taken))
 
--- src/text.rt:51:1
 returns-5 : tie.Need-returns-5
 returns-5 c =
     let u = c .before .before .before .before in
