@@ -33,11 +33,8 @@ pub fn write(raw: i64, width: usize, signed: bool, room: &mut [u8]) -> Written
     if !holds(raw, width, signed) {
         return Written::Refused(Refusal::Limits);
     }
-    if room.len() < width {
-        return Written::Refused(Refusal::Room);
-    }
     let four = low_first::four(in_twos(raw, width));
-    Written::Bytes(puts::bytes(&four[0..width], room, 0))
+    puts::front(&four[0..width], room)
 }
 
 // The number that so many bytes are.

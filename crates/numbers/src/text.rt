@@ -32,19 +32,18 @@ struct Text {
 pub fn write(raw: i64, decimals: u32, room: &mut [u8]) -> Written
     ensures { λ r. ⌜ Writes (TextCause raw decimals (length (now (room .entry)))) (text raw decimals) (now (room .entry)) r (now (room .exit)) ⌝ }
 {
-    if 3 < decimals {
+    let few = decimals <= 3;
+    let known = raw::in_range(raw);
+    if !few {
         return Written::Refused(Refusal::Form);
     }
-    if !raw::in_range(raw) {
+    if !known {
         return Written::Refused(Refusal::Limits);
     }
     let t = text_of(raw, decimals);
     let chars = t.chars;
     let len = t.len;
-    if room.len() < len {
-        return Written::Refused(Refusal::Room);
-    }
-    Written::Bytes(puts::bytes(&chars[0..len], room, 0))
+    puts::front(&chars[0..len], room)
 }
 
 // The number whose text t is, with its decimals.

@@ -2,14 +2,41 @@
 // So no writer asks anything of the room, and the same writer measures, in a room too short, and writes.
 use digits::decimal;
 use digits::refusal::Refusal;
+ghost use mathlib.Core.Path.{_≡_};
+ghost use mathlib.Core.Bool.{cond};
 ghost use mathlib.Core.List.{[], _∷_};
+ghost use lib.Dec.{leb};
+ghost use lib.ListN.{length};
 ghost use Rattle.digits.specs.Paper.Decimal.{decimal};
 ghost use Rattle.puts.specs.Paper.Put.{Put};
+ghost use Rattle.puts.specs.Paper.Wrote.{RoomCause, Writes};
 
 // What a call answers that writes into a lent room: how many bytes it wrote, or why it wrote none.
 pub enum Written {
     Bytes(usize),
     Refused(Refusal),
+}
+
+// Writes the bytes of s from the front of the room: all of them, or none where the room is too short.
+pub fn front(s: &[u8], room: &mut [u8]) -> Written
+    ensures { λ r. ⌜ Writes (RoomCause (length (now (room .entry))) (length (now (s .entry)))) (now (s .entry)) (now (room .entry)) r (now (room .exit)) ⌝ }
+{
+    let n = all_or_none(s.len(), room.len());
+    bytes(&s[0..n], room, 0);
+    if n < s.len() {
+        return Written::Refused(Refusal::Room);
+    }
+    Written::Bytes(n)
+}
+
+// How many of n bytes are written.
+fn all_or_none(n: usize, room: usize) -> usize
+    ensures { λ r. ⌜ r ≡ cond (leb n room) n 0 ⌝ }
+{
+    if room < n {
+        return 0;
+    }
+    n
 }
 
 // Puts one byte.

@@ -17,6 +17,11 @@ module _ {A : Type 0} {zeros : A} {Limits : A → Type 0} {write : A → List �
   refused (is l e) z = absurd (omega arith)
   refused (none f) z = f
 
+  -- where there is none, it is refused
+  pub no-reading : {k : ℕ} {v : A} → ((u : A) → Limits u → write u ≡ s → ⊥) → Reads zeros Limits write no s k v → k ≡ no
+  no-reading f (is {v = v} l e) = absurd (f v l e)
+  no-reading f (none g) = refl
+
   -- of a writer that writes no two values alike, two answers are the same
   pub one-reading : ((u v : A) → Limits u → Limits v → write u ≡ write v → u ≡ v)
       → {k m : ℕ} {u v : A} → Reads zeros Limits write no s k u → Reads zeros Limits write no s m v → (k ≡ m) × (u ≡ v)

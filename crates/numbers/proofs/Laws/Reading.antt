@@ -72,4 +72,4 @@ module _ (w : ℕ) (signed : Bool) (s : List ℕ) where
         let o = of-twos (size known) signed n h in
         answers (no-cause (bytes-only w s) (width-known known) (count-right e) no-room-asked)
         (subst (ValueIn w signed s) (sym f)
-        (record { held = in-held (size known) (o .0); bytes = ap (lowFirst w) (o .1) ∙ ap (λ (k : ℕ). lowFirst k n) (sym e) ∙ b }))
+        (record { known = known; held = in-held (size known) (o .0); bytes = ap (lowFirst w) (o .1) ∙ ap (λ (k : ℕ). lowFirst k n) (sym e) ∙ b }))

@@ -1,6 +1,6 @@
 -- What a call that writes into a lent room answers, way by way.
 -- Assumes nothing.
-use mathlib.Core.Path.{_≡_, ap, _∙_}
+use mathlib.Core.Path.{_≡_, ap, _∙_, subst}
 use mathlib.Core.Bool.{Bool}
 use Prim.Native.Nat.{ℕ, _≤_, _<_}
 use native.Mathlib.Nat.{sub-zero}
@@ -12,12 +12,11 @@ use lib.ListN.{length, take}
 use Rattle.digits.specs.Paper.Bytes.{part}
 use Rattle.digits.specs.Paper.LowFirst.{Width, lowFirst}
 use Rattle.digits.proofs.Laws.LowFirst.{length-low, low-take}
-use Rattle.digits.specs.declared.refusal.Refusal.the-variants.{Room, Limits, Form}
-use Rattle.puts.specs.Paper.Put.{Put, last}
-use Rattle.puts.specs.Paper.Wrote.{refused, Writes}
+use Rattle.digits.specs.declared.refusal.Refusal.the-variants.{Limits, Form}
+use Rattle.puts.specs.Paper.Wrote.{refused, RoomCause, Writes}
 use Rattle.puts.specs.declared.Written.{Written}
-use Rattle.puts.specs.declared.Written.the-variants.{Bytes, Refused}
-use Rattle.puts.proofs.Laws.Wrote.{wrote-by}
+use Rattle.puts.specs.declared.Written.the-variants.{Refused}
+use Rattle.puts.proofs.Laws.Wrote.{after-tests}
 use Rattle.numbers.specs.Paper.Raw.{Raw, mostDecimals}
 use Rattle.numbers.specs.Paper.Text.{text}
 use Rattle.numbers.specs.Paper.ByteValues.{Holds, twos, valueBytes}
@@ -39,11 +38,12 @@ module _ (z : ℤ) (d : ℕ) (room : List ℕ) where
     bad-range f = refused (lit< tt) (first-5 (text-only z d (length room)) (decimals-right few) (A.range f))
 
     module _ (raw : Raw z) where
-      pub bad-room : length room < length (text z d) → Text (Refused Room) room
-      bad-room h = refused (lit< tt) (first-4 (text-only z d (length room)) (decimals-right few) (range-right raw) (A.room h))
-
-      pub text-written : {later : List ℕ} {k : ℕ} → length (text z d) ≤ length room → length room ≤ last → Put room later 0 k (text z d) → Text (Bytes k) later
-      text-written h l p = wrote-by (no-cause (text-only z d (length room)) (decimals-right few) (range-right raw) (room-enough h)) p l h
+      -- the text is written whole, or the room is too short for it
+      pub text-fronted : {s later : List ℕ} (r : Written) → s ≡ text z d → Writes (RoomCause (length room) (length s)) s room r later → Text r later
+      text-fronted {s} {later} r e w =
+          after-tests (λ h. no-cause (text-only z d (length room)) (decimals-right few) (range-right raw) (room-enough h))
+          (λ h. first-4 (text-only z d (length room)) (decimals-right few) (range-right raw) (A.room h))
+          (subst (λ (t : List ℕ). Writes (RoomCause (length room) (length t)) t room r later) e w)
 
 -- ---- byte_values::write
 
@@ -64,10 +64,9 @@ module _ (w : ℕ) (signed : Bool) (z : ℤ) (room : List ℕ) where
     not-held f = refused (lit< tt) (first-5 (value-only w signed z (length room)) (width-right known) (A.held f))
 
     module _ (held : Holds w signed z) where
-      pub no-room : length room < w → Value (Refused Room) room
-      no-room h = refused (lit< tt) (first-4 (value-only w signed z (length room)) (width-right known) (held-right held) (A.room h))
-
-      pub value-written : {later : List ℕ} {k : ℕ} → w ≤ length room → length room ≤ last → Put room later 0 k (valueBytes w z) → Value (Bytes k) later
-      value-written h l p =
-          wrote-by (no-cause (value-only w signed z (length room)) (width-right known) (held-right held) (bytes-enough h)) p l
-          (omega (arith, length-low w (twos w z)))
+      pub value-fronted : {s later : List ℕ} (r : Written) → s ≡ valueBytes w z → Writes (RoomCause (length room) (length s)) s room r later → Value r later
+      value-fronted {s} {later} r e v =
+          let n : length (valueBytes w z) ≡ w = length-low w (twos w z) in
+          after-tests (λ h. no-cause (value-only w signed z (length room)) (width-right known) (held-right held) (bytes-enough (omega arith)))
+          (λ h. first-4 (value-only w signed z (length room)) (width-right known) (held-right held) (A.room (omega arith)))
+          (subst (λ (t : List ℕ). Writes (RoomCause (length room) (length t)) t room r later) e v)

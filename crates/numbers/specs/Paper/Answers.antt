@@ -71,6 +71,7 @@ valueOf (NoValue why) = pos 0
 
 -- the number that w bytes hold and that is written s
 pub record ValueIn (w : ℕ) (signed : Bool) (s : List ℕ) (z : ℤ) : Type 0 where
+  pub known : Width w
   pub held : Holds w signed z
   pub bytes : valueBytes w z ≡ s
 

@@ -27,3 +27,7 @@ writtenCount (Refused why) = 0
 -- r is the right answer, and `later` the right room afterwards, of a call that writes bs from the front of a lent room
 abbrev pub Writes : (ℕ → Type 0) → List ℕ → List ℕ → Written → List ℕ → Type 0
 Writes Cause bs room r later = Wrote Cause bs room (writtenRefusal r) (writtenCount r) later
+
+-- 4: "lent room too short for the answer", the one cause of a call that has no other
+pub data RoomCause (room bytes : ℕ) : ℕ → Type 0 where
+  short : room < bytes → RoomCause room bytes 4

@@ -1,21 +1,20 @@
--- `numbers::byte_values::write` meets its contract: each refusal by the test before it, and else the first of the four bytes.
+-- `numbers::byte_values::write` meets its contract: each refusal by its test, in order, and else the first of the four bytes are written, or none.
 -- Assumes nothing.
 use mathlib.Core.Path.{ap, _∙_}
 use Prim.Native.Nat.{_-_}
 use native.Mathlib.Omega.{arith}
-use lib.ListN.{length}
 use lib.IntN.{ℤ}
+use lib.ListN.{length}
 use borrow.Author.Tests.{not-true, not-false}
 use borrow.Author.Needs.{needs}
 use Rattle.digits.specs.Paper.Read.{Tells, holds}
 use Rattle.digits.specs.Paper.LowFirst.{Width, four}
 use Rattle.digits.proofs.Laws.LowFirst.{length-low}
 use Rattle.digits.proofs.Laws.Tests.{told, untold}
-use Rattle.puts.proofs.Laws.Puts.{puts-as}
 use Rattle.numbers.specs.Paper.ByteValues.{twos, Holds}
 use Rattle.numbers.proofs.Laws.Signs.{back, read-back, said}
 use Rattle.numbers.proofs.Laws.Values.{width-le, size, held-in, in-raw, in-size}
-use Rattle.numbers.proofs.Laws.Writing.{value-part, bad-width, not-held, no-room, value-written}
+use Rattle.numbers.proofs.Laws.Writing.{value-part, bad-width, not-held, value-fronted}
 use Rattle.numbers.proofs.byte_values.write.Statement.{statement}
 use Rattle.numbers.proofs.byte_values.write.Tie as tie
 
@@ -44,44 +43,37 @@ returns-2 c =
     not-held (s .args .width) (s .args .signed) (s .args .raw) (s .args .room .now) (told (c .before .before .before .is-width .ensures) (not-false _ (c .before .before .if1 .left)))
     (untold (said (λ (y : ℤ). Tells (Holds (s .args .width) (s .args .signed) y) (c .before .holds .result)) (s .args .raw) (s .fits .raw) (c .before .holds .ensures)) (not-true _ (c .if2 .taken)))
 
-returns-3 : tie.Need-returns-3
-returns-3 c =
-    let u = c .before in
-    let s = u .before .before .before .before .before in
-    no-room (s .args .width) (s .args .signed) (s .args .raw) (s .args .room .now) (known u) (held u) (c .if3 .taken)
-
 in-twos-requires : tie.Need-in-twos-requires
 in-twos-requires c κs =
-    let u = c .before in
-    let s = u .before .before .before .before .before in
-    let z = size (known u) in
-    let i = held-in z (s .args .signed) (back (s .args .raw)) (told (u .before .holds .ensures) (not-false _ (u .if2 .left))) in
-    (known u, in-raw z i, in-size z i)
+    let s = c .before .before .before .before .before in
+    let z = size (known c) in
+    let i = held-in z (s .args .signed) (back (s .args .raw)) (told (c .before .holds .ensures) (not-false _ (c .if2 .left))) in
+    (known c, in-raw z i, in-size z i)
 
 four-requires : tie.Need-four-requires
 four-requires c κs = search needs
 
-sub-bytes : tie.Need-sub-bytes
-sub-bytes c = search needs
+sub-front : tie.Need-sub-front
+sub-front c = search needs
 
-part-bytes-start : tie.Need-part-bytes-start
-part-bytes-start c = search needs
+part-front-start : tie.Need-part-front-start
+part-front-start c = search needs
 
-part-bytes-end : tie.Need-part-bytes-end
-part-bytes-end c = let u = c .before .before .before .before in omega (arith, width-le (known u), ap length (c .before .four .ensures), length-low 4 (c .before .before .in-twos .result))
+part-front-end : tie.Need-part-front-end
+part-front-end c = let u = c .before .before .before in omega (arith, width-le (known u), ap length (c .before .four .ensures), length-low 4 (c .before .before .in-twos .result))
 
-bytes-requires : tie.Need-bytes-requires
-bytes-requires c κs = search needs
+front-requires : tie.Need-front-requires
+front-requires c κs = search needs
 
 same-length : tie.Need-same-length
 same-length c = search needs
 
-returns-4 : tie.Need-returns-4
-returns-4 c =
-    let u = c .before .before .before .before .before .before .before .before .before in
+returns-3 : tie.Need-returns-3
+returns-3 c =
+    let u = c .before .before .before .before .before .before .before .before in
     let s = u .before .before .before .before .before in
-    value-written (s .args .width) (s .args .signed) (s .args .raw) (s .args .room .now) (known u) (held u) (c .before .before .before .before .before .before .before .before .if3 .left) (omega (arith, s .good))
-    (puts-as (value-part (s .args .raw) (known u) (c .before .before .before .before .before .before .before .in-twos .ensures ∙ ap (twos (s .args .width)) (read-back (s .args .raw) (s .fits .raw))) (c .before .before .before .before .before .before .four .ensures)) (c .before .before .bytes .ensures))
+    value-fronted (s .args .width) (s .args .signed) (s .args .raw) (s .args .room .now) (known u) (held u) (c .before .before .front .result)
+    (value-part (s .args .raw) (known u) (c .before .before .before .before .before .before .before .in-twos .ensures ∙ ap (twos (s .args .width)) (read-back (s .args .raw) (s .fits .raw))) (c .before .before .before .before .before .before .four .ensures)) (c .before .before .front .ensures)
 
 pub write-spec : {M : Type 1} → statement M
 write-spec =
@@ -91,12 +83,11 @@ write-spec =
     returns
     holds-requires
     returns-2
-    returns-3
     in-twos-requires
     four-requires
-    sub-bytes
-    part-bytes-start
-    part-bytes-end
-    bytes-requires
+    sub-front
+    part-front-start
+    part-front-end
+    front-requires
     same-length
-    returns-4)
+    returns-3)

@@ -1,0 +1,100 @@
+-- For each public function: two answers that meet its promise, and the rooms afterwards, are the same.
+-- Assumes nothing.
+use mathlib.Core.Path.{_≡_, sym, ap, ap₂, _∙_}
+use mathlib.Core.Bool.{Bool}
+use mathlib.Core.List.{List}
+use Prim.Native.Nat.{ℕ}
+use native.Mathlib.Omega.{arith}
+use lib.IntN.{ℤ}
+use lib.Ieee.{Float}
+use lib.ListN.{length}
+use Rattle.digits.proofs.Laws.Reads.{one-reading}
+use Rattle.digits.proofs.Laws.Refusals.{one-refusal, some-number, one-answer}
+use Rattle.puts.specs.Paper.Wrote.{Writes}
+use Rattle.puts.specs.declared.Written.{Written}
+use Rattle.puts.proofs.Unique.{one-written}
+use Rattle.numbers.specs.Paper.Text.{text, Number}
+use Rattle.numbers.specs.Paper.ByteValues.{valueBytes}
+use Rattle.numbers.specs.Paper.Panel.{ClimatePair}
+use Rattle.numbers.specs.Paper.Answers.{TextCause, readingRefusal, readingValue, ReadsText, ValueCause, valueRefusal, valueOf, ValueIn, AnswersValue, fitsRefusal, fitsValue, AnswersFits, shownRefusal, shownValue, AnswersPanel}
+use Rattle.numbers.specs.declared.text.Reading.{Reading}
+use Rattle.numbers.specs.declared.text.Reading.the-variants.{Is as IsNumber, Refused as NoNumber}
+use Rattle.numbers.specs.declared.byte_values.Value.{Value}
+use Rattle.numbers.specs.declared.byte_values.Value.the-variants.{Is as IsValue, Refused as NoValue}
+use Rattle.numbers.specs.declared.single.Fit.{Fit}
+use Rattle.numbers.specs.declared.single.Fit.the-variants.{Is as IsFit, Refused as NoFit}
+use Rattle.numbers.specs.declared.panel.Climate.{Climate}
+use Rattle.numbers.specs.declared.panel.Shown.{Shown}
+use Rattle.numbers.specs.declared.panel.Shown.the-variants.{Is as IsShown, Refused as NotShown}
+use Rattle.numbers.proofs.Laws.Reader.{text-inj}
+use Rattle.numbers.proofs.Laws.Values.{size, held-in, value-inj}
+
+-- ---- text::write and byte_values::write
+
+pub text-written : {z : ℤ} {d : ℕ} {room s t : List ℕ} {r q : Written} → Writes (TextCause z d (length room)) (text z d) room r s
+    → Writes (TextCause z d (length room)) (text z d) room q t → (r ≡ q) × (s ≡ t)
+text-written a b = one-written a b
+
+pub value-written : {w : ℕ} {signed : Bool} {z : ℤ} {room s t : List ℕ} {r q : Written} → Writes (ValueCause w signed z (length room)) (valueBytes w z) room r s
+    → Writes (ValueCause w signed z (length room)) (valueBytes w z) room q t → (r ≡ q) × (s ≡ t)
+value-written a b = one-written a b
+
+-- ---- text::read: an answer is its number and its values
+
+reading-answer : (r q : Reading) → readingRefusal r ≡ readingRefusal q → readingValue r ≡ readingValue q → r ≡ q
+reading-answer (IsNumber y d) (IsNumber z e) n v = ap₂ IsNumber (ap (λ (x : Number). x .raw) v) (ap (λ (x : Number). x .decimals) v)
+reading-answer (IsNumber y d) (NoNumber why) n v = absurd (omega (arith, some-number why))
+reading-answer (NoNumber why) (IsNumber z e) n v = absurd (omega (arith, some-number why))
+reading-answer (NoNumber p) (NoNumber q) n v = ap NoNumber (one-refusal p q n)
+
+same-number : (m n : Number) → text (m .raw) (m .decimals) ≡ text (n .raw) (n .decimals) → m ≡ n
+same-number m n e =
+    let i = text-inj (m .raw) (n .raw) (m .decimals) (n .decimals) e in
+    ap₂ (λ (z : ℤ) (d : ℕ). record { raw = z; decimals = d }) (i .0) (i .1)
+
+pub text-read : (t : List ℕ) (r q : Reading) → ReadsText t r → ReadsText t q → r ≡ q
+text-read t r q a b =
+    let e = one-reading (omega arith) (λ m n h k f. same-number m n f) a b in
+    reading-answer r q (e .0) (e .1)
+
+-- ---- byte_values::read
+
+value-answer : (r q : Value) → valueRefusal r ≡ valueRefusal q → valueOf r ≡ valueOf q → r ≡ q
+value-answer (IsValue y) (IsValue z) n v = ap IsValue v
+value-answer (IsValue y) (NoValue why) n v = absurd (omega (arith, some-number why))
+value-answer (NoValue why) (IsValue z) n v = absurd (omega (arith, some-number why))
+value-answer (NoValue p) (NoValue q) n v = ap NoValue (one-refusal p q n)
+
+pub value-read : (w : ℕ) (signed : Bool) (s : List ℕ) (r q : Value) → AnswersValue w signed s r → AnswersValue w signed s q → r ≡ q
+value-read w signed s r q a b = let e = one-answer same a b in value-answer r q (e .0) (e .1)
+  where
+    same : (y z : ℤ) → ValueIn w signed s y → ValueIn w signed s z → y ≡ z
+    same y z h k =
+        let n = size (h .known) in
+        value-inj n (held-in n signed y (h .held)) (held-in n signed z (k .held)) (h .bytes ∙ sym (k .bytes))
+
+-- ---- single::fits
+
+fit-answer : (r q : Fit) → fitsRefusal r ≡ fitsRefusal q → fitsValue r ≡ fitsValue q → r ≡ q
+fit-answer (IsFit a) (IsFit b) n v = ap IsFit v
+fit-answer (IsFit a) (NoFit why) n v = absurd (omega (arith, some-number why))
+fit-answer (NoFit why) (IsFit b) n v = absurd (omega (arith, some-number why))
+fit-answer (NoFit p) (NoFit q) n v = ap NoFit (one-refusal p q n)
+
+pub fits : (z : ℤ) (r q : Fit) → AnswersFits z r → AnswersFits z q → r ≡ q
+fits z r q a b = let e = one-answer (λ x y g h. g ∙ sym h) a b in fit-answer r q (e .0) (e .1)
+
+-- ---- panel::of and panel::pair
+
+shown-answer : (r q : Shown) → shownRefusal r ≡ shownRefusal q → shownValue r ≡ shownValue q → r ≡ q
+shown-answer (IsShown x) (IsShown y) n v = ap IsShown v
+shown-answer (IsShown x) (NotShown why) n v = absurd (omega (arith, some-number why))
+shown-answer (NotShown why) (IsShown y) n v = absurd (omega (arith, some-number why))
+shown-answer (NotShown p) (NotShown q) n v = ap NotShown (one-refusal p q n)
+
+pub panel-shown : (z : ℤ) (r q : Shown) → AnswersPanel z r → AnswersPanel z q → r ≡ q
+panel-shown z r q a b = let e = one-answer (λ x y g h. g .cast ∙ sym (h .cast)) a b in shown-answer r q (e .0) (e .1)
+
+pub climate : (t h : ℤ) (r q : Climate) → ClimatePair t h (r .temperature) (r .humidity) → ClimatePair t h (q .temperature) (q .humidity) → r ≡ q
+climate t h r q a b =
+    ap₂ (λ (x y : Float). record { temperature = x; humidity = y }) (a .first .cast ∙ sym (b .first .cast)) (a .second .cast ∙ sym (b .second .cast))
