@@ -1,4 +1,7 @@
-// The checks by C's calling convention, for the tests and benchmarks that are written in C. Not part of the product.
+// The checks and the calls of `numbers` by C's calling convention, for the tests and benchmarks that are written in C. Not part of
+// the product.
+mod number_calls;
+
 ghost use mathlib.Core.Path.{_≡_};
 ghost use Rattle.checks.specs.Paper.Check.{feed, check};
 ghost use Rattle.checks.specs.Paper.Buses.{nikobusCrc16, nikobusCrc8, nestCrc, nibeXor, homiqCrc};
