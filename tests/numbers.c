@@ -4,12 +4,12 @@
    numbers SEED: prints the seed, each difference, and `N passed, M failed`: a test is a property, over all inputs. */
 #include "probe.h"
 
-enum property { TEXT, TEXT_ROOM, READ_BACK, READ, VALUE, VALUE_ROOM, VALUE_BACK, VALUE_READ, FITS, PANEL, PROPERTIES };
+enum property { TEXT, TEXT_ROOM, READ_BACK, READ, VALUE, VALUE_ROOM, VALUE_BACK, VALUE_READ, FITS, PANEL, CLIMATE, PROPERTIES };
 
 static const char *const names[PROPERTIES] = {
     "the text", "the room behind the text", "a text read back", "any text read",
     "the bytes", "the room behind the bytes", "bytes read back", "any bytes read",
-    "fits a single", "the panel's float",
+    "fits a single", "the panel's float", "a climate message's singles",
 };
 
 static unsigned tried[PROPERTIES], wrong[PROPERTIES];
@@ -214,6 +214,12 @@ static void try_float(i64 raw) {
     expect(PANEL, b.refusal == wanted.refusal && b.size == wanted.size && b.bits == wanted.bits, raw, 0);
 }
 
+static void try_climate(i16 temperature, u16 humidity) {
+    float t = (float)temperature, h = (float)humidity;
+    struct pair got = probe_climate(temperature, humidity);
+    expect(CLIMATE, !memcmp(&got.temperature, &t, 4) && !memcmp(&got.humidity, &h, 4), temperature, humidity);
+}
+
 static void try_number(i64 raw) {
     for (u32 decimals = 0; decimals < 5; decimals++)
         try_text(raw, decimals);
@@ -233,6 +239,14 @@ int main(int count, char **words) {
             seed = seed * 10 + (u64)(*p - '0');
     printf("seed %lu\n", (unsigned long)seed);
     state = seed * 0x9E3779B97F4A7C15u + 1;
+    /* the paper's numbers */
+    static const i64 papers[] = {0, -5, -125, 16777216, 16777217, 33554434, 4294967040, 65535, -32768, 4294967295, -2147483648, 40004};
+    for (usize i = 0; i < sizeof papers / sizeof *papers; i++)
+        for (int t = 0; t < 100; t++)
+            try_number(papers[i]);
+    /* all counts of 16 bits */
+    for (u32 n = 0; n < 65536; n++)
+        try_climate((i16)n, (u16)(n * 40503));
     /* around each power of two and of ten, on both sides of zero */
     for (i64 p = 1; p < (i64)1 << 40; p *= 2)
         for (i64 near = -3; near <= 3; near++) {

@@ -14,6 +14,7 @@ ghost use mathlib.Core.Path.{_≡_};
 ghost use mathlib.Core.Bool.{false, not};
 ghost use lib.Dec.{eqb};
 ghost use lib.IntN.{pos};
+ghost use lib.Ieee.{binary32, ofInt, toBits};
 ghost use lib.ListN.{length};
 ghost use Rattle.digits.specs.Paper.Read.{Reads};
 ghost use Rattle.digits.specs.Paper.Refusals.{refusalNumber, Answers};
@@ -48,6 +49,12 @@ pub struct Bits {
     pub refusal: u32,
     pub size: u32,
     pub bits: u64,
+}
+
+#[repr(C)]
+pub struct Pair {
+    pub temperature: u32,
+    pub humidity: u32,
 }
 
 #[no_mangle]
@@ -135,6 +142,17 @@ pub extern "C" fn probe_panel(raw: i64) -> Bits
             size: 4,
             bits: 0,
         },
+    }
+}
+
+#[no_mangle]
+pub extern "C" fn probe_climate(temperature: i16, humidity: u16) -> Pair
+    ensures { λ r. ⌜ (r .temperature ≡ toBits binary32 (ofInt binary32 temperature)) × (r .humidity ≡ toBits binary32 (ofInt binary32 (pos humidity))) ⌝ }
+{
+    let c = panel::pair(temperature, humidity);
+    Pair {
+        temperature: f32::to_bits(c.temperature),
+        humidity: f32::to_bits(c.humidity),
     }
 }
 
