@@ -14,11 +14,12 @@ build() {
             "$lib/libc.so.6" "$lib/libc_nonshared.a" "$lib/ld-linux-x86-64.so.2" "$lib/libgcc.a" "$lib/crtendS.o" "$lib/crtn.o"
 }
 
-# run PROGRAM ARGUMENTS..
+# run PROGRAM ARGUMENTS..: on another processor the emulator starts the kit's own loader, which a program that `rt` linked does not
+# name.
 run() {
     if [ "$(uname -m)" = x86_64 ]; then
         "$@"
     else
-        "$tools/qemu-x86_64" "$@"
+        "$tools/qemu-x86_64" "$lib/ld-linux-x86-64.so.2" --library-path "$lib" "$@"
     fi
 }

@@ -2,12 +2,18 @@
 // script that shares no code with it makes.
 mod check_cases;
 mod digit_cases;
+mod number_cases;
 mod print;
 
 fn main() {
     digit_cases::hex();
     digit_cases::decimal();
     digit_cases::low_first();
+    number_cases::texts();
+    number_cases::readings();
+    number_cases::values();
+    number_cases::bytes();
+    number_cases::singles();
     check_cases::papers();
     check_cases::catalogue();
 }

@@ -1,4 +1,6 @@
 // What the cases are written with.
+use digits::refusal;
+use digits::refusal::Refusal;
 use libc::STDOUT_FILENO;
 
 // Some bytes as they are.
@@ -27,6 +29,11 @@ pub(crate) fn hex(s: &[u8]) {
 pub(crate) fn refused(n: u64) {
     bytes(b"refused ");
     number(n);
+}
+
+// The same of a refusal that has a name.
+pub(crate) fn refusal(why: Refusal) {
+    refused(refusal::number(why) as u64);
 }
 
 pub(crate) fn end() {
