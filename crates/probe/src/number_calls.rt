@@ -22,7 +22,7 @@ ghost use Rattle.puts.specs.Paper.Wrote.{writtenRefusal, writtenCount, Wrote};
 ghost use Rattle.numbers.specs.Paper.Text.{text, InLimits};
 ghost use Rattle.numbers.specs.Paper.ByteValues.{valueBytes};
 ghost use Rattle.numbers.specs.Paper.Single.{fitsSingle};
-ghost use Rattle.numbers.specs.Paper.Answers.{TextCause, ValueCause, BytesCause, ValueIn, RangeCause};
+ghost use Rattle.numbers.specs.Paper.Answers.{TextCause, zeroNumber, ValueCause, BytesCause, ValueIn, RangeCause};
 ghost use Rattle.probe.specs.Panel.{PanelBits};
 
 #[repr(C)]
@@ -66,7 +66,7 @@ pub extern "C" fn probe_text(raw: i64, decimals: u32, room: &mut [u8]) -> Count
 
 #[no_mangle]
 pub extern "C" fn probe_text_read(t: &[u8]) -> Number
-    ensures { λ r. ⌜ Reads (record { raw = pos 0; decimals = 0 }) InLimits (λ n. text (n .raw) (n .decimals)) 7 (now (t .entry)) (r .refusal) (record { raw = r .raw; decimals = r .decimals }) ⌝ }
+    ensures { λ r. ⌜ Reads zeroNumber InLimits (λ n. text (n .raw) (n .decimals)) 7 (now (t .entry)) (r .refusal) (record { raw = r .raw; decimals = r .decimals }) ⌝ }
 {
     match text::read(t) {
         Reading::Is(raw, decimals) => Number {

@@ -28,6 +28,7 @@ use Rattle.numbers.specs.declared.panel.Shown.the-variants.{Is as IsShow
 
 -- ---- text::write: why the text of z at d decimals is not written into a room of n bytes
 
+-- 01, "Refusal numbers": 7 "decimals .. not as above"; 5 "a raw number out of range"; 4 "lent room too short for the answer"
 pub data TextCause (z : ℤ) (d n : ℕ) : ℕ → Type 0 where
   decimals : mostDecimals < d → TextCause z d n 7
   range : (Raw z → ⊥) → TextCause z d n 5
@@ -35,21 +36,24 @@ pub data TextCause (z : ℤ) (d n : ℕ) : ℕ → Type 0 where
 
 -- ---- text::read
 
+abbrev pub zeroNumber : Number
+zeroNumber = record { raw = pos 0; decimals = 0 }
+
 abbrev pub readingRefusal : Reading → ℕ
 readingRefusal (IsNumber z d) = 0
 readingRefusal (NoNumber why) = refusalNumber why
 
 abbrev pub readingValue : Reading → Number
 readingValue (IsNumber z d) = record { raw = z; decimals = d }
-readingValue (NoNumber why) = record { raw = pos 0; decimals = 0 }
+readingValue (NoNumber why) = zeroNumber
 
--- the number whose text t is, or 7: "number text not as above, or a text whose number is out of range"
+-- the number whose text t is; or 7, "number text not as above, or a text whose number is out of range"
 abbrev pub ReadsText : List ℕ → Reading → Type 0
-ReadsText t r =
-    Reads (record { raw = pos 0; decimals = 0 }) InLimits (λ n. text (n .raw) (n .decimals)) 7 t (readingRefusal r) (readingValue r)
+ReadsText t r = Reads zeroNumber InLimits (λ n. text (n .raw) (n .decimals)) 7 t (readingRefusal r) (readingValue r)
 
 -- ---- byte_values::write: why z is not written as w bytes into a room of n
 
+-- 7 "width .. not as above"; 5 "a raw number .. not held by its width and sign"; 4 "lent room too short for the answer"
 pub data ValueCause (w : ℕ) (signed : Bool) (z : ℤ) (n : ℕ) : ℕ → Type 0 where
   width : (Width w → ⊥) → ValueCause w signed z n 7
   held : (Holds w signed z → ⊥) → ValueCause w signed z n 5
@@ -57,6 +61,7 @@ pub data ValueCause (w : ℕ) (signed : Bool) (z : ℤ) (n : ℕ) : ℕ → Type
 
 -- ---- byte_values::read: why s is not read as w bytes
 
+-- 7 "width .. not as above"; 5 "a field .. outside its limits": there are not w bytes
 pub data BytesCause (w : ℕ) (s : List ℕ) : ℕ → Type 0 where
   width : (Width w → ⊥) → BytesCause w s 7
   count : (length s ≡ w → ⊥) → BytesCause w s 5
@@ -80,6 +85,7 @@ AnswersValue w signed s r = Answers (pos 0) (BytesCause w s) (ValueIn w signed s
 
 -- ---- single::fits and panel::of: why z is refused
 
+-- 5 "a raw number out of range"
 pub data RangeCause (z : ℤ) : ℕ → Type 0 where
   range : (Raw z → ⊥) → RangeCause z 5
 
@@ -98,10 +104,13 @@ abbrev pub shownRefusal : Shown → ℕ
 shownRefusal (IsShown v) = 0
 shownRefusal (NotShown why) = refusalNumber why
 
--- a refusal's float is 0.0
+-- 0.0
+abbrev pub zeroFloat : PanelValue
+zeroFloat = Single (fin false 0 (pos 0))
+
 abbrev pub shownValue : Shown → PanelValue
 shownValue (IsShown v) = v
-shownValue (NotShown why) = Single (fin false 0 (pos 0))
+shownValue (NotShown why) = zeroFloat
 
 abbrev pub AnswersPanel : ℤ → Shown → Type 0
-AnswersPanel z r = Answers (Single (fin false 0 (pos 0))) (RangeCause z) (Panel z) (shownRefusal r) (shownValue r)
+AnswersPanel z r = Answers zeroFloat (RangeCause z) (Panel z) (shownRefusal r) (shownValue r)

@@ -17,7 +17,7 @@ fromFirstOne [] = []
 fromFirstOne (true ∷ bs) = true ∷ bs
 fromFirstOne (false ∷ bs) = fromFirstOne bs
 
--- the bits of a number of 32 bits, without its trailing zeros and then without its leading ones
+-- the bits of a magnitude, without its trailing zeros and then without its leading ones. (A raw number's magnitude has 32 bits.)
 unfoldable pub significantBits : ℕ → List Bool
 significantBits n = fromFirstOne (reverse (fromFirstOne (lows 32 n)))
 
