@@ -3,6 +3,7 @@
 
    checks SEED: prints the seed, each difference, and `N passed, M failed`: a test is a check and a property, over all inputs. */
 #include "probe.h"
+#include "trials.h"
 
 enum { MOST = 1100 };
 
@@ -69,15 +70,6 @@ static u32 remainder_of(const struct check *c, const u8 *s, usize n) {
     return r;
 }
 
-static u64 state;
-
-static u32 any(void) {
-    state ^= state << 13;
-    state ^= state >> 7;
-    state ^= state << 17;
-    return (u32)(state >> 16);
-}
-
 static void fill(u8 *s, usize n) {
     u32 kind = any() % 4;
     for (usize i = 0; i < n; i++)
@@ -110,12 +102,7 @@ static void trial(const struct check *c, u8 *s, usize n) {
 
 int main(int count, char **words) {
     static u8 s[MOST];
-    u64 seed = 0;
-    if (count > 1)
-        for (const char *p = words[1]; *p >= '0' && *p <= '9'; p++)
-            seed = seed * 10 + (u64)(*p - '0');
-    printf("seed %lu\n", (unsigned long)seed);
-    state = seed * 0x9E3779B97F4A7C15u + 1;
+    begin(count, words);
     for (usize k = 0; k < sizeof checks / sizeof *checks; k++) {
         for (usize n = 0; n < 64; n++) {
             fill(s, n);

@@ -3,6 +3,7 @@
 
    numbers SEED: prints the seed, each difference, and `N passed, M failed`: a test is a property, over all inputs. */
 #include "probe.h"
+#include "trials.h"
 
 enum property { TEXT, TEXT_ROOM, READ_BACK, READ, VALUE, VALUE_ROOM, VALUE_BACK, VALUE_READ, FITS, PANEL, CLIMATE, PROPERTIES };
 
@@ -18,15 +19,6 @@ static void expect(enum property p, int right, i64 raw, i64 with) {
     tried[p]++;
     if (!right && !wrong[p]++)
         printf("%s: wrong at %lld, %lld\n", names[p], (long long)raw, (long long)with);
-}
-
-static u64 state;
-
-static u64 any(void) {
-    state ^= state << 13;
-    state ^= state >> 7;
-    state ^= state << 17;
-    return state * 0x2545F4914F6CDD1Du;
 }
 
 static const i64 LOWEST = -2147483648LL, HIGHEST = 4294967295LL;
@@ -233,12 +225,7 @@ static void try_number(i64 raw) {
 }
 
 int main(int count, char **words) {
-    u64 seed = 0;
-    if (count > 1)
-        for (const char *p = words[1]; *p >= '0' && *p <= '9'; p++)
-            seed = seed * 10 + (u64)(*p - '0');
-    printf("seed %lu\n", (unsigned long)seed);
-    state = seed * 0x9E3779B97F4A7C15u + 1;
+    begin(count, words);
     /* the paper's numbers */
     static const i64 papers[] = {0, -5, -125, 16777216, 16777217, 33554434, 4294967040, 65535, -32768, 4294967295, -2147483648, 40004};
     for (usize i = 0; i < sizeof papers / sizeof *papers; i++)
@@ -260,9 +247,9 @@ int main(int count, char **words) {
         }
     /* any number of any length; and some with few bits between their zeros */
     for (int t = 0; t < 30000; t++) {
-        try_number((i64)(any() >> (any() % 64)));
-        try_number(-(i64)(any() >> (1 + any() % 63)));
-        try_number((i64)((any() >> 38 | 1) << any() % 12));
+        try_number((i64)((any() << 32 ^ any()) >> (any() % 64)));
+        try_number(-(i64)((any() << 32 ^ any()) >> (1 + any() % 63)));
+        try_number((i64)((any() >> 30 | 1) << any() % 12));
     }
     try_number((i64)((u64)1 << 63));
 

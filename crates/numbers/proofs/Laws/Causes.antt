@@ -15,17 +15,18 @@ use Rattle.numbers.specs.Paper.ByteValues.{Holds}
 use Rattle.numbers.specs.Paper.Answers as A
 use Rattle.numbers.specs.Paper.Answers.{TextCause, ValueCause, BytesCause, RangeCause}
 
--- no other causes than 7, 5 and 4
-pub record Only754 (C : ℕ → Type 0) : Type 0 where
-  pub not8 : C 8 → ⊥
-  pub not2 : C 2 → ⊥
-  pub not3 : C 3 → ⊥
-  pub not6 : C 6 → ⊥
-  pub not1 : C 1 → ⊥
+-- the numbers that the calls of this crate refuse with
+pub data Ours : ℕ → Type 0 where
+  seven : Ours 7
+  five : Ours 5
+  four : Ours 4
 
-module _ {C : ℕ → Type 0} (o : Only754 C) where
+module _ {C : ℕ → Type 0} (ours : (k : ℕ) → C k → Ours k) where
+  not-6 : C 6 → ⊥
+  not-6 c = elim (ours 6 c) [ ]
+
   from-7 : {k : ℕ} → First C (7 ∷ 5 ∷ 6 ∷ 4 ∷ 1 ∷ []) k → First C order k
-  from-7 f = after (o .not8) (after (o .not2) (after (o .not3) f))
+  from-7 f = after (λ c. elim (ours 8 c) [ ]) (after (λ c. elim (ours 2 c) [ ]) (after (λ c. elim (ours 3 c) [ ]) f))
 
   pub first-7 : C 7 → First C order 7
   first-7 c = from-7 (here c)
@@ -34,24 +35,19 @@ module _ {C : ℕ → Type 0} (o : Only754 C) where
   first-5 n7 c = from-7 (after n7 (here c))
 
   pub first-4 : (C 7 → ⊥) → (C 5 → ⊥) → C 4 → First C order 4
-  first-4 n7 n5 c = from-7 (after n7 (after n5 (after (o .not6) (here c))))
+  first-4 n7 n5 c = from-7 (after n7 (after n5 (after not-6 (here c))))
 
   pub no-cause : (C 7 → ⊥) → (C 5 → ⊥) → (C 4 → ⊥) → First C order 0
-  no-cause n7 n5 n4 = from-7 (after n7 (after n5 (after (o .not6) (after n4 (after (o .not1) clear)))))
+  no-cause n7 n5 n4 = from-7 (after n7 (after n5 (after not-6 (after n4 (after (λ c. elim (ours 1 c) [ ]) clear)))))
 
 -- ---- text::write
 
-pub text-only : (z : ℤ) (d n : ℕ) → Only754 (TextCause z d n)
-text-only z d n =
-    record {
-      not8 = λ u. elim u [ ];
-      not2 = λ u. elim u [ ];
-      not3 = λ u. elim u [ ];
-      not6 = λ u. elim u [ ];
-      not1 = λ u. elim u [ ];
-    }
-
 module _ {z : ℤ} {d n : ℕ} where
+  pub text-ours : (k : ℕ) → TextCause z d n k → Ours k
+  text-ours k (A.decimals h) = seven
+  text-ours k (A.range f) = five
+  text-ours k (A.room h) = four
+
   pub decimals-right : d ≤ mostDecimals → TextCause z d n 7 → ⊥
   decimals-right h (A.decimals k) = lt-irrefl mostDecimals (lt-of-lt-of-le k h)
 
@@ -63,17 +59,12 @@ module _ {z : ℤ} {d n : ℕ} where
 
 -- ---- byte_values::write
 
-pub value-only : (w : ℕ) (signed : Bool) (z : ℤ) (n : ℕ) → Only754 (ValueCause w signed z n)
-value-only w signed z n =
-    record {
-      not8 = λ u. elim u [ ];
-      not2 = λ u. elim u [ ];
-      not3 = λ u. elim u [ ];
-      not6 = λ u. elim u [ ];
-      not1 = λ u. elim u [ ];
-    }
-
 module _ {w : ℕ} {signed : Bool} {z : ℤ} {n : ℕ} where
+  pub value-ours : (k : ℕ) → ValueCause w signed z n k → Ours k
+  value-ours k (A.width f) = seven
+  value-ours k (A.held f) = five
+  value-ours k (A.room h) = four
+
   pub width-right : Width w → ValueCause w signed z n 7 → ⊥
   width-right h (A.width f) = f h
 
@@ -85,17 +76,11 @@ module _ {w : ℕ} {signed : Bool} {z : ℤ} {n : ℕ} where
 
 -- ---- byte_values::read
 
-pub bytes-only : (w : ℕ) (s : List ℕ) → Only754 (BytesCause w s)
-bytes-only w s =
-    record {
-      not8 = λ u. elim u [ ];
-      not2 = λ u. elim u [ ];
-      not3 = λ u. elim u [ ];
-      not6 = λ u. elim u [ ];
-      not1 = λ u. elim u [ ];
-    }
-
 module _ {w : ℕ} {s : List ℕ} where
+  pub bytes-ours : (k : ℕ) → BytesCause w s k → Ours k
+  bytes-ours k (A.width f) = seven
+  bytes-ours k (A.count f) = five
+
   pub width-known : Width w → BytesCause w s 7 → ⊥
   width-known h (A.width f) = f h
 
@@ -107,22 +92,15 @@ module _ {w : ℕ} {s : List ℕ} where
 
 -- ---- single::fits and panel::of
 
-range-only : (z : ℤ) → Only754 (RangeCause z)
-range-only z =
-    record {
-      not8 = λ u. elim u [ ];
-      not2 = λ u. elim u [ ];
-      not3 = λ u. elim u [ ];
-      not6 = λ u. elim u [ ];
-      not1 = λ u. elim u [ ];
-    }
+range-ours : {z : ℤ} (k : ℕ) → RangeCause z k → Ours k
+range-ours k (A.range f) = five
 
 module _ (z : ℤ) where
   pub out-of-range : (Raw z → ⊥) → First (RangeCause z) order 5
-  out-of-range f = first-5 (range-only z) (λ u. elim u [ ]) (A.range f)
+  out-of-range f = first-5 range-ours (λ u. elim u [ ]) (A.range f)
 
   pub in-range : Raw z → First (RangeCause z) order 0
-  in-range r = no-cause (range-only z) (λ u. elim u [ ]) raw (λ u. elim u [ ])
+  in-range r = no-cause range-ours (λ u. elim u [ ]) raw (λ u. elim u [ ])
     where
       raw : RangeCause z 5 → ⊥
       raw (A.range f) = f r
