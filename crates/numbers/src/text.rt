@@ -33,11 +33,11 @@ pub fn write(raw: i64, decimals: u32, room: &mut [u8]) -> Written
     ensures { λ r. ⌜ Writes (TextCause raw decimals (length (now (room .entry)))) (text raw decimals) (now (room .entry)) r (now (room .exit)) ⌝ }
 {
     let few = decimals <= 3;
-    let known = raw::in_range(raw);
+    let in_range = raw::in_range(raw);
     if !few {
         return Written::Refused(Refusal::Form);
     }
-    if !known {
+    if !in_range {
         return Written::Refused(Refusal::Limits);
     }
     let t = text_of(raw, decimals);

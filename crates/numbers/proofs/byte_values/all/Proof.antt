@@ -1,7 +1,7 @@
 -- `numbers::byte_values::all` meets its contract: width by width.
 -- Assumes nothing.
 use mathlib.Core.Path.{sym, ap}
-use Prim.Native.Nat.{ℕ, _-_, _^_}
+use Prim.Native.Nat.{ℕ, _^_}
 use Rattle.numbers.proofs.Laws.Values.{is-four}
 use Rattle.numbers.proofs.byte_values.all.Statement.{statement}
 use Rattle.numbers.proofs.byte_values.all.Tie as tie

@@ -1,6 +1,5 @@
 -- `numbers::byte_values::holds` meets its contract: the ends are the definition's.
 -- Assumes nothing.
-use Prim.Native.Nat.{_-_}
 use borrow.Author.Needs.{needs}
 use Rattle.numbers.proofs.Laws.Values.{ends-fit, between-ends}
 use Rattle.numbers.proofs.byte_values.holds.Statement.{statement}

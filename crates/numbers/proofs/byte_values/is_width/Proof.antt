@@ -1,7 +1,6 @@
 -- `numbers::byte_values::is_width` meets its contract: test by test.
 -- Assumes nothing.
 use mathlib.Core.Path.{sym, subst}
-use Prim.Native.Nat.{_-_}
 use Rattle.digits.specs.Paper.Read.{holds, fails}
 use Rattle.digits.specs.Paper.LowFirst.{Width, one, two, four}
 use Rattle.digits.proofs.Laws.LowFirst.{no-width}

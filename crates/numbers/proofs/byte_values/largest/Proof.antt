@@ -1,6 +1,5 @@
 -- `numbers::byte_values::largest` meets its contract: width by width, signed and not.
 -- Assumes nothing.
-use Prim.Native.Nat.{_-_}
 use Rattle.numbers.specs.Paper.ByteValues.{most}
 use Rattle.numbers.proofs.Laws.Values.{is-four, end-is}
 use Rattle.numbers.proofs.byte_values.largest.Statement.{statement}

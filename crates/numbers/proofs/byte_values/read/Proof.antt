@@ -1,7 +1,7 @@
 -- `numbers::byte_values::read` meets its contract: the tests refuse by their causes; of a width that there is, all bytes are a number's.
 -- Assumes nothing.
 use mathlib.Core.Path.{_≡_, refl, sym, ap, _∙_, subst}
-use Prim.Native.Nat.{ℕ, _-_, _^_, _<_}
+use Prim.Native.Nat.{ℕ, _^_, _<_}
 use lib.Dec.{lit<}
 use lib.ListN.{length}
 use borrow.Author.Tests.{not-true, not-false}
@@ -12,7 +12,7 @@ use Rattle.digits.proofs.Laws.LowFirst.{never-refused}
 use Rattle.digits.proofs.Laws.Tests.{told, untold}
 use Rattle.digits.proofs.Laws.Reads.{answered}
 use Rattle.numbers.specs.Work.ByteValues.{ofTwos}
-use Rattle.numbers.proofs.Laws.Signs.{raw-fits, back, read-back, below}
+use Rattle.numbers.proofs.Laws.Signs.{raw-fits, back, read-back}
 use Rattle.numbers.proofs.Laws.Values.{size, in-raw, of-twos}
 use Rattle.numbers.proofs.Laws.Reading.{unknown-width, other-count, value-read}
 use Rattle.numbers.proofs.byte_values.read.Statement.{statement}

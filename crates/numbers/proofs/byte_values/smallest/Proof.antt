@@ -1,7 +1,6 @@
 -- `numbers::byte_values::smallest` meets its contract: width by width.
 -- Assumes nothing.
 use mathlib.Core.Path.{refl}
-use Prim.Native.Nat.{_-_}
 use borrow.Author.Tests.{not-true, not-false}
 use Rattle.numbers.specs.Paper.ByteValues.{least}
 use Rattle.numbers.proofs.Laws.Values.{is-four, end-is}

@@ -2,7 +2,7 @@
 -- Assumes nothing.
 use mathlib.Core.Path.{sym, ap, _∙_}
 use mathlib.Core.Bool.{Bool}
-use Prim.Native.Nat.{ℕ, _-_, _*_}
+use Prim.Native.Nat.{ℕ, _*_}
 use lib.Dec.{leb}
 use borrow.Author.Needs.{needs}
 use Rattle.numbers.specs.Work.ByteValues.{standsBelow}

@@ -1,14 +1,13 @@
 -- `numbers::byte_values::write` meets its contract: each refusal by its test, in order, and else the first of the four bytes are written, or none.
 -- Assumes nothing.
 use mathlib.Core.Path.{ap, _∙_}
-use Prim.Native.Nat.{_-_}
 use native.Mathlib.Omega.{arith}
 use lib.IntN.{ℤ}
 use lib.ListN.{length}
 use borrow.Author.Tests.{not-true, not-false}
 use borrow.Author.Needs.{needs}
-use Rattle.digits.specs.Paper.Read.{Tells, holds}
-use Rattle.digits.specs.Paper.LowFirst.{Width, four}
+use Rattle.digits.specs.Paper.Read.{Tells}
+use Rattle.digits.specs.Paper.LowFirst.{Width}
 use Rattle.digits.proofs.Laws.LowFirst.{length-low}
 use Rattle.digits.proofs.Laws.Tests.{told, untold}
 use Rattle.numbers.specs.Paper.ByteValues.{twos, Holds}

@@ -2,13 +2,13 @@
 -- Assumes nothing.
 use mathlib.Core.Path.{_≡_, subst}
 use mathlib.Core.List.{List}
-use Prim.Native.Nat.{ℕ, _-_}
+use Prim.Native.Nat.{ℕ}
 use native.Mathlib.Omega.{arith}
 use lib.IntN.{ℤ}
 use borrow.Author.Needs.{needs}
 use Rattle.digits.specs.Paper.Read.{Tells}
 use Rattle.numbers.specs.Paper.Text.{text}
-use Rattle.numbers.proofs.Laws.Signs.{said, within}
+use Rattle.numbers.proofs.Laws.Signs.{said}
 use Rattle.numbers.proofs.text.is_text.Statement.{statement}
 use Rattle.numbers.proofs.text.is_text.Tie as tie
 

@@ -1,6 +1,5 @@
 -- `numbers::text::minus_first` meets its contract: there is a first character, or there is none.
 -- Assumes nothing.
-use Prim.Native.Nat.{_-_}
 use borrow.Author.Needs.{needs}
 use Rattle.numbers.proofs.Laws.Reader.{minus-at, minus-none}
 use Rattle.numbers.proofs.text.minus_first.Statement.{statement}

@@ -1,7 +1,7 @@
 -- `numbers::text::put_fraction` meets its contract: the digits of 10 ^ d and the fraction are a `1` and then the d digits behind the point.
 -- Assumes nothing.
 use mathlib.Core.Path.{sym}
-use Prim.Native.Nat.{_+_, _-_, _%_, _<_}
+use Prim.Native.Nat.{_+_, _%_, _<_}
 use native.Mathlib.Nat.{mod-lt}
 use native.Mathlib.Omega.{arith}
 use borrow.Author.Needs.{needs}
@@ -10,7 +10,6 @@ use mir.Val.{Fits}
 use Rattle.digits.proofs.Laws.Decimal.{length-chars}
 use Rattle.puts.proofs.Laws.Puts.{none, _then_, puts-as}
 use Rattle.numbers.proofs.Laws.Text.{ten-pos, fraction-some, fraction-none, fraction-part, unit-le}
-use Rattle.numbers.proofs.Laws.Signs.{below}
 use Rattle.numbers.proofs.text.put_fraction.Statement.{statement}
 use Rattle.numbers.proofs.text.put_fraction.Tie as tie
 

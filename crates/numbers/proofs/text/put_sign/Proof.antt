@@ -1,7 +1,6 @@
 -- `numbers::text::put_sign` meets its contract: a minus, or nothing.
 -- Assumes nothing.
 use mathlib.Core.Path.{sym, ap}
-use Prim.Native.Nat.{_-_}
 use borrow.Author.Needs.{needs}
 use Rattle.puts.proofs.Laws.Puts.{none, puts-as}
 use Rattle.numbers.specs.Paper.Text.{sign}

@@ -1,6 +1,5 @@
 -- `numbers::text::stepped` meets its contract: a digit, or a character before `0`.
 -- Assumes nothing.
-use Prim.Native.Nat.{_-_}
 use borrow.Author.Tests.{lt-ltb, le-ltb}
 use borrow.Author.Needs.{needs}
 use Rattle.numbers.proofs.text.stepped.Statement.{statement}

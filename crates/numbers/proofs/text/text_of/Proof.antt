@@ -1,7 +1,6 @@
 -- `numbers::text::text_of` meets its contract: a raw number's text has room in twelve characters.
 -- Assumes nothing.
 use mathlib.Core.Path.{refl}
-use Prim.Native.Nat.{_-_}
 use borrow.Author.Needs.{needs}
 use Rattle.numbers.proofs.Laws.Text.{at-front, text-put}
 use Rattle.numbers.proofs.Laws.Signs.{back, read-back}

@@ -1,7 +1,7 @@
 -- `numbers::text::unit` meets its contract: the decimals are 0, 1, 2 or 3.
 -- Assumes nothing.
 use mathlib.Core.Path.{_≡_, ap}
-use Prim.Native.Nat.{ℕ, _-_, _^_}
+use Prim.Native.Nat.{ℕ, _^_}
 use native.Mathlib.Omega.{arith}
 use Rattle.numbers.proofs.text.unit.Statement.{statement}
 use Rattle.numbers.proofs.text.unit.Tie as tie

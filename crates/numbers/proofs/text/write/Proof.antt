@@ -7,7 +7,7 @@ use lib.IntN.{ℤ}
 use borrow.Author.Tests.{not-true, not-false, leb-true, leb-false}
 use borrow.Author.Needs.{needs}
 use Rattle.numbers.specs.Paper.Text.{text}
-use Rattle.numbers.proofs.Laws.Signs.{read-back, within}
+use Rattle.numbers.proofs.Laws.Signs.{read-back}
 use Rattle.numbers.proofs.Laws.Writing.{bad-decimals, bad-range, text-fronted}
 use Rattle.numbers.proofs.Laws.Range.{refused, passed, passed-back}
 use Rattle.numbers.proofs.text.write.Statement.{statement}
