@@ -2,22 +2,28 @@
 -- Assumes nothing.
 use mathlib.Core.Path.{_≡_, refl, sym, ap, _∙_}
 use mathlib.Core.Bool.{Bool, true, false, _&&_, true≢false}
-use mathlib.Core.List.{List, [], _∷_}
+use mathlib.Core.List.{List, [], _∷_, _++_}
 use Prim.Native.Nat.{ℕ, _≤_, _<_}
+use native.Mathlib.Nat.{le-trans}
 use native.Mathlib.Omega.{arith}
 use lib.Dec.{leb, eqb}
 use lib.IntN.{ℤ, natAbs}
-use lib.ListN.{length}
+use lib.ListN.{length, drop}
 use borrow.Author.Tests.{eq-eqb, le-leb}
 use Rattle.digits.specs.Paper.Ascii.{ascii}
 use Rattle.digits.specs.Paper.Decimal.{decimalIn, enough, decimal}
 use Rattle.digits.proofs.Laws.Reads.{answered, no-reading}
+use Rattle.puts.specs.Paper.Wrote.{wrote, Writes}
+use Rattle.puts.specs.declared.Written.{Written}
+use Rattle.puts.specs.declared.Written.the-variants.{Bytes}
+use Rattle.puts.proofs.Unique.{one-written}
 use Rattle.numbers.specs.Paper.Raw.{Raw, mostDecimals}
 use Rattle.numbers.specs.Paper.Text.{belowZero, lastDigits, textOf, text}
-use Rattle.numbers.specs.Paper.Answers.{readingRefusal, ReadsText}
+use Rattle.numbers.specs.Paper.Answers.{TextCause, readingRefusal, ReadsText}
 use Rattle.numbers.specs.Work.Text.{behind}
 use Rattle.numbers.specs.declared.text.Reading.{Reading}
 use Rattle.numbers.specs.declared.text.Reading.the-variants.{Is}
+use Rattle.numbers.proofs.Laws.Causes.{text-ours, no-cause, decimals-right, range-right, room-enough}
 use Rattle.numbers.proofs.Laws.Signs.{magnitude-lt}
 use Rattle.numbers.proofs.Laws.Text.{text-short}
 use Rattle.numbers.proofs.Laws.Reader as reader
@@ -28,6 +34,14 @@ use Rattle.numbers.proofs.Unique.{text-read}
 -- A TEXT HAS AT MOST 12 CHARACTERS
 pub at-most-12 : (z : ℤ) (d : ℕ) → Raw z → d ≤ mostDecimals → length (text z d) ≤ 12
 at-most-12 z d r h = text-short (belowZero z) (natAbs z) d (magnitude-lt z r) h
+
+-- SO A ROOM OF 12 IS ALWAYS ENOUGH: a raw number at 0 to 3 decimals is never refused there, and its text stands at the room's front
+pub room-of-12 : (z : ℤ) (d : ℕ) (r : Written) (room later : List ℕ) → Raw z → d ≤ mostDecimals → 12 ≤ length room
+    → Writes (TextCause z d (length room)) (text z d) room r later
+    → (r ≡ Bytes (length (text z d))) × (later ≡ text z d ++ drop (length (text z d)) room)
+room-of-12 z d r room later raw few h a =
+    let enough : length (text z d) ≤ length room = le-trans (at-most-12 z d raw few) h in
+    one-written a (wrote (no-cause text-ours (decimals-right few) (range-right raw) (room-enough enough)))
 
 -- NO TWO NUMBERS HAVE THE SAME TEXT, at whatever decimals
 pub one-number : (y z : ℤ) (d e : ℕ) → text y d ≡ text z e → (y ≡ z) × (d ≡ e)
