@@ -6,6 +6,7 @@ pub mod Reader
 pub mod Values
 pub mod Writing
 pub mod Reading
+pub mod Tried
 pub mod Zeros
 pub mod Exact
 pub mod Held

@@ -3,6 +3,7 @@
 use mathlib.Core.Path.{_≡_, refl, sym, ap, _∙_}
 use Prim.Native.Nat.{ℕ, _-_, _<_}
 use native.Mathlib.Omega.{arith}
+use mathlib.Core.Bool.{Bool, true, false, cond}
 use mathlib.Core.List.{List, [], _∷_}
 use lib.Dec.{lit<}
 use lib.ListN.{getD}
@@ -47,6 +48,43 @@ one-first (here c) (here d) = refl
 one-first (here c) (after n f) = absurd (n c)
 one-first (after n f) (here c) = absurd (n c)
 one-first (after n f) (after m g) = one-first f g
+
+-- the numbers of a list that pass a test
+abbrev pub keep : (ℕ → Bool) → List ℕ → List ℕ
+keep known [] = []
+keep known (k ∷ l) = cond (known k) (k ∷ keep known l) (keep known l)
+
+one-more : {Cause : ℕ → Type 0} {k r : ℕ} {l m : List ℕ} → First Cause (k ∷ m) r → ((q : ℕ) → First Cause m q → First Cause l q) → First Cause (k ∷ l) r
+one-more (here c) rest = here c
+one-more {r = r} (after n g) rest = after n (rest r g)
+
+-- a number that a call has no cause for is passed over
+pub pass-over : {Cause : ℕ → Type 0} (known : ℕ → Bool) → ((k : ℕ) → known k ≡ false → Cause k → ⊥)
+    → (l : List ℕ) {r : ℕ} → First Cause (keep known l) r → First Cause l r
+pass-over known none [] f = f
+pass-over {Cause} known none (k ∷ l) {r} f = go (known k) refl (λ q g. pass-over known none l {r = q} g) f
+  where
+    go : (b : Bool) → known k ≡ b → ((q : ℕ) → First Cause (keep known l) q → First Cause l q)
+        → First Cause (cond b (k ∷ keep known l) (keep known l)) r → First Cause (k ∷ l) r
+    go false e rest g = after (none k e) (rest r g)
+    go true e rest g = one-more g rest
+
+-- ---- answers
+
+-- An answer that is an enum of a value and a refusal is its number and its value.
+module _ {R A : Type 0} (is : A → R) (no : Refusal → R) (number : R → ℕ) (value : R → A)
+    (is-0 : (a : A) → number (is a) ≡ 0) (no-is : (why : Refusal) → number (no why) ≡ refusalNumber why) (is-value : (a : A) → value (is a) ≡ a)
+    (cases : (P : R → Type 0) → ((a : A) → P (is a)) → ((why : Refusal) → P (no why)) → (r : R) → P r) where
+  never : {X : Type 0} (a : A) (why : Refusal) → number (is a) ≡ number (no why) → X
+  never a why e = let f : 0 ≡ refusalNumber why = sym (is-0 a) ∙ e ∙ no-is why in absurd (omega (arith, some-number why))
+
+  pub same-answer : (r q : R) → number r ≡ number q → value r ≡ value q → r ≡ q
+  same-answer =
+      cases (λ r. (q : R) → number r ≡ number q → value r ≡ value q → r ≡ q)
+      (λ a. cases (λ q. number (is a) ≡ number q → value (is a) ≡ value q → is a ≡ q)
+      (λ b e f. ap is (sym (is-value a) ∙ f ∙ is-value b)) (λ why e f. never a why e))
+      (λ why. cases (λ q. number (no why) ≡ number q → value (no why) ≡ value q → no why ≡ q)
+      (λ a e f. never a why (sym e)) (λ other e f. ap no (one-refusal why other (sym (no-is why) ∙ e ∙ no-is other))))
 
 module _ {A : Type 0} {zeros : A} {Cause : ℕ → Type 0} {Right : A → Type 0} where
   -- an answer of number 0 is right, and no cause applied

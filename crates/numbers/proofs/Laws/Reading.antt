@@ -20,7 +20,7 @@ use Rattle.numbers.specs.Work.Text.{behind}
 use Rattle.numbers.specs.Work.ByteValues.{ofTwos}
 use Rattle.numbers.specs.declared.byte_values.Value.the-variants.{Is as IsValue, Refused as NoValue}
 use Rattle.numbers.specs.declared.text.Reading.the-variants.{Is, Refused}
-use Rattle.numbers.proofs.Laws.Causes.{first-7, first-5, no-cause, bytes-ours, width-known, count-right, no-room-asked}
+use Rattle.numbers.proofs.Laws.Causes.{first-7, first-5, no-cause, bytes-only, width-known, count-right, no-room-asked}
 use Rattle.numbers.proofs.Laws.Signs.{magnitude-lt}
 use Rattle.numbers.proofs.Laws.Text.{text-short}
 use Rattle.numbers.proofs.Laws.Reader.{taken, behind-text, taken-text}
@@ -61,15 +61,15 @@ module _ (t : List ℕ) where
 
 module _ (w : ℕ) (signed : Bool) (s : List ℕ) where
   pub unknown-width : (Width w → ⊥) → AnswersValue w signed s (NoValue Form)
-  unknown-width f = refuses (lit< tt) (first-7 bytes-ours (A.width f))
+  unknown-width f = refuses (lit< tt) (first-7 bytes-only (A.width f))
 
   module _ (known : Width w) where
     pub other-count : (length s ≡ w → ⊥) → AnswersValue w signed s (NoValue Limits)
-    other-count f = refuses (lit< tt) (first-5 bytes-ours (width-known known) (A.count f))
+    other-count f = refuses (lit< tt) (first-5 bytes-only (width-known known) (A.count f))
 
     pub value-read : (n : ℕ) {z : ℤ} → length s ≡ w → n < 256 ^ w → lowFirst (length s) n ≡ s → z ≡ ofTwos w signed n → AnswersValue w signed s (IsValue z)
     value-read n {z} e h b f =
         let o = of-twos (size known) signed n h in
-        answers (no-cause bytes-ours (width-known known) (count-right e) no-room-asked)
+        answers (no-cause bytes-only (width-known known) (count-right e) no-room-asked)
         (subst (ValueIn w signed s) (sym f)
         (record { known = known; held = in-held (size known) (o .0); bytes = ap (lowFirst w) (o .1) ∙ ap (λ (k : ℕ). lowFirst k n) (sym e) ∙ b }))

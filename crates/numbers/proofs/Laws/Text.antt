@@ -13,8 +13,8 @@ use lib.Seq.{drop-at, take-all}
 use Rattle.digits.specs.Paper.Answers.{AtEnd}
 use Rattle.digits.specs.Paper.Decimal.{decimalDigit, decimal}
 use Rattle.digits.proofs.Laws.Decimal.{decimal-small, decimal-more, length-decimal}
-use Rattle.puts.specs.Paper.Put.{Put, last}
-use Rattle.puts.proofs.Laws.Puts.{puts-as, front-count, front-bytes}
+use Rattle.puts.specs.Paper.Put.{Put}
+use Rattle.puts.proofs.Laws.Puts.{puts-as, put-length, front-count, front-bytes}
 use Rattle.numbers.specs.Paper.Raw.{Raw, mostDecimals}
 use Rattle.numbers.specs.Paper.Text.{belowZero, sign, lastDigits, fraction, textOf, text}
 use Rattle.numbers.specs.Work.Text.{Front}
@@ -115,6 +115,5 @@ pub at-front : {r s : List ℕ} {k : ℕ} (z : ℤ) (d : ℕ) → Raw z → d �
     → Put r s 0 k (text z d) → Front (text z d) s k
 at-front {r} {s} {k} z d raw few l p =
     let short : length (text z d) ≤ length r = omega (arith, text-short (belowZero z) (natAbs z) d (magnitude-lt z raw) few) in
-    let room : length r ≤ last = omega arith in
-    let count : k ≡ length (text z d) = front-count p room short in
-    record { room = p .same ∙ l; within = omega arith; count = count; front = ap (λ (n : ℕ). take n s) (sub-zero k) ∙ front-bytes p room short }
+    let count : k ≡ length (text z d) = front-count p short in
+    record { room = put-length p ∙ l; within = omega arith; count = count; front = ap (λ (n : ℕ). take n s) (sub-zero k) ∙ front-bytes p short }

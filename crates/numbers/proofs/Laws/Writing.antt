@@ -22,7 +22,7 @@ use Rattle.numbers.specs.Paper.Text.{text}
 use Rattle.numbers.specs.Paper.ByteValues.{Holds, twos, valueBytes}
 use Rattle.numbers.specs.Paper.Answers as A
 use Rattle.numbers.specs.Paper.Answers.{TextCause, ValueCause}
-use Rattle.numbers.proofs.Laws.Causes.{first-7, first-5, first-4, no-cause, text-ours, decimals-right, range-right, room-enough, value-ours, width-right, held-right, bytes-enough}
+use Rattle.numbers.proofs.Laws.Causes.{first-7, first-5, first-4, no-cause, text-only, decimals-right, range-right, room-enough, value-only, width-right, held-right, bytes-enough}
 use Rattle.numbers.proofs.Laws.Values.{width-le}
 
 -- ---- text::write
@@ -31,18 +31,18 @@ module _ (z : ℤ) (d : ℕ) (room : List ℕ) where
   Text = Writes (TextCause z d (length room)) (text z d) room
 
   pub bad-decimals : mostDecimals < d → Text (Refused Form) room
-  bad-decimals h = refused (lit< tt) (first-7 text-ours (A.decimals h))
+  bad-decimals h = refused (lit< tt) (first-7 text-only (A.decimals h))
 
   module _ (few : d ≤ mostDecimals) where
     pub bad-range : (Raw z → ⊥) → Text (Refused Limits) room
-    bad-range f = refused (lit< tt) (first-5 text-ours (decimals-right few) (A.range f))
+    bad-range f = refused (lit< tt) (first-5 text-only (decimals-right few) (A.range f))
 
     module _ (raw : Raw z) where
       -- the text is written whole, or the room is too short for it
       pub text-fronted : {s later : List ℕ} (r : Written) → s ≡ text z d → Writes (RoomCause (length room) (length s)) s room r later → Text r later
       text-fronted {s} {later} r e w =
-          after-tests (λ h. no-cause text-ours (decimals-right few) (range-right raw) (room-enough h))
-          (λ h. first-4 text-ours (decimals-right few) (range-right raw) (A.room h))
+          after-tests (λ h. no-cause text-only (decimals-right few) (range-right raw) (room-enough h))
+          (λ h. first-4 text-only (decimals-right few) (range-right raw) (A.room h))
           (subst (λ (t : List ℕ). Writes (RoomCause (length room) (length t)) t room r later) e w)
 
 -- ---- byte_values::write
@@ -57,16 +57,16 @@ module _ (w : ℕ) (signed : Bool) (z : ℤ) (room : List ℕ) where
   Value = Writes (ValueCause w signed z (length room)) (valueBytes w z) room
 
   pub bad-width : (Width w → ⊥) → Value (Refused Form) room
-  bad-width f = refused (lit< tt) (first-7 value-ours (A.width f))
+  bad-width f = refused (lit< tt) (first-7 value-only (A.width f))
 
   module _ (known : Width w) where
     pub not-held : (Holds w signed z → ⊥) → Value (Refused Limits) room
-    not-held f = refused (lit< tt) (first-5 value-ours (width-right known) (A.held f))
+    not-held f = refused (lit< tt) (first-5 value-only (width-right known) (A.held f))
 
     module _ (held : Holds w signed z) where
       pub value-fronted : {s later : List ℕ} (r : Written) → s ≡ valueBytes w z → Writes (RoomCause (length room) (length s)) s room r later → Value r later
       value-fronted {s} {later} r e v =
           let n : length (valueBytes w z) ≡ w = length-low w (twos w z) in
-          after-tests (λ h. no-cause value-ours (width-right known) (held-right held) (bytes-enough (omega arith)))
-          (λ h. first-4 value-ours (width-right known) (held-right held) (A.room (omega arith)))
+          after-tests (λ h. no-cause value-only (width-right known) (held-right held) (bytes-enough (omega arith)))
+          (λ h. first-4 value-only (width-right known) (held-right held) (A.room (omega arith)))
           (subst (λ (t : List ℕ). Writes (RoomCause (length room) (length t)) t room r later) e v)

@@ -1,15 +1,12 @@
 -- What the definition of a number's text comes to, for a reader.
 -- Assumes nothing.
-use mathlib.Core.Path.{_≡_, refl, sym, ap, _∙_}
-use mathlib.Core.Bool.{Bool, true, false, _&&_, true≢false}
-use mathlib.Core.List.{List, [], _∷_, _++_}
+use mathlib.Core.Path.{_≡_, refl, ap}
+use mathlib.Core.List.{List, _++_}
 use Prim.Native.Nat.{ℕ, _≤_, _<_}
 use native.Mathlib.Nat.{le-trans}
 use native.Mathlib.Omega.{arith}
-use lib.Dec.{leb, eqb}
 use lib.IntN.{ℤ, natAbs}
 use lib.ListN.{length, drop}
-use borrow.Author.Tests.{eq-eqb, le-leb}
 use Rattle.digits.specs.Paper.Ascii.{ascii}
 use Rattle.digits.specs.Paper.Decimal.{decimalIn, enough, decimal}
 use Rattle.digits.proofs.Laws.Reads.{answered, no-reading}
@@ -20,15 +17,14 @@ use Rattle.puts.proofs.Unique.{one-written}
 use Rattle.numbers.specs.Paper.Raw.{Raw, mostDecimals}
 use Rattle.numbers.specs.Paper.Text.{belowZero, lastDigits, textOf, text}
 use Rattle.numbers.specs.Paper.Answers.{TextCause, readingRefusal, ReadsText}
-use Rattle.numbers.specs.Work.Text.{behind}
 use Rattle.numbers.specs.declared.text.Reading.{Reading}
 use Rattle.numbers.specs.declared.text.Reading.the-variants.{Is}
-use Rattle.numbers.proofs.Laws.Causes.{text-ours, no-cause, decimals-right, range-right, room-enough}
+use Rattle.numbers.proofs.Laws.Causes.{text-only, no-cause, decimals-right, range-right, room-enough}
 use Rattle.numbers.proofs.Laws.Signs.{magnitude-lt}
 use Rattle.numbers.proofs.Laws.Text.{text-short}
 use Rattle.numbers.proofs.Laws.Reader as reader
-use Rattle.numbers.proofs.Laws.Reader.{taken, taken-text, behind-text}
 use Rattle.numbers.proofs.Laws.Reading.{is-number}
+use Rattle.numbers.proofs.Laws.Tried.{refused-unless}
 use Rattle.numbers.proofs.Unique.{text-read}
 
 -- A TEXT HAS AT MOST 12 CHARACTERS
@@ -41,7 +37,7 @@ pub room-of-12 : (z : ℤ) (d : ℕ) (r : Written) (room later : List ℕ) → R
     → (r ≡ Bytes (length (text z d))) × (later ≡ text z d ++ drop (length (text z d)) room)
 room-of-12 z d r room later raw few h a =
     let enough : length (text z d) ≤ length room = le-trans (at-most-12 z d raw few) h in
-    one-written a (wrote (no-cause text-ours (decimals-right few) (range-right raw) (room-enough enough)))
+    one-written a (wrote (no-cause text-only (decimals-right few) (range-right raw) (room-enough enough)))
 
 -- NO TWO NUMBERS HAVE THE SAME TEXT, at whatever decimals
 pub one-number : (y z : ℤ) (d e : ℕ) → text y d ≡ text z e → (y ≡ z) × (d ≡ e)
@@ -64,32 +60,6 @@ Refused7 t = (r : Reading) → ReadsText t r → readingRefusal r ≡ 7
 pub longer-refused : (t : List ℕ) → 12 < length t → Refused7 t
 longer-refused t h r a =
     no-reading (omega arith) (λ n l e. omega (arith, at-most-12 (n .raw) (n .decimals) (l .in-range) (l .few), ap length e)) a
-
--- the only number whose text t can be is the one that its characters are taken for: this tries it
-abbrev alike : List ℕ → List ℕ → Bool
-alike [] [] = true
-alike [] (d ∷ t) = false
-alike (c ∷ s) [] = false
-alike (c ∷ s) (d ∷ t) = eqb c d && alike s t
-
-abbrev isText : List ℕ → Bool
-isText t = leb (behind t) mostDecimals && alike (text (taken t) (behind t)) t
-
-alike-same : (t : List ℕ) → alike t t ≡ true
-alike-same [] = refl
-alike-same (c ∷ t) = ap (λ (b : Bool). b && alike t t) (eq-eqb c c refl) ∙ alike-same t
-
-text-is-text : (z : ℤ) (d : ℕ) → d ≤ mostDecimals → isText (text z d) ≡ true
-text-is-text z d h =
-    let e = behind-text (belowZero z) (natAbs z) d in
-    ap (λ (k : ℕ). leb k mostDecimals && alike (text (taken (text z d)) k) (text z d)) e
-    ∙ ap (λ (b : Bool). b && alike (text (taken (text z d)) d) (text z d)) (le-leb d mostDecimals h)
-    ∙ ap (λ (y : ℤ). alike (text y d) (text z d)) (taken-text z d)
-    ∙ alike-same (text z d)
-
-refused-unless : (t : List ℕ) → isText t ≡ false → Refused7 t
-refused-unless t f r a =
-    no-reading (omega arith) (λ n l e. true≢false (sym (text-is-text (n .raw) (n .decimals) (l .few)) ∙ ap isText e ∙ f)) a
 
 -- THESE ARE REFUSED WITH 7: a minus on zero, leading zeros, no digit behind or before the point, a plus, four decimals, nothing
 pub refused-texts : Refused7 (ascii "-0") × Refused7 (ascii "-0.00") × Refused7 (ascii "00") × Refused7 (ascii "01") × Refused7 (ascii "1.") × Refused7 (ascii ".5")

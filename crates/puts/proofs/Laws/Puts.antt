@@ -7,15 +7,19 @@ use Prim.Native.Nat.{ℕ, suc, _+_, min, _≤_, _<_}
 use native.Mathlib.Numerals.{add-one}
 use native.Mathlib.Omega.{arith}
 use lib.Dec.{leb}
-use lib.ListN.{length, take, drop, getD, set, length-set, length-append}
+use lib.ListN.{length, take, drop, getD, set, length-append}
 use lib.Seq.{sets, take-at, take-suc, set-out, length-sets}
 use borrow.Author.Tests.{leb-true, leb-false}
 use Rattle.digits.proofs.Laws.Stores.{sets-append, sets-front}
 use Rattle.puts.specs.Paper.Put.{Put, last}
 
 -- no bytes
-pub none : (r : List ℕ) (a : ℕ) → Put r r a a []
-none r a = record { same = refl; puts = λ h k. (refl, omega arith) }
+pub none : (r : List ℕ) (a : ℕ) → length r ≤ last → a ≤ last → Put r r a a []
+none r a h k = record { slice = h; holds = refl; behind = omega arith }
+
+-- a room stays as long as it was
+pub put-length : {r s bs : List ℕ} {a b : ℕ} → Put r s a b bs → length s ≡ length r
+put-length {r} {s} {bs} {a} p = ap length (p .holds) ∙ length-sets r a bs
 
 -- stores behind the end do nothing
 sets-out : (vs l : List ℕ) (i : ℕ) → length l ≤ i → sets l i vs ≡ l
@@ -41,27 +45,24 @@ joined us vs l a b h e = go (leb (a + length us) last) refl
 infixr 20 _then_
 pub _then_ : {r s t : List ℕ} {a b c : ℕ} {us vs : List ℕ} → Put r s a b us → Put s t b c vs → Put r t a c (us ++ vs)
 _then_ {r} {s} {t} {a} {b} {c} {us} {vs} p q =
+    let n = length-append us vs in
+    let e : b ≡ min (a + length us) last = p .behind in
+    let f : c ≡ min (b + length vs) last = q .behind in
     record {
-      same = q .same ∙ p .same;
-      puts = λ h k.
-          let n = length-append us vs in
-          let e = p .puts h k in
-          let f : b ≡ min (a + length us) last = e .1 in
-          let l : length s ≡ length r = p .same in
-          let g = q .puts (omega arith) (omega arith) in
-          let m : c ≡ min (b + length vs) last = g .1 in
-          (g .0 ∙ ap (λ (x : List ℕ). sets x b vs) (e .0) ∙ joined us vs r a b h f, omega arith);
+      slice = p .slice;
+      holds = q .holds ∙ ap (λ (x : List ℕ). sets x b vs) (p .holds) ∙ joined us vs r a b (p .slice) e;
+      behind = omega arith;
     }
 
 pub puts-as : {r s : List ℕ} {a b : ℕ} {us vs : List ℕ} → us ≡ vs → Put r s a b us → Put r s a b vs
 puts-as {r} {s} {a} {b} e p = subst (λ (x : List ℕ). Put r s a b x) e p
 
 -- a byte that the room has a place for, and one that it has none for
-pub within : (r : List ℕ) (a b : ℕ) → a < length r → Put r (set r a b) a (a + 1) (b ∷ [])
-within r a b h = record { same = length-set r a b; puts = λ k j. (refl, omega arith) }
+pub within : (r : List ℕ) (a b : ℕ) → length r ≤ last → a < length r → Put r (set r a b) a (a + 1) (b ∷ [])
+within r a b l h = record { slice = l; holds = refl; behind = omega arith }
 
-pub beyond : (r : List ℕ) (a b n : ℕ) → length r ≤ a → n ≡ min (a + 1) last → Put r r a n (b ∷ [])
-beyond r a b n h e = record { same = refl; puts = λ k j. (sym (set-out r a b h), omega arith) }
+pub beyond : (r : List ℕ) (a b n : ℕ) → length r ≤ last → length r ≤ a → n ≡ min (a + 1) last → Put r r a n (b ∷ [])
+beyond r a b n l h e = record { slice = l; holds = sym (set-out r a b h); behind = omega arith }
 
 -- a loop's turn over the bytes of s
 pub step : {r t u : List ℕ} {a b c : ℕ} (s : List ℕ) (i : ℕ) → i < length s
@@ -69,12 +70,12 @@ pub step : {r t u : List ℕ} {a b c : ℕ} (s : List ℕ) (i : ℕ) → i < len
 step s i h p q = puts-as (sym (ap (λ (j : ℕ). take j s) (add-one i) ∙ take-suc s i 0 h)) (p then q)
 
 -- bytes at the front of a room that has room for them: how many, the room, and its front
-module _ {r s bs : List ℕ} {n : ℕ} (p : Put r s 0 n bs) (h : length r ≤ last) (l : length bs ≤ length r) where
+module _ {r s bs : List ℕ} {n : ℕ} (p : Put r s 0 n bs) (l : length bs ≤ length r) where
   pub front-count : n ≡ length bs
-  front-count = omega (arith, p .puts h (omega arith) .1)
+  front-count = omega (arith, p .behind, p .slice)
 
   pub front-room : s ≡ bs ++ drop (length bs) r
-  front-room = p .puts h (omega arith) .0 ∙ sets-front bs r l
+  front-room = p .holds ∙ sets-front bs r l
 
   pub front-bytes : take n s ≡ bs
   front-bytes = ap (take n) front-room ∙ take-at bs (drop (length bs) r) n (sym front-count)

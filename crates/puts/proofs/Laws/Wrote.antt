@@ -1,19 +1,19 @@
 -- The outcome of a call that writes into a lent room: there is one, and a writer's is right.
 -- Assumes nothing.
 use mathlib.Core.Path.{_≡_, refl, sym, ap, _∙_, subst}
-use mathlib.Core.Bool.{Bool, true, false, cond}
-use mathlib.Core.List.{List, [], _∷_}
+use mathlib.Core.Bool.{Bool, true, false, cond, true≢false}
+use mathlib.Core.List.{List, []}
 use Prim.Native.Nat.{ℕ, _≤_, _<_}
 use native.Mathlib.Omega.{arith}
-use lib.Dec.{leb, lit<}
+use lib.Dec.{leb, eqb, lit<}
 use lib.ListN.{length}
 use borrow.Author.Tests.{leb-true, leb-false}
 use Rattle.digits.specs.Paper.Bytes.{part}
 use Rattle.digits.specs.Paper.Refusals.{order, First, clear, here, after}
 use Rattle.digits.specs.declared.refusal.Refusal.the-variants.{Room}
 use Rattle.digits.proofs.Laws.Parts.{part-all}
-use Rattle.digits.proofs.Laws.Refusals.{one-first}
-use Rattle.puts.specs.Paper.Put.{Put, last}
+use Rattle.digits.proofs.Laws.Refusals.{one-first, pass-over}
+use Rattle.puts.specs.Paper.Put.{Put}
 use Rattle.puts.specs.Paper.Wrote.{Wrote, wrote, refused, RoomCause, short, Writes}
 use Rattle.puts.specs.declared.Written.the-variants.{Bytes, Refused}
 use Rattle.puts.proofs.Laws.Puts.{puts-as, front-count, front-room}
@@ -26,26 +26,19 @@ module _ {Cause : ℕ → Type 0} {bs room : List ℕ} where
   one-outcome (refused p f) (refused q g) = (one-first f g, refl, refl)
 
   -- a writer's bytes from the front of a room that has room for them
-  pub wrote-by : {later : List ℕ} {n : ℕ} → First Cause order 0 → Put room later 0 n bs → length room ≤ last → length bs ≤ length room
-      → Wrote Cause bs room 0 n later
-  wrote-by {later} {n} f p h l = rw (front-count p h l, front-room p h l) (wrote f)
+  pub wrote-by : {later : List ℕ} {n : ℕ} → First Cause order 0 → Put room later 0 n bs → length bs ≤ length room → Wrote Cause bs room 0 n later
+  wrote-by {later} {n} f p l = rw (front-count p l, front-room p l) (wrote f)
 
 -- ---- all or none
 
-from-4 : {r b k : ℕ} → First (RoomCause r b) (4 ∷ 1 ∷ []) k → First (RoomCause r b) order k
-from-4 f =
-    after {no = 8} (λ u. elim u [ ])
-    (after {no = 2} (λ u. elim u [ ])
-    (after {no = 3} (λ u. elim u [ ])
-    (after {no = 7} (λ u. elim u [ ])
-    (after {no = 5} (λ u. elim u [ ])
-    (after {no = 6} (λ u. elim u [ ]) f)))))
+only-4 : {r b : ℕ} (k : ℕ) → eqb k 4 ≡ false → RoomCause r b k → ⊥
+only-4 k e (short h) = true≢false e
 
 too-short : {r b : ℕ} → r < b → First (RoomCause r b) order 4
-too-short h = from-4 (here (short h))
+too-short h = pass-over (λ k. eqb k 4) only-4 order (here (short h))
 
 room-for : {r b : ℕ} → b ≤ r → First (RoomCause r b) order 0
-room-for {r} {b} h = from-4 (after none (after {no = 1} (λ u. elim u [ ]) clear))
+room-for {r} {b} h = pass-over (λ k. eqb k 4) only-4 order (after none clear)
   where
     none : RoomCause r b 4 → ⊥
     none (short k) = omega arith
@@ -62,21 +55,21 @@ module _ (s room : List ℕ) {n : ℕ} (e : n ≡ cond (leb (length s) (length r
   pub within-bytes : n ≤ length s
   within-bytes = all-or-none (λ h f. omega arith) (λ h f. omega arith)
 
-  module _ {later : List ℕ} {k : ℕ} (p : Put room later 0 k (part 0 n s)) (l : length room ≤ last) where
+  module _ {later : List ℕ} {k : ℕ} (p : Put room later 0 k (part 0 n s)) where
     pub all-written : length s ≤ n → Writes (RoomCause (length room) (length s)) s room (Bytes n) later
     all-written h =
         all-or-none
         (λ g f.
         let whole : part 0 n s ≡ s = ap (λ (m : ℕ). part 0 m s) f ∙ part-all s in
         let q : Put room later 0 k s = puts-as whole p in
-        subst (λ (m : ℕ). Wrote (RoomCause (length room) (length s)) s room 0 m later) (front-count q l g ∙ sym f) (wrote-by (room-for g) q l g))
+        subst (λ (m : ℕ). Wrote (RoomCause (length room) (length s)) s room 0 m later) (front-count q g ∙ sym f) (wrote-by (room-for g) q g))
         (λ g f. absurd (omega arith))
 
     pub none-written : n < length s → Writes (RoomCause (length room) (length s)) s room (Refused Room) later
     none-written h =
         all-or-none (λ g f. absurd (omega arith))
         (λ g f.
-        let same : room ≡ later = sym (puts-as {vs = []} (ap (λ (m : ℕ). part 0 m s) f) p .puts l (omega arith) .0) in
+        let same : room ≡ later = sym (puts-as {vs = []} (ap (λ (m : ℕ). part 0 m s) f) p .holds) in
         subst (Wrote (RoomCause (length room) (length s)) s room 4 0) same (refused (lit< tt) (too-short g)))
 
 -- what the first cause says of the room

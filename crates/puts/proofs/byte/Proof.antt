@@ -16,16 +16,16 @@ same-length : tie.Need-same-length
 same-length c = search needs
 
 returns : tie.Need-returns
-returns c = let s = c .before in within (s .args .room .now) (s .args .at) (s .args .b) (c .if1 .taken)
+returns c = let s = c .before in within (s .args .room .now) (s .args .at) (s .args .b) (omega (arith, s .good)) (c .if1 .taken)
 
 add-result-2 : tie.Need-add-result-2
 add-result-2 c = search needs
 
 returns-2 : tie.Need-returns-2
-returns-2 c = let s = c .before .before in beyond (s .args .room .now) (s .args .at) (s .args .b) _ (c .before .if1 .left) (omega arith)
+returns-2 c = let s = c .before .before in beyond (s .args .room .now) (s .args .at) (s .args .b) _ (omega (arith, s .good)) (c .before .if1 .left) (omega arith)
 
 returns-3 : tie.Need-returns-3
-returns-3 c = let s = c .before .before in beyond (s .args .room .now) (s .args .at) (s .args .b) _ (c .before .if1 .left) (omega arith)
+returns-3 c = let s = c .before .before in beyond (s .args .room .now) (s .args .at) (s .args .b) _ (omega (arith, s .good)) (c .before .if1 .left) (omega arith)
 
 pub byte-spec : {M : Type 1} → statement M
 byte-spec =

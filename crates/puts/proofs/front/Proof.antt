@@ -25,13 +25,13 @@ same-length : tie.Need-same-length
 same-length c = search needs
 
 returns : tie.Need-returns
-returns c = let s = c .before .before .before .before .before .before .before .before .before in none-written (s .args .s .now) (s .args .room .now) (c .before .before .before .before .before .before .all-or-none .ensures) (c .before .before .before .bytes .ensures) (omega (arith, s .good)) (c .if1 .taken)
+returns c = let s = c .before .before .before .before .before .before .before .before .before in none-written (s .args .s .now) (s .args .room .now) (c .before .before .before .before .before .before .all-or-none .ensures) (c .before .before .before .bytes .ensures) (c .if1 .taken)
 
 same-length-2 : tie.Need-same-length-2
 same-length-2 c = search needs
 
 returns-2 : tie.Need-returns-2
-returns-2 c = let s = c .before .before .before .before .before .before .before .before .before in all-written (s .args .s .now) (s .args .room .now) (c .before .before .before .before .before .before .all-or-none .ensures) (c .before .before .before .bytes .ensures) (omega (arith, s .good)) (c .if1 .left)
+returns-2 c = let s = c .before .before .before .before .before .before .before .before .before in all-written (s .args .s .now) (s .args .room .now) (c .before .before .before .before .before .before .all-or-none .ensures) (c .before .before .before .bytes .ensures) (c .if1 .left)
 
 pub front-spec : {M : Type 1} → statement M
 front-spec =

@@ -11,7 +11,8 @@ abbrev pub last : ℕ
 last = 18446744073709551615
 
 -- `sets room at bs` is the room with the bytes bs from the place `at` on; what would stand behind its end is left out. A place
--- behind the largest is the largest. (A room's length and a place are a `usize`'s, so the claim holds at every call.)
+-- behind the largest is the largest. (A room is a slice, so its length is a `usize`'s.)
 pub record Put (room later : List ℕ) (at next : ℕ) (bs : List ℕ) : Type 0 where
-  pub same : length later ≡ length room
-  pub puts : length room ≤ last → at ≤ last → (later ≡ sets room at bs) × (next ≡ min (at + length bs) last)
+  pub slice : length room ≤ last
+  pub holds : later ≡ sets room at bs
+  pub behind : next ≡ min (at + length bs) last

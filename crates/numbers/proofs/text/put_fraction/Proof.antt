@@ -24,7 +24,7 @@ small c =
     (omega arith, omega arith)
 
 returns : tie.Need-returns
-returns c = puts-as (sym (fraction-none _ _ (c .if1 .taken))) (none _ _)
+returns c = puts-as (sym (fraction-none _ _ (c .if1 .taken))) (none _ _ (omega (arith, c .before .before .good)) (omega arith))
 
 unit-requires : tie.Need-unit-requires
 unit-requires c κs = search needs

@@ -2,6 +2,7 @@
 -- Assumes nothing.
 use mathlib.Core.Path.{sym, ap}
 use borrow.Author.Needs.{needs}
+use native.Mathlib.Omega.{arith}
 use Rattle.puts.proofs.Laws.Puts.{none, puts-as}
 use Rattle.numbers.specs.Paper.Text.{sign}
 use Rattle.numbers.proofs.text.put_sign.Statement.{statement}
@@ -17,7 +18,7 @@ returns : tie.Need-returns
 returns c = puts-as (ap sign (sym (c .before .before .before .before .if1 .taken))) (c .before .before .byte .ensures)
 
 returns-2 : tie.Need-returns-2
-returns-2 c = puts-as (ap sign (sym (c .if1 .left))) (none _ _)
+returns-2 c = puts-as (ap sign (sym (c .if1 .left))) (none _ _ (omega (arith, c .before .before .good)) (omega arith))
 
 pub put-sign-spec : {M : Type 1} → statement M
 put-sign-spec = tie.close (tie.spec byte-requires same-length returns returns-2)
