@@ -18,6 +18,9 @@ part-at a e s i h = rw (getD-take, getD-drop)
 pub part-all : (s : List ℕ) → part 0 (length s) s ≡ s
 part-all s = take-all (length s - 0) s (omega arith)
 
+pub part-front : (e : ℕ) (s : List ℕ) → part 0 e s ≡ take e s
+part-front e s = let z : e - 0 ≡ e = omega arith in rw z
+
 pub part-rest : (a : ℕ) (s : List ℕ) → part a (length s) s ≡ drop a s
 part-rest a s = take-all (length s - a) (drop a s) (omega (arith, length-drop a s))
 

@@ -1,0 +1,207 @@
+/* The time of the proved search over 64 KiB, as a ratio to a straightforward search in C by the same rules, compiled by the same
+   compiler, in the same run. The two take turns, so that what else the machine does falls on both; the least time of each counts. */
+#include "../include/bolsterweft.h"
+#include "../tests/frames_in_c.h"
+
+enum { SIZE = 65536 };
+
+struct timespec {
+    long seconds;
+    long nanoseconds;
+};
+int clock_gettime(int clock, struct timespec *now);
+
+static double now(void) {
+    struct timespec t;
+    clock_gettime(1, &t); /* CLOCK_MONOTONIC */
+    return (double)t.seconds * 1e6 + (double)t.nanoseconds / 1e3;
+}
+
+static u8 b[SIZE];
+
+/* All frames of the buffer, one search after the other: how many, and where the last one ends. */
+struct all {
+    usize frames;
+    usize end;
+};
+
+#define IN_C(name, length)                                                                                                 \
+    static __attribute__((noinline)) struct bolsterweft_found name(const u8 *s, usize n, usize place) {                    \
+        for (usize i = place; i < n; i++) {                                                                                \
+            usize k = length(s + i, n - i);                                                                                \
+            if (k)                                                                                                         \
+                return (struct bolsterweft_found){0, i, k};                                                                \
+        }                                                                                                                  \
+        return (struct bolsterweft_found){1, 0, 0};                                                                        \
+    }
+IN_C(c_nikobus, nikobus_length)
+IN_C(c_command, command_length)
+IN_C(c_response, response_length)
+IN_C(c_nibe, nibe_length)
+IN_C(c_homiq, homiq_length)
+
+static struct bolsterweft_found in_c(u8 kind, const u8 *s, usize n, usize place) {
+    switch (kind) {
+    case 1:
+        return c_nikobus(s, n, place);
+    case 2:
+        return c_command(s, n, place);
+    case 3:
+        return c_response(s, n, place);
+    case 4:
+        return c_nibe(s, n, place);
+    default:
+        return c_homiq(s, n, place);
+    }
+}
+
+typedef struct bolsterweft_found search(u8 kind, const u8 *s, usize n, usize place);
+
+static struct all all_frames(search *find, u8 kind) {
+    struct all a = {0, 0};
+    for (;;) {
+        struct bolsterweft_found f = find(kind, b, SIZE, a.end);
+        if (f.refusal)
+            return a;
+        a.frames++;
+        a.end = f.start + f.length;
+    }
+}
+
+/* The buffer is filled with copies of a few bytes. */
+static void fill(const u8 *s, usize n) {
+    for (usize i = 0; i < SIZE; i++)
+        b[i] = s[i % n];
+}
+
+static int compare(const char *name, u8 kind) {
+    double best[2] = {1e12, 1e12};
+    struct all a = {0, 0}, c = {0, 0};
+    double until = now() + 3e5;
+    for (int turn = 0; turn < 7 || now() < until; turn++) {
+        double t = now();
+        a = all_frames(bolsterweft_search, kind);
+        t = now() - t;
+        if (t < best[0])
+            best[0] = t;
+        t = now();
+        c = all_frames(in_c, kind);
+        t = now() - t;
+        if (t < best[1])
+            best[1] = t;
+    }
+    double ratio = best[0] / best[1];
+    int good = a.frames == c.frames && a.end == c.end;
+    printf("%-52s %9.1f us  C %9.1f us  %.2f  %5zu frames%s%s\n", name, best[0], best[1], ratio, a.frames, good ? "" : "  THE TWO DIFFER",
+           ratio > 1.25 ? "  ABOVE 1.25" : "");
+    return good && ratio <= 1.25 ? 0 : 1;
+}
+
+/* A Nikobus link of n payload bytes; its length. */
+static usize link(u8 *f, usize n, int spoilt) {
+    static const char digits[] = "0123456789ABCDEF";
+    usize at = 0;
+    u16 crc16 = 0xFFFF;
+    u8 crc8 = 0;
+    f[at++] = '$';
+    f[at++] = (u8)digits[(2 * n + 10) / 16];
+    f[at++] = (u8)digits[(2 * n + 10) % 16];
+    for (usize i = 0; i < n; i++) {
+        u8 v = (u8)(i * 37 + 11);
+        crc16 = crc_high16(crc16, v);
+        f[at++] = (u8)digits[v / 16];
+        f[at++] = (u8)digits[v % 16];
+    }
+    if (spoilt)
+        crc16 ^= 1;
+    for (int k = 12; k >= 0; k -= 4)
+        f[at++] = (u8)digits[crc16 >> k & 15];
+    for (usize i = 0; i < at; i++)
+        crc8 = crc_high8(crc8, f[i]);
+    f[at++] = (u8)digits[crc8 / 16];
+    f[at++] = (u8)digits[crc8 % 16];
+    f[at++] = '\r';
+    return at;
+}
+
+/* A Nest frame of n payload bytes. */
+static usize nest(u8 *f, u8 kind, usize n, int spoilt) {
+    usize at = 0, from;
+    u16 crc = 0;
+    f[at++] = 0xD5;
+    if (kind == 3)
+        f[at++] = 0xD5;
+    f[at++] = 0xAA;
+    f[at++] = 0x96;
+    from = at;
+    f[at++] = 0x02;
+    f[at++] = 0x00;
+    f[at++] = (u8)n;
+    f[at++] = (u8)(n >> 8);
+    for (usize i = 0; i < n; i++)
+        f[at++] = (u8)(i * 37 + 11);
+    for (usize i = from; i < at; i++)
+        crc = crc_high16(crc, f[i]);
+    if (spoilt)
+        crc ^= 1;
+    f[at++] = (u8)crc;
+    f[at++] = (u8)(crc >> 8);
+    return at;
+}
+
+static usize nibe(u8 *f, usize n, int spoilt) {
+    u8 x = (u8)n;
+    f[0] = 0xC0;
+    f[1] = 0x68;
+    f[2] = (u8)n;
+    for (usize i = 0; i < n; i++) {
+        f[3 + i] = (u8)(i * 37 + 11);
+        x ^= f[3 + i];
+    }
+    f[3 + n] = spoilt ? x ^ 1 : x;
+    return n + 4;
+}
+
+/* A Homiq frame with these six fields. */
+static usize homiq(u8 *f, const char *fields, int spoilt) {
+    usize n = strlen(fields);
+    u8 crc = 0;
+    for (usize i = 0; i < n; i++)
+        if (fields[i] != ';')
+            crc = crc_low8(crc, (u8)fields[i]);
+    return (usize)snprintf((char *)f, 200, "<;%s;%u;>\r\n", fields, spoilt ? crc ^ 1u : crc);
+}
+
+int main(void) {
+    static u8 f[2048];
+    static const char *names[] = {"", "Nikobus", "Nest command", "Nest response", "Nibe", "Homiq"};
+    static const u8 marks[] = {0, '$', 0xD5, 0xD5, 0xC0, '<'};
+    int bad = 0;
+    for (u8 kind = 1; kind <= 5; kind++) {
+        char name[80];
+        u8 zero = 0;
+        fill(&zero, 1);
+        snprintf(name, sizeof name, "%s, zeros", names[kind]);
+        bad += compare(name, kind);
+        fill(&marks[kind], 1);
+        snprintf(name, sizeof name, "%s, start bytes only", names[kind]);
+        bad += compare(name, kind);
+        for (int spoilt = 1; spoilt >= 0; spoilt--) {
+            usize n = kind == 1 ? link(f, 122, spoilt) : kind <= 3 ? nest(f, kind, 1024, spoilt) : kind == 4 ? nibe(f, 255, spoilt) : homiq(f, "ABCDEFGH;0123456789ABCDEF;WXYZ;wxyz;511;s", spoilt);
+            fill(f, n);
+            snprintf(name, sizeof name, "%s, longest, %s", names[kind], spoilt ? "check wrong" : "good");
+            bad += compare(name, kind);
+        }
+        usize n = kind == 1 ? link(f, 3, 0) : kind <= 3 ? nest(f, kind, 4, 0) : kind == 4 ? nibe(f, 2, 0) : homiq(f, "I.3;1;0H;0;42;s", 0);
+        fill(f, n);
+        snprintf(name, sizeof name, "%s, short, good", names[kind]);
+        bad += compare(name, kind);
+        /* nothing but heads that claim the longest length */
+        static const u8 heads[][7] = {{0}, "$FE", {0xD5, 0xAA, 0x96, 0, 0, 0, 4}, {0xD5, 0xD5, 0xAA, 0x96, 0, 0, 0}, {0xC0, 0x6C, 0xFF}, "<;A;1;"};
+        static const usize sizes[] = {0, 3, 7, 7, 3, 6};
+        fill(heads[kind], sizes[kind]);
+        snprintf(name, sizeof name, "%s, heads only", names[kind]);
+        bad += compare(name, kind);
+    }
+    return bad ? 1 : 0;
+}

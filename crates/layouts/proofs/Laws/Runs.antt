@@ -1,0 +1,108 @@
+-- One step of each loop over a list, at an index; and the run of elements at the head of a list.
+-- Assumes nothing.
+use mathlib.Core.Path.{_≡_, refl, sym, _∙_}
+use Prim.Native.Nat.{ℕ, zero, suc, _+_, _-_, _≤_, _<_}
+use mathlib.Core.List.{List, [], _∷_, _++_}
+use mathlib.Core.Bool.{Bool, true, false, _&&_, _||_, and-false, cond}
+use native.Mathlib.Numerals.{add-one}
+use native.Mathlib.Nat.{le-of-suc-le-suc}
+use native.Mathlib.Omega.{arith}
+use lib.Dec.{T, eqb}
+use lib.ListN.{length, getD, drop, take, drop-of-length-le}
+use lib.Seq.{drop-cons}
+use borrow.Author.Tests.{eq-eqb, ne-eqb}
+use Rattle.digits.proofs.Laws.Tests.{T-and, T-true}
+use Rattle.layouts.specs.Paper.Chars.{oneOf, all}
+use Rattle.layouts.specs.Work.Heads.{starts, leading}
+
+-- the element at i, and the rest
+pub next : (s : List ℕ) (i : ℕ) → i < length s → drop i s ≡ getD s i 0 ∷ drop (i + 1) s
+next s i h = rw (add-one, drop-cons s i 0)
+
+module _ (p s : List ℕ) (i : ℕ) (h : i < length p) (k : i < length s) where
+  pub starts-hit : getD s i 0 ≡ getD p i 0 → starts (drop (i + 1) p) (drop (i + 1) s) ≡ starts (drop i p) (drop i s)
+  unfolding starts
+  starts-hit e = rw (next p i, next s i, eq-eqb _ _ e)
+
+  pub starts-miss : (getD s i 0 ≡ getD p i 0 → ⊥) → false ≡ starts (drop i p) (drop i s)
+  unfolding starts
+  starts-miss e = rw (next p i, next s i, ne-eqb _ _ e)
+
+pub starts-end : (p s : List ℕ) (i : ℕ) → length p ≤ i → true ≡ starts (drop i p) (drop i s)
+unfolding starts
+starts-end p s i h = rw (drop-of-length-le p h)
+
+pub starts-short : (p s : List ℕ) → length s < length p → starts p s ≡ false
+unfolding starts
+starts-short [] s h = absurd (omega arith)
+starts-short (y ∷ p) [] h = refl
+starts-short (y ∷ p) (x ∷ s) h = rw (starts-short p s (le-of-suc-le-suc h)) (and-false (eqb x y))
+
+-- the run of elements at the head: i of them passed
+module _ (f : ℕ → Bool) (s : List ℕ) (i : ℕ) where
+  pub leading-stop : i < length s → f (getD s i 0) ≡ false → i ≡ i + leading f (drop i s)
+  unfolding leading
+  leading-stop h e = rw (next s i, e) (omega arith)
+
+  pub leading-step : i < length s → f (getD s i 0) ≡ true → i + 1 + leading f (drop (i + 1) s) ≡ i + leading f (drop i s)
+  unfolding leading
+  leading-step h e = rw (next s i, e) (omega arith)
+
+  pub leading-end : length s ≤ i → i ≡ i + leading f (drop i s)
+  unfolding leading
+  leading-end h = rw (drop-of-length-le s h) (omega arith)
+
+-- all elements, and one of them
+module _ (f : ℕ → Bool) (s : List ℕ) (i : ℕ) where
+  pub all-stop : i < length s → f (getD s i 0) ≡ false → false ≡ all f (drop i s)
+  unfolding all
+  all-stop h e = rw (next s i, e)
+
+  pub all-step : i < length s → f (getD s i 0) ≡ true → all f (drop (i + 1) s) ≡ all f (drop i s)
+  unfolding all
+  all-step h e = rw (next s i, e)
+
+  pub all-end : length s ≤ i → true ≡ all f (drop i s)
+  unfolding all
+  all-end h = rw (drop-of-length-le s h)
+
+module _ (x : ℕ) (s : List ℕ) (i : ℕ) where
+  pub one-hit : i < length s → x ≡ getD s i 0 → true ≡ oneOf (drop i s) x
+  unfolding oneOf
+  one-hit h e = rw (next s i, eq-eqb _ _ e)
+
+  pub one-miss : i < length s → (x ≡ getD s i 0 → ⊥) → oneOf (drop (i + 1) s) x ≡ oneOf (drop i s) x
+  unfolding oneOf
+  one-miss h e = rw (next s i, ne-eqb _ _ e)
+
+  pub one-end : length s ≤ i → false ≡ oneOf (drop i s) x
+  unfolding oneOf
+  one-end h = rw (drop-of-length-le s h)
+
+-- ---- the run at the head
+
+pub leading-le : (f : ℕ → Bool) (s : List ℕ) → leading f s ≤ length s
+unfolding leading
+leading-le f [] = omega arith
+leading-le f (x ∷ s) = go (f x) (leading-le f s)
+  where
+    go : (b : Bool) → leading f s ≤ length s → cond b (suc (leading f s)) 0 ≤ suc (length s)
+    go true h = omega arith
+    go false h = omega arith
+
+pub leading-all : (f : ℕ → Bool) (s : List ℕ) → T (all f (take (leading f s) s))
+unfolding leading all
+leading-all f [] = tt
+leading-all f (x ∷ s) = go (f x) refl (leading-all f s)
+  where
+    go : (b : Bool) → f x ≡ b → T (all f (take (leading f s) s)) → T (all f (take (cond b (suc (leading f s)) 0) (x ∷ s)))
+    go true e h = rw e h
+    go false e h = tt
+
+pub leading-word : (f : ℕ → Bool) (w : List ℕ) (x : ℕ) (t : List ℕ) → T (all f w) → f x ≡ false → leading f (w ++ x ∷ t) ≡ length w
+unfolding leading all
+leading-word f [] x t a e = rw e
+leading-word f (y ∷ w) x t a e =
+    let q = T-and (f y) (all f w) a in
+    rw (T-true (f y) (q .0), leading-word f w x t (q .1) e)
+

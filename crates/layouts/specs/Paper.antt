@@ -1,0 +1,6 @@
+pub mod Chars
+pub mod Layout
+pub mod Nikobus
+pub mod Nest
+pub mod Nibe
+pub mod Homiq

@@ -1,0 +1,42 @@
+-- 01, "Kinds and frames": what a layout is, and what it is for bytes to be a frame.
+-- Assumes nothing.
+use mathlib.Core.Path.{_≡_}
+use Prim.Native.Nat.{ℕ, _+_, _≤_}
+use mathlib.Core.List.{List, _++_}
+use lib.ListN.{length, take}
+
+-- A layout: the fields of a frame, among them the check values that stand in it; their limits; the bytes that they make, before
+-- the payload, the payload, and behind it; and whether the check values are the right ones.
+pub record Layout : Type 1 where
+  pub Fields : Type 0
+  pub Limits : Fields → Type 0
+  pub before : Fields → List ℕ
+  pub payload : Fields → List ℕ
+  pub behind : Fields → List ℕ
+  pub Passes : Fields → Type 0
+
+-- the bytes of the fields, and the place where the payload ends
+abbrev pub bytesOf : (l : Layout) → l .Fields → List ℕ
+bytesOf l m = l .before m ++ l .payload m ++ l .behind m
+
+abbrev pub payloadFrom : (l : Layout) → l .Fields → ℕ
+payloadFrom l m = length (l .before m)
+
+abbrev pub payloadTo : (l : Layout) → l .Fields → ℕ
+payloadTo l m = length (l .before m) + length (l .payload m)
+
+-- f is laid out so, whatever its check values are
+pub record Form (l : Layout) (f : List ℕ) : Type 0 where
+  pub fields : l .Fields
+  pub limits : l .Limits fields
+  pub laid : f ≡ bytesOf l fields
+
+-- f is a frame: it is laid out so, and its check values are right
+pub record Frame (l : Layout) (f : List ℕ) : Type 0 where
+  pub form : Form l f
+  pub passes : l .Passes (form .fields)
+
+-- A frame of n bytes stands at the head of s, and its payload goes from one place in it to another; zeros where none stands there.
+pub data Leads (l : Layout) (s : List ℕ) : (n from to : ℕ) → Type 0 where
+  leads : {n : ℕ} → n ≤ length s → (f : Frame l (take n s)) → Leads l s n (payloadFrom l (f .form .fields)) (payloadTo l (f .form .fields))
+  none : ((n : ℕ) → n ≤ length s → Frame l (take n s) → ⊥) → Leads l s 0 0 0

@@ -1,0 +1,5 @@
+pub mod Heads
+pub mod Nikobus
+pub mod Nest
+pub mod Nibe
+pub mod Homiq

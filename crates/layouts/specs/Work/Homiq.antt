@@ -1,0 +1,69 @@
+-- Recognisers of Homiq frames.
+-- Assumes nothing.
+use Prim.Native.Nat.{ℕ, _+_, _-_}
+use mathlib.Core.Bool.{Bool, _&&_, cond}
+use mathlib.Core.List.{List, [], _∷_, _++_}
+use lib.Dec.{eqb, leb, ltb}
+use lib.ListN.{length, getD, take, drop}
+use Rattle.digits.specs.Paper.Ascii.{ascii}
+use Rattle.digits.specs.Paper.Bytes.{part}
+use Rattle.digits.specs.Paper.Decimal.{decimal}
+use Rattle.digits.specs.Work.Decimal.{guess}
+use Rattle.checks.specs.Paper.Check.{check}
+use Rattle.checks.specs.Paper.Buses.{homiqCrc}
+use Rattle.layouts.specs.Paper.Chars.{CR, LF}
+use Rattle.layouts.specs.Paper.Homiq.{fieldChar, firstId, lastId}
+use Rattle.layouts.specs.Work.Heads.{onlyIf, wordLen, leading, andThen, orElse, passing}
+
+-- a field of at most so many characters, and `;`
+unfoldable pub fieldLen : ℕ → List ℕ → ℕ
+fieldLen most s =
+    let n = leading fieldChar (take (most + 1) s) in
+    onlyIf (ltb 0 n) (onlyIf (leb n most) (onlyIf (eqb (getD s n 0) 59) (n + 1)))
+
+-- a decimal digit
+unfoldable pub isFigure : ℕ → Bool
+isFigure c = leb 48 c && leb c 57
+
+-- the number that up to four digits at the head are
+unfoldable pub numberIn : List ℕ → ℕ
+numberIn s = guess 0 (take (leading isFigure (take 4 s)) s)
+
+-- a number from low to high, and `;`
+unfoldable pub numberLen : ℕ → ℕ → List ℕ → ℕ
+numberLen low high s =
+    let v = numberIn s in
+    onlyIf (leb low v) (onlyIf (leb v high) (wordLen (decimal v ++ ascii ";") s))
+
+-- TYPE and `;`
+unfoldable pub typeLen : List ℕ → ℕ
+typeLen s = orElse (wordLen (ascii "s;") s) (wordLen (ascii "a;") s)
+
+-- `<;` CMD `;` VAL `;` SRC `;` DST `;` ID `;` TYPE `;`
+unfoldable pub headLen : List ℕ → ℕ
+headLen =
+    andThen (andThen (andThen (andThen (andThen (andThen (wordLen (ascii "<;"))
+    (λ _. fieldLen 8)) (λ _. fieldLen 16)) (λ _. fieldLen 4)) (λ _. fieldLen 4)) (λ _. numberLen firstId lastId)) (λ _. typeLen)
+
+-- .. CRC `;` `>` CR LF
+unfoldable pub homiqFormLen : List ℕ → ℕ
+homiqFormLen = andThen (andThen headLen (λ _. numberLen 0 255)) (λ _. wordLen (ascii ">" ++ (CR ∷ LF ∷ [])))
+
+-- all but `;`
+unfoldable pub kept : List ℕ → List ℕ
+kept [] = []
+kept (x ∷ s) = cond (eqb x 59) (kept s) (x ∷ kept s)
+
+-- the number behind TYPE is the CRC of what stands from CMD to there, the separators left out
+unfoldable pub homiqPasses : List ℕ → Bool
+homiqPasses w = eqb (numberIn (drop (headLen w) w)) (check homiqCrc (kept (part 2 (headLen w) w)))
+
+unfoldable pub homiqLen : List ℕ → ℕ
+homiqLen = passing homiqFormLen homiqPasses
+
+-- where the payload of what is laid out so begins and ends
+abbrev pub homiqFrom : List ℕ → ℕ
+homiqFrom w = 2
+
+unfoldable pub homiqTo : List ℕ → ℕ
+homiqTo w = headLen w - 1

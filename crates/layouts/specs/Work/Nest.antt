@@ -1,0 +1,40 @@
+-- Recognisers of Nest frames.
+-- Assumes nothing.
+use Prim.Native.Nat.{ℕ, _+_, _-_, _*_}
+use mathlib.Core.Bool.{Bool}
+use mathlib.Core.List.{List}
+use lib.Dec.{leb}
+use lib.ListN.{length, getD, take, drop}
+use Rattle.digits.specs.Paper.LowFirst.{lowFirst}
+use Rattle.checks.specs.Paper.Check.{check}
+use Rattle.checks.specs.Paper.Buses.{nestCrc}
+use Rattle.layouts.specs.Work.Heads.{onlyIf, starts, wordLen, bytesLen, andThen, passing}
+
+-- the payload's length, at the head of id, length and payload
+abbrev pub payloadLen : List ℕ → ℕ
+payloadLen s = getD s 2 0 + getD s 3 0 * 256
+
+-- id, length and payload
+unfoldable pub coveredLen : List ℕ → ℕ
+coveredLen s = onlyIf (leb (payloadLen s) 1024) (bytesLen (payloadLen s + 4) s)
+
+-- preamble; id, length and payload; two bytes more
+unfoldable pub nestFormLen : List ℕ → List ℕ → ℕ
+nestFormLen mark = andThen (andThen (wordLen mark) (λ _. coveredLen)) (λ _. bytesLen 2)
+
+-- of what stands behind the preamble, the last two bytes are the CRC of the others
+unfoldable pub crcPasses : List ℕ → Bool
+crcPasses u = starts (lowFirst 2 (check nestCrc (take (length u - 2) u))) (drop (length u - 2) u)
+
+unfoldable pub nestPasses : List ℕ → List ℕ → Bool
+nestPasses mark w = crcPasses (drop (length mark) w)
+
+unfoldable pub nestLen : List ℕ → List ℕ → ℕ
+nestLen mark = passing (nestFormLen mark) (nestPasses mark)
+
+-- where the payload of what is laid out so begins and ends
+abbrev pub nestFrom : List ℕ → List ℕ → ℕ
+nestFrom mark w = length mark + 4
+
+abbrev pub nestTo : List ℕ → List ℕ → ℕ
+nestTo mark w = length w - 2

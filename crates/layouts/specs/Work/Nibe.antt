@@ -1,0 +1,34 @@
+-- Recognisers of Nibe frames.
+-- Assumes nothing.
+use Prim.Native.Nat.{ℕ, _+_, _-_}
+use mathlib.Core.Bool.{Bool}
+use mathlib.Core.List.{List}
+use lib.Dec.{eqb, leb}
+use lib.ListN.{length, getD, take}
+use Rattle.digits.specs.Paper.Bytes.{part}
+use Rattle.checks.specs.Paper.Check.{check}
+use Rattle.checks.specs.Paper.Buses.{nibeXor}
+use Rattle.layouts.specs.Paper.Chars.{oneOf, all}
+use Rattle.layouts.specs.Paper.Nibe.{commands}
+use Rattle.layouts.specs.Work.Heads.{onlyIf, bytesLen, passing}
+
+-- C0, command, length, as many bytes as that, one byte more
+unfoldable pub nibeFormLen : List ℕ → ℕ
+nibeFormLen s =
+    onlyIf (eqb (getD s 0 0) 0xC0)
+    (onlyIf (oneOf commands (getD s 1 0))
+    (bytesLen (getD s 2 0 + 4) s))
+
+-- the last byte is the XOR of the length and the data
+unfoldable pub nibePasses : List ℕ → Bool
+nibePasses w = eqb (getD w (length w - 1) 0) (check nibeXor (part 2 (length w - 1) w))
+
+unfoldable pub nibeLen : List ℕ → ℕ
+nibeLen = passing nibeFormLen nibePasses
+
+-- where the payload of what is laid out so begins and ends
+abbrev pub nibeFrom : List ℕ → ℕ
+nibeFrom w = 3
+
+abbrev pub nibeTo : List ℕ → ℕ
+nibeTo w = length w - 1

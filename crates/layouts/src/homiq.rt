@@ -1,0 +1,249 @@
+// Homiq: `<;CMD;VAL;SRC;DST;ID;TYPE;CRC;>` CR LF.
+use super::Spot;
+use super::nothing;
+use super::words;
+use checks::homiq::Crc;
+ghost use mathlib.Core.Path.{_≡_};
+ghost use mathlib.Core.List.{[], _∷_};
+ghost use Prim.Native.Nat.{_≤_, _<_, _^_};
+ghost use lib.Dec.{T};
+ghost use lib.ListN.{length};
+ghost use Rattle.digits.specs.Paper.Decimal.{decimal};
+ghost use Rattle.digits.specs.Work.Decimal.{guess};
+ghost use Rattle.checks.specs.Paper.Check.{feed, check};
+ghost use Rattle.checks.specs.Paper.Buses.{homiqCrc};
+ghost use Rattle.layouts.specs.Paper.Chars.{all};
+ghost use Rattle.layouts.specs.Paper.Layout.{Leads};
+ghost use Rattle.layouts.specs.Paper.Homiq.{homiq, fieldChar};
+ghost use Rattle.layouts.specs.Work.Heads.{leading, onward};
+ghost use Rattle.layouts.specs.Work.Homiq.{fieldLen, isFigure, numberLen, typeLen, headLen, kept};
+
+// The frame at the head of s; its payload is CMD to TYPE.
+pub fn frame(s: &[u8]) -> Spot
+    ensures { λ r. ⌜ Leads homiq (now (s .entry)) (r .len) (r .from) (r .to) ⌝ }
+{
+    let before = head(s);
+    let behind = number_at(s, before, 0, 255);
+    let n = words::word_at(s, behind, b">\r\n");
+    if n == 0 {
+        return nothing();
+    }
+    if crc_of(&s[2..before]) as u16 != value(&s[before..behind - 1]) {
+        return nothing();
+    }
+    Spot {
+        len: n,
+        from: 2,
+        to: before - 1,
+    }
+}
+
+// The end of `<;` and six fields, each with its `;`.
+fn head(s: &[u8]) -> usize
+    ensures { λ r. ⌜ r ≡ headLen (now (s .entry)) ⌝ }
+{
+    let a = words::word(s, b"<;");
+    let b = field_at(s, a, 8);
+    let c = field_at(s, b, 16);
+    let d = field_at(s, c, 4);
+    let e = field_at(s, d, 4);
+    let f = number_at(s, e, 1, 511);
+    type_at(s, f)
+}
+
+// The end of a field of at most so many characters, with its `;`.
+fn field_at(s: &[u8], at: usize, most: usize) -> usize
+    requires { ⌜ at ≤ length (now s) ⌝ }
+    requires { ⌜ most < 2 ^ 32 ⌝ }
+    ensures { λ r. ⌜ r ≡ onward (fieldLen most) (now (s .entry)) at ⌝ }
+{
+    if at == 0 {
+        return 0;
+    }
+    words::onto(at, field(&s[at..], most))
+}
+
+fn field(s: &[u8], most: usize) -> usize
+    requires { ⌜ most < 2 ^ 32 ⌝ }
+    ensures { λ r. ⌜ r ≡ fieldLen most (now (s .entry)) ⌝ }
+{
+    let n = characters(words::first(s, most + 1));
+    if n == 0 {
+        return 0;
+    }
+    if most < n {
+        return 0;
+    }
+    if s.len() <= n {
+        return 0;
+    }
+    if s[n] != b';' {
+        return 0;
+    }
+    n + 1
+}
+
+// How many characters of a field are at the head of s.
+fn characters(s: &[u8]) -> usize
+    ensures { λ r. ⌜ r ≡ leading fieldChar (now (s .entry)) ⌝ }
+{
+    let mut i = 0;
+    while i < s.len() {
+        if !is_character(s[i]) {
+            return i;
+        }
+        i += 1;
+    }
+    i
+}
+
+fn is_character(c: u8) -> bool
+    ensures { λ r. ⌜ r ≡ fieldChar c ⌝ }
+{
+    if c < 0x21 {
+        return false;
+    }
+    if 0x7E < c {
+        return false;
+    }
+    if c == b';' {
+        return false;
+    }
+    if c == b'<' {
+        return false;
+    }
+    c != b'>'
+}
+
+// The end of a number from low to high, with its `;`.
+fn number_at(s: &[u8], at: usize, low: u16, high: u16) -> usize
+    requires { ⌜ at ≤ length (now s) ⌝ }
+    requires { ⌜ high < 1000 ⌝ }
+    ensures { λ r. ⌜ r ≡ onward (numberLen low high) (now (s .entry)) at ⌝ }
+{
+    if at == 0 {
+        return 0;
+    }
+    words::onto(at, number(&s[at..], low, high))
+}
+
+fn number(s: &[u8], low: u16, high: u16) -> usize
+    requires { ⌜ high < 1000 ⌝ }
+    ensures { λ r. ⌜ r ≡ numberLen low high (now (s .entry)) ⌝ }
+{
+    let n = figures(words::first(s, 4));
+    let v = value(&s[0..n]);
+    if v < low {
+        return 0;
+    }
+    if high < v {
+        return 0;
+    }
+    // none at all, or leading zeros
+    if n != width(v) {
+        return 0;
+    }
+    if s.len() <= n {
+        return 0;
+    }
+    if s[n] != b';' {
+        return 0;
+    }
+    n + 1
+}
+
+// How many decimal digits a number below 1,000 has.
+fn width(v: u16) -> usize
+    requires { ⌜ v < 1000 ⌝ }
+    ensures { λ r. ⌜ r ≡ length (decimal v) ⌝ }
+{
+    if v < 10 {
+        return 1;
+    }
+    if v < 100 {
+        return 2;
+    }
+    3
+}
+
+// How many decimal digits are at the head of s.
+fn figures(s: &[u8]) -> usize
+    ensures { λ r. ⌜ r ≡ leading isFigure (now (s .entry)) ⌝ }
+{
+    let mut i = 0;
+    while i < s.len() {
+        if !is_figure(s[i]) {
+            return i;
+        }
+        i += 1;
+    }
+    i
+}
+
+fn is_figure(c: u8) -> bool
+    ensures { λ r. ⌜ r ≡ isFigure c ⌝ }
+{
+    if c < b'0' {
+        return false;
+    }
+    c <= b'9'
+}
+
+// The number that at most four digits are: `0` is 48, so that a digit's character ends in its value.
+fn value(s: &[u8]) -> u16
+    requires { ⌜ length (now s) ≤ 4 ⌝ }
+    requires { ⌜ T (all isFigure (now s)) ⌝ }
+    ensures { λ r. ⌜ r ≡ guess 0 (now (s .entry)) ⌝ }
+{
+    let mut v: u16 = 0;
+    let mut i = 0;
+    while i < s.len() {
+        v = v * 10 + (s[i] % 16) as u16;
+        i += 1;
+    }
+    v
+}
+
+// The end of TYPE, with its `;`.
+fn type_at(s: &[u8], at: usize) -> usize
+    requires { ⌜ at ≤ length (now s) ⌝ }
+    ensures { λ r. ⌜ r ≡ onward typeLen (now (s .entry)) at ⌝ }
+{
+    if at == 0 {
+        return 0;
+    }
+    words::onto(at, type_of(&s[at..]))
+}
+
+fn type_of(s: &[u8]) -> usize
+    ensures { λ r. ⌜ r ≡ typeLen (now (s .entry)) ⌝ }
+{
+    let n = words::word(s, b"s;");
+    if n != 0 {
+        return n;
+    }
+    words::word(s, b"a;")
+}
+
+// The CRC of s, `;` left out.
+fn crc_of(s: &[u8]) -> u8
+    ensures { λ r. ⌜ r ≡ check homiqCrc (kept (now (s .entry))) ⌝ }
+{
+    let mut crc = Crc::new();
+    let mut i = 0;
+    while i < s.len() {
+        crc = crc_on(crc, s[i]);
+        i += 1;
+    }
+    crc.value
+}
+
+// The CRC after a character, where that is not `;`.
+fn crc_on(crc: Crc, c: u8) -> Crc
+    ensures { λ r. ⌜ r .value ≡ feed homiqCrc (crc .value) (kept (c ∷ [])) ⌝ }
+{
+    if c == b';' {
+        return crc;
+    }
+    crc.byte(c)
+}

@@ -1,0 +1,116 @@
+// Nest: preamble; id, length, payload; CRC.
+use super::Spot;
+use super::nothing;
+use super::words;
+use checks::nest::Crc;
+use digits::low_first;
+ghost use mathlib.Core.Path.{_≡_};
+ghost use Prim.Native.Nat.{_≤_, _<_};
+ghost use lib.ListN.{length};
+ghost use Rattle.layouts.specs.Paper.Layout.{Leads};
+ghost use Rattle.layouts.specs.Paper.Nest.{nest, nestWith};
+ghost use Rattle.layouts.specs.Work.Heads.{onward, bytesLen};
+ghost use Rattle.layouts.specs.Work.Nest.{coveredLen, nestFormLen, crcPasses};
+
+// Commands go to the backplate, responses come from it.
+pub enum Direction {
+    Command,
+    Response,
+}
+
+// The frame at the head of s.
+pub fn frame(direction: Direction, s: &[u8]) -> Spot
+    ensures { λ r. ⌜ Leads (nest direction) (now (s .entry)) (r .len) (r .from) (r .to) ⌝ }
+{
+    match direction {
+        Direction::Command => framed(s, b"\xD5\xAA\x96"),
+        Direction::Response => framed(s, b"\xD5\xD5\xAA\x96"),
+    }
+}
+
+// The frame with this preamble.
+fn framed(s: &[u8], preamble: &[u8]) -> Spot
+    requires { ⌜ 0 < length (now preamble) ⌝ }
+    ensures { λ r. ⌜ Leads (nestWith (now (preamble .entry))) (now (s .entry)) (r .len) (r .from) (r .to) ⌝ }
+{
+    let n = form(s, preamble);
+    if n == 0 {
+        return nothing();
+    }
+    let before = preamble.len();
+    if !passes(&s[before..n]) {
+        return nothing();
+    }
+    Spot {
+        len: n,
+        from: before + 4,
+        to: n - 2,
+    }
+}
+
+// The preamble, then the length: how long a frame that begins so is, 0 for none.
+fn form(s: &[u8], preamble: &[u8]) -> usize
+    ensures { λ r. ⌜ r ≡ nestFormLen (now (preamble .entry)) (now (s .entry)) ⌝ }
+{
+    let a = words::word(s, preamble);
+    let b = covered_at(s, a);
+    two_at(s, b)
+}
+
+// The end of id, length and payload.
+fn covered_at(s: &[u8], at: usize) -> usize
+    requires { ⌜ at ≤ length (now s) ⌝ }
+    ensures { λ r. ⌜ r ≡ onward coveredLen (now (s .entry)) at ⌝ }
+{
+    if at == 0 {
+        return 0;
+    }
+    words::onto(at, covered(&s[at..]))
+}
+
+fn covered(s: &[u8]) -> usize
+    ensures { λ r. ⌜ r ≡ coveredLen (now (s .entry)) ⌝ }
+{
+    if s.len() < 4 {
+        return 0;
+    }
+    let n = s[2] as usize + s[3] as usize * 256;
+    if 1024 < n {
+        return 0;
+    }
+    if s.len() < n + 4 {
+        return 0;
+    }
+    n + 4
+}
+
+// The end of two bytes.
+fn two_at(s: &[u8], at: usize) -> usize
+    requires { ⌜ at ≤ length (now s) ⌝ }
+    ensures { λ r. ⌜ r ≡ onward (bytesLen 2) (now (s .entry)) at ⌝ }
+{
+    if at == 0 {
+        return 0;
+    }
+    words::onto(at, two(&s[at..]))
+}
+
+fn two(s: &[u8]) -> usize
+    ensures { λ r. ⌜ r ≡ bytesLen 2 (now (s .entry)) ⌝ }
+{
+    if s.len() < 2 {
+        return 0;
+    }
+    2
+}
+
+// Whether the last two bytes of u are the CRC of those before them, low byte first.
+fn passes(u: &[u8]) -> bool
+    requires { ⌜ 2 ≤ length (now u) ⌝ }
+    ensures { λ r. ⌜ r ≡ crcPasses (now (u .entry)) ⌝ }
+{
+    let n = u.len() - 2;
+    let crc = Crc::of(&u[0..n]);
+    let expected = low_first::two(crc);
+    words::starts_with(&u[n..], &expected)
+}

@@ -1,0 +1,204 @@
+/* Document 01's frames in plain C, written from the document: what the proved search is compared with, and timed against. The
+   length of the frame at the head of s, of which there are m bytes; 0 for none. */
+#ifndef FRAMES_IN_C_H
+#define FRAMES_IN_C_H
+
+#include "prelude.h"
+
+static u16 crc_high16(u16 v, u8 b) {
+    v ^= (u16)(b << 8);
+    for (int k = 0; k < 8; k++)
+        v = v & 0x8000 ? (u16)(v << 1 ^ 0x1021) : (u16)(v << 1);
+    return v;
+}
+
+static u8 crc_high8(u8 v, u8 b) {
+    v ^= b;
+    for (int k = 0; k < 8; k++)
+        v = v & 0x80 ? (u8)(v << 1 ^ 0x99) : (u8)(v << 1);
+    return v;
+}
+
+static u8 crc_low8(u8 v, u8 b) {
+    v ^= b;
+    for (int k = 0; k < 8; k++)
+        v = v & 1 ? v >> 1 ^ 0x8C : v >> 1;
+    return v;
+}
+
+/* Nikobus */
+
+static int hex(u8 c) {
+    if (c >= '0' && c <= '9')
+        return c - '0';
+    if (c >= 'A' && c <= 'F')
+        return c - 'A' + 10;
+    return -1;
+}
+
+static int all_hex(const u8 *s, usize n) {
+    for (usize i = 0; i < n; i++)
+        if (hex(s[i]) < 0)
+            return 0;
+    return 1;
+}
+
+static u8 hex_byte(const u8 *s) { return (u8)(hex(s[0]) * 16 + hex(s[1])); }
+
+static usize link_length(const u8 *s, usize m) {
+    if (m < 3 || s[0] != '$' || !all_hex(s + 1, 2))
+        return 0;
+    usize n = hex_byte(s + 1);
+    if (n < 0x0C || n % 2 || m < n || !all_hex(s + 3, n - 4) || s[n - 1] != '\r')
+        return 0;
+    u16 crc16 = 0xFFFF;
+    for (usize i = 3; i < n - 7; i += 2)
+        crc16 = crc_high16(crc16, hex_byte(s + i));
+    if (hex_byte(s + n - 7) != crc16 >> 8 || hex_byte(s + n - 5) != (crc16 & 0xFF))
+        return 0;
+    u8 crc8 = 0;
+    for (usize i = 0; i < n - 3; i++)
+        crc8 = crc_high8(crc8, s[i]);
+    return hex_byte(s + n - 3) == crc8 ? n : 0;
+}
+
+static usize nikobus_length(const u8 *s, usize m) {
+    if (m >= 1 && s[0] == '$')
+        return link_length(s, m);
+    if (m >= 9 && s[0] == '#' && s[1] == 'N' && all_hex(s + 2, 6) && s[8] == '\r')
+        return 9;
+    if (m >= 4 && s[0] == '#' && s[1] == 'E' && s[2] == '1' && s[3] == '\r')
+        return 4;
+    return 0;
+}
+
+/* Nest: what stands behind the preamble */
+
+static usize nest_rest(const u8 *s, usize m) {
+    if (m < 6)
+        return 0;
+    usize n = s[2] + 256u * s[3];
+    if (n > 1024 || m < n + 6)
+        return 0;
+    u16 crc = 0;
+    for (usize i = 0; i < n + 4; i++)
+        crc = crc_high16(crc, s[i]);
+    return (s[n + 4] | s[n + 5] << 8) == crc ? n + 6 : 0;
+}
+
+static usize command_length(const u8 *s, usize m) {
+    if (m < 3 || s[0] != 0xD5 || s[1] != 0xAA || s[2] != 0x96)
+        return 0;
+    usize n = nest_rest(s + 3, m - 3);
+    return n ? n + 3 : 0;
+}
+
+static usize response_length(const u8 *s, usize m) {
+    if (m < 4 || s[0] != 0xD5 || s[1] != 0xD5 || s[2] != 0xAA || s[3] != 0x96)
+        return 0;
+    usize n = nest_rest(s + 4, m - 4);
+    return n ? n + 4 : 0;
+}
+
+/* Nibe */
+
+static usize nibe_length(const u8 *s, usize m) {
+    if (m < 4 || s[0] != 0xC0)
+        return 0;
+    switch (s[1]) {
+    case 0x60:
+    case 0x62:
+    case 0x68:
+    case 0x69:
+    case 0x6A:
+    case 0x6B:
+    case 0x6C:
+        break;
+    default:
+        return 0;
+    }
+    usize n = s[2];
+    if (m < n + 4)
+        return 0;
+    u8 x = 0;
+    for (usize i = 2; i < n + 3; i++)
+        x ^= s[i];
+    return x == s[n + 3] ? n + 4 : 0;
+}
+
+/* Homiq: each reader moves the place behind what it read, or sets it to 0 */
+
+struct reader {
+    const u8 *s;
+    usize m;
+    usize at;
+};
+
+static void read_char(struct reader *r, u8 c) {
+    if (!r->at || r->at >= r->m || r->s[r->at] != c)
+        r->at = 0;
+    else
+        r->at++;
+}
+
+static void read_field(struct reader *r, usize most) {
+    if (!r->at)
+        return;
+    usize n = 0;
+    for (; n <= most && r->at + n < r->m; n++) {
+        u8 c = r->s[r->at + n];
+        if (c < 0x21 || c > 0x7E || c == ';' || c == '<' || c == '>')
+            break;
+    }
+    r->at = n >= 1 && n <= most ? r->at + n : 0;
+    read_char(r, ';');
+}
+
+static u32 read_number(struct reader *r, u32 low, u32 high) {
+    if (!r->at)
+        return 0;
+    usize n = 0;
+    u32 v = 0;
+    for (; n < 4 && r->at + n < r->m; n++) {
+        u8 c = r->s[r->at + n];
+        if (c < '0' || c > '9')
+            break;
+        v = v * 10 + c - '0';
+    }
+    if (n == 0 || n > 3 || (n > 1 && r->s[r->at] == '0') || v < low || v > high)
+        r->at = 0;
+    else
+        r->at += n;
+    read_char(r, ';');
+    return v;
+}
+
+static usize homiq_length(const u8 *s, usize m) {
+    if (m < 2 || s[0] != '<' || s[1] != ';')
+        return 0;
+    struct reader r = {s, m, 2};
+    read_field(&r, 8);
+    read_field(&r, 16);
+    read_field(&r, 4);
+    read_field(&r, 4);
+    read_number(&r, 1, 511);
+    if (r.at && r.at < m && (s[r.at] == 's' || s[r.at] == 'a'))
+        r.at++;
+    else
+        r.at = 0;
+    read_char(&r, ';');
+    usize head = r.at;
+    u32 crc = read_number(&r, 0, 255);
+    read_char(&r, '>');
+    read_char(&r, '\r');
+    read_char(&r, '\n');
+    if (!r.at)
+        return 0;
+    u8 v = 0;
+    for (usize i = 2; i < head; i++)
+        if (s[i] != ';')
+            v = crc_low8(v, s[i]);
+    return v == crc ? r.at : 0;
+}
+
+#endif
