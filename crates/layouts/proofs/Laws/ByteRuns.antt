@@ -1,0 +1,49 @@
+-- Runs of bytes: what the recognisers ask of each element is what it is to be a byte.
+-- Assumes nothing.
+use mathlib.Core.Path.{_≡_, refl, sym, _∙_, ap}
+use Prim.Native.Nat.{ℕ, _≤_, _<_}
+use mathlib.Core.Bool.{Bool, true, false, _&&_, _||_}
+use mathlib.Core.List.{List, [], _∷_, _++_}
+use native.Mathlib.Omega.{arith}
+use lib.Dec.{T, eqb, ltb→lt, eqb→eq}
+use lib.ListN.{length, take}
+use borrow.Author.Tests.{lt-ltb, le-leb, lt-leb}
+use Rattle.digits.specs.Paper.Bytes.{Bytes}
+use Rattle.digits.proofs.Laws.Bytes.{bytes-nil, bytes-cons, bytes-head, bytes-tail, bytes-take}
+use Rattle.digits.proofs.Laws.Tests.{T-and}
+use Rattle.layouts.specs.Paper.Chars.{all, oneOf}
+use Rattle.layouts.specs.Work.Heads.{onlyIf, isByte, runLen, bytesLen}
+
+pub all-bytes : (s : List ℕ) → Bytes s → all isByte s ≡ true
+unfolding all isByte
+all-bytes [] h = refl
+all-bytes (x ∷ s) h = rw (lt-ltb x 256 (bytes-head h)) (all-bytes s (bytes-tail h))
+
+pub bytes-all : (s : List ℕ) → T (all isByte s) → Bytes s
+unfolding all isByte
+bytes-all [] h = bytes-nil
+bytes-all (x ∷ s) h =
+    let q = T-and (isByte x) (all isByte s) h in
+    bytes-cons (ltb→lt x 256 (q .0)) (bytes-all s (q .1))
+
+-- one of some bytes is a byte
+pub one-of-bytes : (l : List ℕ) (x : ℕ) → T (all isByte l) → T (oneOf l x) → x < 256
+unfolding all isByte oneOf
+one-of-bytes [] x a o = absurd o
+one-of-bytes (y ∷ l) x a o =
+    let q = T-and (isByte y) (all isByte l) a in
+    go (eqb x y) refl o (q .0) (λ k. one-of-bytes l x (q .1) k)
+  where
+    go : (b : Bool) → eqb x y ≡ b → T (b || oneOf l x) → T (isByte y) → (T (oneOf l x) → x < 256) → x < 256
+    go true e k h rest = let f : x ≡ y = eqb→eq x y (rw e tt) in rw f (ltb→lt y 256 h)
+    go false e k h rest = rest k
+
+-- what the code answers, which reads bytes: so many where there are so many
+module _ (k : ℕ) (s : List ℕ) where
+  pub bytes-short : length s < k → 0 ≡ bytesLen k s
+  unfolding runLen onlyIf
+  bytes-short h = simp (lt-leb k (length s) h)
+
+  pub bytes-there : Bytes s → k ≤ length s → k ≡ bytesLen k s
+  unfolding runLen onlyIf
+  bytes-there b h = simp (le-leb k (length s) h, all-bytes (take k s) (bytes-take k s b))

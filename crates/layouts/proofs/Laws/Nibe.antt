@@ -1,0 +1,131 @@
+-- The recognisers of Nibe find its frames, and only those.
+-- Assumes nothing.
+use mathlib.Core.Path.{_≡_, refl, sym, _∙_, ap, ap₂, subst}
+use Prim.Native.Nat.{ℕ, suc, _+_, _-_, _≤_, _<_}
+use mathlib.Core.Bool.{Bool, true}
+use mathlib.Core.List.{List, [], _∷_, _++_}
+use native.Mathlib.Omega.{arith}
+use lib.Dec.{T, eqb, eqb→eq, leb→le}
+use lib.ListN.{length, getD, take, drop, length-append, length-drop, drop-of-length-le, List·getD-append}
+use lib.Seq.{length-take-le, getD-append-seam, getD-take, split-at}
+use borrow.Author.Tests.{eq-eqb, ne-eqb, lt-leb}
+use Rattle.digits.specs.Paper.Bytes.{Bytes, part}
+use Rattle.digits.proofs.Laws.Bytes.{bytes-nil, bytes-cons, bytes-head, bytes-tail, bytes-append, bytes-take}
+use Rattle.digits.proofs.Laws.Parts.{part-middle}
+use Rattle.digits.proofs.Laws.Tests.{T-true}
+use Rattle.checks.specs.Paper.Check.{check}
+use Rattle.checks.specs.Paper.Buses.{nibeXor}
+use Rattle.layouts.specs.Paper.Chars.{oneOf, all}
+use Rattle.layouts.specs.Paper.Layout.{bytesOf, payloadTo, Form}
+use Rattle.layouts.specs.Paper.Nibe.{Nibe, commands, covered, Limits, Passes, nibe}
+use Rattle.layouts.specs.Work.Heads.{onlyIf, isByte, runLen, bytesLen}
+use Rattle.layouts.specs.Work.Nibe.{nibeFormLen, nibePasses, nibeFrom, nibeTo}
+use Rattle.layouts.proofs.Laws.Heads.{Head, Right, Run, run-right, only-test, only-eq, only-yes, only-no, only-zero}
+use Rattle.layouts.proofs.Laws.ByteRuns.{all-bytes, bytes-all, one-of-bytes, bytes-short}
+use Rattle.layouts.proofs.Laws.Buses.{Bus}
+
+-- the last element of a list, and those before it
+last-split : (n : ℕ) (u : List ℕ) → length u ≡ n + 1 → u ≡ take n u ++ (getD u n 0 ∷ [])
+last-split n u l =
+    let k : length u ≤ suc n = omega arith in
+    let d : drop (suc n) u ≡ [] = drop-of-length-le u k in
+    split-at u n 0 (omega arith) ∙ ap (λ (r : List ℕ). take n u ++ getD u n 0 ∷ r) d
+
+made : (w : List ℕ) (n : ℕ) → length w ≡ n + 4 → getD w 0 0 ≡ 0xC0 → T (oneOf commands (getD w 1 0)) → n ≡ getD w 2 0 → Bytes w → Form nibe w
+made [] n l a o e b = absurd (omega arith)
+made (x ∷ []) n l a o e b = absurd (omega arith)
+made (x ∷ y ∷ []) n l a o e b = absurd (omega arith)
+made (x ∷ y ∷ z ∷ u) n l a o e b =
+    let bu : Bytes u = bytes-tail (bytes-tail (bytes-tail b)) in
+    let bz : z < 256 = b .each 2 in
+    let k : length (take n u) ≡ n = length-take-le n u (omega arith) in
+    let f : z ≡ length (take n u) = omega arith in
+    record {
+      fields = record { command = y; content = take n u; xor = getD u n 0 };
+      limits = record { command = o; short = omega arith; bytes = bytes-take n u bu; xor = bu .each n };
+      laid = ap₂ (λ (p : ℕ) (q : List ℕ). p ∷ y ∷ z ∷ q) a (last-split n u (omega arith)) ∙ ap (λ (p : ℕ). 0xC0 ∷ y ∷ p ∷ (take n u ++ (getD u n 0 ∷ []))) f;
+    }
+
+frame-bytes : (m : Nibe) → Limits m → Bytes (bytesOf nibe m)
+unfolding all isByte
+frame-bytes m l =
+    let short = l .short in
+    bytes-cons {b = 0xC0} (omega arith)
+    (bytes-cons (one-of-bytes commands (m .command) tt (l .command))
+    (bytes-cons {b = length (m .content)} (omega arith) (bytes-append (m .content) (m .xor ∷ []) (l .bytes) (bytes-cons (l .xor) bytes-nil))))
+
+forms : Right (Form nibe) nibeFormLen
+unfolding nibeFormLen
+forms = record { some = some; sound = sound; complete = complete }
+  where
+    size : (m : Nibe) → length (bytesOf nibe m) ≡ length (m .content) + 4
+    size m = omega (arith, length-append (m .content) (m .xor ∷ []))
+
+    some : {w : List ℕ} → Form nibe w → 0 < length w
+    some r = rw (r .laid) (omega (arith, size (r .fields)))
+
+    found : (s : List ℕ) (n : ℕ) → getD s 0 0 ≡ 0xC0 → T (oneOf commands (getD s 1 0)) → n ≡ getD s 2 0 → Head (Run isByte (n + 4)) s (n + 4) → Head (Form nibe) s (n + 4)
+    found s n a o e h =
+        let q = h .is in
+        let at : (i : ℕ) → i < 4 → getD (h .word) i 0 ≡ getD s i 0 = λ i k. front (h .word) (h .rest) i (omega (arith, q .size)) ∙ ap (λ (l : List ℕ). getD l i 0) (sym (h .splits)) in
+        record {
+          word = h .word;
+          rest = h .rest;
+          splits = h .splits;
+          is = made (h .word) n (q .size) (at 0 (omega arith) ∙ a) (rw (at 1 (omega arith)) o) (e ∙ sym (at 2 (omega arith))) (bytes-all (h .word) (q .each));
+          size = h .size;
+        }
+      where
+        front : (u v : List ℕ) (i : ℕ) → i < length u → getD u i 0 ≡ getD (u ++ v) i 0
+        front u v i k = sym (List·getD-append u v 0 i k)
+
+    sound : (s : List ℕ) → 0 < nibeFormLen s → Head (Form nibe) s (nibeFormLen s)
+    sound s h₀ =
+        let e₀ = only-eq _ _ h₀ in
+        let h₁ = rw e₀ at h₀ in
+        let e₁ = only-eq _ _ h₁ in
+        let h₂ = rw e₁ at h₁ in
+        let h = run-right isByte (getD s 2 0 + 4) (omega arith) .sound s h₂ in
+        let e : bytesLen (getD s 2 0 + 4) s ≡ getD s 2 0 + 4 = h .size ∙ h .is .size in
+        subst (λ (k : ℕ). Head (Form nibe) s k) (sym (e₀ ∙ e₁ ∙ e))
+        (found s (getD s 2 0) (eqb→eq _ _ (only-test _ _ h₀)) (only-test _ _ h₁) refl (subst (λ (k : ℕ). Head (Run isByte (getD s 2 0 + 4)) s k) e h))
+
+    complete : {w : List ℕ} → Form nibe w → (t : List ℕ) → nibeFormLen (w ++ t) ≡ length w
+    complete r t =
+        let m = r .fields in
+        let w = bytesOf nibe m in
+        let run : Run isByte (length (m .content) + 4) w = record { size = size m; each = rw (all-bytes w (frame-bytes m (r .limits))) tt } in
+        rw (r .laid)
+        (only-yes _ _ refl ∙ only-yes _ _ (T-true _ (r .limits .command)) ∙ run-right isByte (length (m .content) + 4) (omega arith) .complete run t)
+
+-- the byte behind the data, and what the check covers
+module _ (m : Nibe) where
+  covered-part : part 2 (length (bytesOf nibe m) - 1) (bytesOf nibe m) ≡ covered (m .content)
+  covered-part =
+      part-middle (0xC0 ∷ m .command ∷ []) (covered (m .content)) (m .xor ∷ []) 2 (length (bytesOf nibe m) - 1) refl
+      (omega (arith, length-append (m .content) (m .xor ∷ [])))
+
+  check-byte : getD (bytesOf nibe m) (length (bytesOf nibe m) - 1) 0 ≡ m .xor
+  check-byte =
+      let e : length (bytesOf nibe m) - 1 ≡ length (0xC0 ∷ m .command ∷ covered (m .content)) = omega (arith, length-append (m .content) (m .xor ∷ [])) in
+      rw e (getD-append-seam (0xC0 ∷ m .command ∷ covered (m .content)) (m .xor) [] 0)
+
+passed : (w : List ℕ) (r : Form nibe w) → T (nibePasses w) → Passes (r .fields)
+unfolding nibePasses
+passed w r h =
+    let m = r .fields in
+    let e : getD w (length w - 1) 0 ≡ check nibeXor (part 2 (length w - 1) w) = eqb→eq _ _ h in
+    sym (check-byte m) ∙ rw (r .laid) at e ∙ ap (check nibeXor) (covered-part m)
+
+passes : (w : List ℕ) (r : Form nibe w) → Passes (r .fields) → T (nibePasses w)
+unfolding nibePasses
+passes w r h =
+    let m = r .fields in
+    rw (r .laid) (rw (eq-eqb _ _ (check-byte m ∙ h ∙ sym (ap (check nibeXor) (covered-part m)))) tt)
+
+ends : (w : List ℕ) (r : Form nibe w) → payloadTo nibe (r .fields) ≡ nibeTo w
+ends w r = let m = r .fields in rw (r .laid) (omega (arith, length-append (m .content) (m .xor ∷ [])))
+
+-- NIBE: its recognisers find its frames, and only those
+pub nibe-bus : Bus nibe nibeFormLen nibePasses nibeFrom nibeTo
+nibe-bus = record { forms = forms; passed = passed; passes = passes; begins = λ w r. refl; ends = ends }
