@@ -9,8 +9,8 @@ ghost use Prim.Native.Nat.{_≤_, _<_};
 ghost use lib.ListN.{length};
 ghost use Rattle.layouts.specs.Paper.Layout.{Leads};
 ghost use Rattle.layouts.specs.Paper.Nest.{nest, nestWith};
-ghost use Rattle.layouts.specs.Work.Heads.{onward, bytesLen};
-ghost use Rattle.layouts.specs.Work.Nest.{coveredLen, nestFormLen, crcPasses};
+ghost use Rattle.layouts.specs.Work.Heads.{onward};
+ghost use Rattle.layouts.specs.Work.Nest.{bodyLen, nestFormLen, crcPasses};
 
 // Commands go to the backplate, responses come from it.
 pub enum Direction {
@@ -52,56 +52,35 @@ fn framed(s: &[u8], preamble: &[u8]) -> Spot
 fn form(s: &[u8], preamble: &[u8]) -> usize
     ensures { λ r. ⌜ r ≡ nestFormLen (now (preamble .entry)) (now (s .entry)) ⌝ }
 {
-    let a = words::word(s, preamble);
-    let b = covered_at(s, a);
-    two_at(s, b)
+    let at = words::word(s, preamble);
+    body_at(s, at)
 }
 
-// The end of id, length and payload.
-fn covered_at(s: &[u8], at: usize) -> usize
+// The end of id, length, payload and CRC.
+fn body_at(s: &[u8], at: usize) -> usize
     requires { ⌜ at ≤ length (now s) ⌝ }
-    ensures { λ r. ⌜ r ≡ onward coveredLen (now (s .entry)) at ⌝ }
+    ensures { λ r. ⌜ r ≡ onward bodyLen (now (s .entry)) at ⌝ }
 {
     if at == 0 {
         return 0;
     }
-    words::onto(at, covered(&s[at..]))
+    words::onto(at, body(&s[at..]))
 }
 
-fn covered(s: &[u8]) -> usize
-    ensures { λ r. ⌜ r ≡ coveredLen (now (s .entry)) ⌝ }
+fn body(s: &[u8]) -> usize
+    ensures { λ r. ⌜ r ≡ bodyLen (now (s .entry)) ⌝ }
 {
-    if s.len() < 4 {
+    if s.len() < 6 {
         return 0;
     }
     let n = s[2] as usize + s[3] as usize * 256;
     if 1024 < n {
         return 0;
     }
-    if s.len() < n + 4 {
+    if s.len() < n + 6 {
         return 0;
     }
-    n + 4
-}
-
-// The end of two bytes.
-fn two_at(s: &[u8], at: usize) -> usize
-    requires { ⌜ at ≤ length (now s) ⌝ }
-    ensures { λ r. ⌜ r ≡ onward (bytesLen 2) (now (s .entry)) at ⌝ }
-{
-    if at == 0 {
-        return 0;
-    }
-    words::onto(at, two(&s[at..]))
-}
-
-fn two(s: &[u8]) -> usize
-    ensures { λ r. ⌜ r ≡ bytesLen 2 (now (s .entry)) ⌝ }
-{
-    if s.len() < 2 {
-        return 0;
-    }
-    2
+    n + 6
 }
 
 // Whether the last two bytes of u are the CRC of those before them, low byte first.

@@ -2,7 +2,7 @@
 -- Assumes nothing.
 use mathlib.Core.Path.{_≡_, refl, sym, _∙_, ap, ap₂, subst}
 use Prim.Native.Nat.{ℕ, suc, _+_, _-_, _≤_, _<_}
-use mathlib.Core.Bool.{Bool, true}
+use mathlib.Core.Bool.{Bool, true, false}
 use mathlib.Core.List.{List, [], _∷_, _++_}
 use native.Mathlib.Omega.{arith}
 use lib.Dec.{T, eqb, eqb→eq, leb→le}
@@ -21,7 +21,7 @@ use Rattle.layouts.specs.Paper.Nibe.{Nibe, commands, covered, Limits, Pa
 use Rattle.layouts.specs.Work.Heads.{onlyIf, isByte, runLen, bytesLen}
 use Rattle.layouts.specs.Work.Nibe.{nibeFormLen, nibePasses, nibeFrom, nibeTo}
 use Rattle.layouts.proofs.Laws.Heads.{Head, Right, Run, run-right, only-test, only-eq, only-yes, only-no, only-zero}
-use Rattle.layouts.proofs.Laws.ByteRuns.{all-bytes, bytes-all, one-of-bytes, bytes-short}
+use Rattle.layouts.proofs.Laws.ByteRuns.{all-bytes, bytes-all, one-of-bytes, bytes-short, bytes-there}
 use Rattle.layouts.proofs.Laws.Buses.{Bus}
 
 -- the last element of a list, and those before it
@@ -129,3 +129,29 @@ ends w r = let m = r .fields in rw (r .laid) (omega (arith, length-append (m .co
 -- NIBE: its recognisers find its frames, and only those
 pub nibe-bus : Bus nibe nibeFormLen nibePasses nibeFrom nibeTo
 nibe-bus = record { forms = forms; passed = passed; passes = passes; begins = λ w r. refl; ends = ends }
+
+-- ---- what the code answers
+
+module _ (s : List ℕ) where
+  pub form-mark : (getD s 0 0 ≡ 0xC0 → ⊥) → 0 ≡ nibeFormLen s
+  unfolding nibeFormLen
+  form-mark h = sym (only-no _ _ (ne-eqb _ _ h))
+
+  pub form-command : oneOf commands (getD s 1 0) ≡ false → 0 ≡ nibeFormLen s
+  unfolding nibeFormLen
+  form-command h = sym (ap (onlyIf (eqb (getD s 0 0) 0xC0)) (only-no (oneOf commands (getD s 1 0)) _ h) ∙ only-zero _)
+
+  pub form-short : length s < getD s 2 0 + 4 → 0 ≡ nibeFormLen s
+  unfolding nibeFormLen
+  form-short h = simp (sym (bytes-short (getD s 2 0 + 4) s h), only-zero)
+
+  pub form-there : Bytes s → getD s 0 0 ≡ 0xC0 → oneOf commands (getD s 1 0) ≡ true → getD s 2 0 + 4 ≤ length s → getD s 2 0 + 4 ≡ nibeFormLen s
+  unfolding nibeFormLen
+  form-there b a o h = bytes-there (getD s 2 0 + 4) s b h ∙ sym (only-yes _ _ (eq-eqb _ _ a) ∙ only-yes _ _ o)
+
+  pub form-least : 0 < nibeFormLen s → 4 ≤ nibeFormLen s
+  unfolding nibeFormLen
+  form-least h =
+      let k = forms .sound s h in
+      let m = k .is .fields in
+      omega (arith, k .size, ap length (k .is .laid), length-append (m .content) (m .xor ∷ []))

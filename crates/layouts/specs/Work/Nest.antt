@@ -10,17 +10,17 @@ use Rattle.checks.specs.Paper.Check.{check}
 use Rattle.checks.specs.Paper.Buses.{nestCrc}
 use Rattle.layouts.specs.Work.Heads.{onlyIf, starts, wordLen, bytesLen, andThen, passing}
 
--- the payload's length, at the head of id, length and payload
+-- the payload's length, behind the preamble
 abbrev pub payloadLen : List ℕ → ℕ
 payloadLen s = getD s 2 0 + getD s 3 0 * 256
 
--- id, length and payload
-unfoldable pub coveredLen : List ℕ → ℕ
-coveredLen s = onlyIf (leb (payloadLen s) 1024) (bytesLen (payloadLen s + 4) s)
+-- id, length, payload and CRC
+unfoldable pub bodyLen : List ℕ → ℕ
+bodyLen s = onlyIf (leb (payloadLen s) 1024) (bytesLen (payloadLen s + 6) s)
 
--- preamble; id, length and payload; two bytes more
+-- the preamble before them
 unfoldable pub nestFormLen : List ℕ → List ℕ → ℕ
-nestFormLen mark = andThen (andThen (wordLen mark) (λ _. coveredLen)) (λ _. bytesLen 2)
+nestFormLen mark = andThen (wordLen mark) (λ _. bodyLen)
 
 -- of what stands behind the preamble, the last two bytes are the CRC of the others
 unfoldable pub crcPasses : List ℕ → Bool

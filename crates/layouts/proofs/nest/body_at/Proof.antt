@@ -1,0 +1,40 @@
+use borrow.Author.Needs.{needs}
+use Rattle.layouts.proofs.nest.body_at.Statement.{statement}
+use Rattle.layouts.proofs.nest.body_at.Tie as tie
+use Rattle.layouts.proofs.nest.body_at.Reads as reads
+use Rattle.layouts.proofs.nest.body_at.Lts as lts
+use Rattle.layouts.proofs.nest.body.Reads as body-reads
+use Rattle.layouts.proofs.words.onto.Reads as onto-reads
+
+-- src/nest.rt:65:9
+returns : tie.Need-returns
+returns c = ?
+
+-- src/nest.rt:67:26
+sub-body : tie.Need-sub-body
+sub-body c = search needs
+
+-- src/nest.rt:67:26
+part-body-start : tie.Need-part-body-start
+part-body-start c = search needs
+
+-- src/nest.rt:67:26
+part-body-end : tie.Need-part-body-end
+part-body-end c = search needs
+
+-- src/nest.rt:67:21
+body-requires : tie.Need-body-requires
+body-requires c κs = search needs
+
+-- src/nest.rt:67:5
+onto-requires : tie.Need-onto-requires
+onto-requires c κs = ?
+
+-- src/nest.rt:60:1
+returns-2 : tie.Need-returns-2
+returns-2 c = ?
+
+pub body-at-spec : {M : Type 1} → statement M
+body-at-spec =
+    tie.close
+    (tie.spec returns sub-body part-body-start part-body-end body-requires onto-requires returns-2)
