@@ -5,7 +5,7 @@ use Prim.Native.Nat.{ℕ, zero, suc, _+_, _-_, _≤_, _<_}
 use mathlib.Core.List.{List, [], _∷_, _++_}
 use native.Mathlib.Omega.{arith}
 use lib.ListN.{length, getD, take, drop, length-take, length-drop}
-use lib.Seq.{take-all, take-add, take-at, drop-at, drop-drop, getD-take, getD-drop, drop-cons}
+use lib.Seq.{take-nil, take-all, take-add, take-at, drop-at, drop-drop, getD-take, getD-drop, drop-cons}
 use Rattle.digits.specs.Paper.Bytes.{part}
 
 pub length-part : (a e : ℕ) (s : List ℕ) → a ≤ e → e ≤ length s → length (part a e s) ≡ e - a
@@ -23,6 +23,13 @@ part-front e s = let z : e - 0 ≡ e = omega arith in rw z
 
 pub part-rest : (a : ℕ) (s : List ℕ) → part a (length s) s ≡ drop a s
 part-rest a s = take-all (length s - a) (drop a s) (omega (arith, length-drop a s))
+
+-- what the front of a list has from a place on
+pub front-rest : (a e : ℕ) (s : List ℕ) → a ≤ e → drop a (take e s) ≡ part a e s
+front-rest zero e s h = let z : e - 0 ≡ e = omega arith in rw z
+front-rest (suc a) zero s h = absurd (omega arith)
+front-rest (suc a) (suc e) [] h = sym (take-nil (suc e - suc a))
+front-rest (suc a) (suc e) (x ∷ s) h = let z : suc e - suc a ≡ e - a = omega arith in rw z (front-rest a e s (omega arith))
 
 -- two parts that meet are one
 pub part-join : (a m e : ℕ) (s : List ℕ) → a ≤ m → m ≤ e → part a m s ++ part m e s ≡ part a e s

@@ -2,14 +2,17 @@
 -- Assumes nothing.
 use mathlib.Core.Path.{_≡_, refl, sym, _∙_, ap, subst}
 use Prim.Native.Nat.{ℕ, zero, suc, _≤_, _<_}
-use mathlib.Core.Bool.{Bool}
+use mathlib.Core.Bool.{Bool, true, false}
 use mathlib.Core.List.{List}
 use native.Mathlib.Omega.{arith}
 use lib.Dec.{T}
 use lib.ListN.{length, take}
+use lib.Seq.{length-take-le}
+use Rattle.digits.specs.Paper.Bytes.{part}
+use Rattle.digits.proofs.Laws.Parts.{part-front}
 use Rattle.layouts.specs.Paper.Layout.{Layout, payloadFrom, payloadTo, Form, Frame, Leads, leads, none}
 use Rattle.layouts.specs.Work.Heads.{passing}
-use Rattle.layouts.proofs.Laws.Heads.{Right, Passed, passing-right, same-right, taken, inside, found}
+use Rattle.layouts.proofs.Laws.Heads.{Right, Passed, passing-right, same-right, taken, inside, found, only-yes, only-no, only-zero}
 
 -- `form` finds what is laid out so, `test` tells whether the check values are right, and the payload goes from `from` to `to`
 pub record Bus (l : Layout) (form : List ℕ → ℕ) (test : List ℕ → Bool) (from to : List ℕ → ℕ) : Type 0 where
@@ -48,6 +51,9 @@ module _ {l : Layout} {form : List ℕ → ℕ} {test : List ℕ → Bool} {from
       never : (n : ℕ) → passing form test s ≡ n → 0 < length (take n s) → ⊥
       never n k p = let z : n ≡ 0 = sym k ∙ sym e in let q : 0 < length (take 0 s) = rw z at p in omega arith
 
+  pub leads-nothing : (s : List ℕ) → 0 ≡ passing form test s → {n x y : ℕ} → n ≡ 0 → x ≡ 0 → y ≡ 0 → Leads l s n x y
+  leads-nothing s e en ex ey = rw (en, ex, ey) (leads-none s e)
+
   -- and what an answer says
   pub lead-length : {s : List ℕ} {n x y : ℕ} → Leads l s n x y → n ≡ passing form test s
   lead-length {s} {n} (leads h f) = sym (found frame-right s n h f)
@@ -67,3 +73,26 @@ module _ {l : Layout} {form : List ℕ → ℕ} {test : List ℕ → Bool} {from
   one-lead (leads {n = n} h f) (none g) = absurd (g n h f)
   one-lead (none g) (leads {n = n} h f) = absurd (g n h f)
   one-lead (none g) (none k) = (refl, refl, refl)
+
+-- ---- a form found, then the test of its checks
+
+module _ (form : List ℕ → ℕ) (test : List ℕ → Bool) (s : List ℕ) (n : ℕ) (e : n ≡ form s) where
+  pub no-form : n ≡ 0 → 0 ≡ passing form test s
+  no-form z = let k : form s ≡ 0 = sym e ∙ z in rw k (sym (only-zero _))
+
+  tested : (b : Bool) → b ≡ test (part 0 n s) → test (take (form s) s) ≡ b
+  tested b t = ap (λ (k : ℕ). test (take k s)) (sym e) ∙ ap test (sym (part-front n s)) ∙ sym t
+
+  pub form-fails : (b : Bool) → b ≡ test (part 0 n s) → b ≡ false → 0 ≡ passing form test s
+  form-fails b t f = sym (only-no _ _ (tested b t ∙ f))
+
+  pub form-holds : (b : Bool) → b ≡ test (part 0 n s) → b ≡ true → n ≡ passing form test s
+  form-holds b t f = e ∙ sym (only-yes _ _ (tested b t ∙ f))
+
+-- what was found is as long as was answered
+module _ {P : List ℕ → Type 0} {f : List ℕ → ℕ} (p : Right P f) (s : List ℕ) (n : ℕ) (e : n ≡ f s) where
+  pub found-length : length (take n s) ≡ n
+  found-length = length-take-le n s (rw e (inside p s))
+
+  pub found-part : length (part 0 n s) ≡ n
+  found-part = ap length (part-front n s) ∙ found-length

@@ -12,7 +12,7 @@ use borrow.Author.Tests.{le-leb, lt-leb}
 use Rattle.digits.specs.Paper.Bytes.{Bytes, part}
 use Rattle.digits.specs.Paper.LowFirst.{lowFirst}
 use Rattle.digits.proofs.Laws.Bytes.{bytes-tail, bytes-append, bytes-take, bytes-drop}
-use Rattle.digits.proofs.Laws.Parts.{part-front, part-rest}
+use Rattle.digits.proofs.Laws.Parts.{part-front, part-rest, front-rest}
 use Rattle.digits.proofs.Laws.LowFirst.{length-low, bytes-low, low-inj, low-all}
 use Rattle.checks.specs.Paper.Check.{check}
 use Rattle.checks.specs.Paper.Buses.{nestCrc}
@@ -24,7 +24,7 @@ use Rattle.layouts.specs.Work.Heads.{onlyIf, starts, wordLen, isByte, ru
 use Rattle.layouts.specs.Work.Nest.{payloadLen, bodyLen, nestFormLen, crcPasses, nestPasses, nestFrom, nestTo}
 use Rattle.layouts.proofs.Laws.Heads.{Head, Right, Then, Run, run-right, only-test, only-eq, only-yes, only-no, only-zero, inside, word-right, then-right, same-right, join, glue, starts-same, same-starts}
 use Rattle.layouts.proofs.Laws.ByteRuns.{all-bytes, bytes-all, bytes-short, bytes-there}
-use Rattle.layouts.proofs.Laws.Buses.{Bus}
+use Rattle.layouts.proofs.Laws.Buses.{Bus, found-length}
 
 -- ---- id, length, payload and CRC
 
@@ -223,11 +223,24 @@ pub crc-tested : (u e : List ℕ) (x : ℕ) → e ≡ lowFirst 2 x → x ≡ che
 unfolding crcPasses
 crc-tested u e x f g = rw (f, g, part-front (length u - 2) u, part-rest (length u - 2) u)
 
--- a form has room for the preamble and six bytes
-pub form-least : (mark : List ℕ) → 0 < length mark → (s : List ℕ) → 0 < nestFormLen mark s → length mark + 6 ≤ nestFormLen mark s
-form-least mark some s h =
-    let k = forms mark some .sound s h in
-    let m = k .is .fields in
-    let b : List ℕ = mark ++ lowFirst 2 (m .id) ++ lowFirst 2 (length (m .payload)) in
-    omega (arith, k .size, ap length (k .is .laid), length-append (b ++ m .payload) (lowFirst 2 (m .crc)), length-append b (m .payload), length-low 2 (m .crc),
-    length-append (mark ++ lowFirst 2 (m .id)) (lowFirst 2 (length (m .payload))), length-append mark (lowFirst 2 (m .id)), length-low 2 (m .id), length-low 2 (length (m .payload)))
+-- what is laid out so has the preamble and six bytes at least, the CRC is tested behind the preamble, and the payload ends before it
+module _ (mark : List ℕ) (some : 0 < length mark) (s : List ℕ) (n : ℕ) (e : n ≡ nestFormLen mark s) where
+  pub nest-room : (n ≡ 0 → ⊥) → length mark + 6 ≤ n
+  nest-room nz =
+      let k = forms mark some .sound s (omega (arith, e)) in
+      let m = k .is .fields in
+      let b : List ℕ = mark ++ lowFirst 2 (m .id) ++ lowFirst 2 (length (m .payload)) in
+      omega (arith, e, k .size, ap length (k .is .laid), length-append (b ++ m .payload) (lowFirst 2 (m .crc)), length-append b (m .payload), length-low 2 (m .crc),
+      length-append (mark ++ lowFirst 2 (m .id)) (lowFirst 2 (length (m .payload))), length-append mark (lowFirst 2 (m .id)), length-low 2 (m .id), length-low 2 (length (m .payload)))
+
+  pub nest-inside : n ≤ length s
+  nest-inside = rw e (inside (forms mark some) s)
+
+  pub nest-tested : (n ≡ 0 → ⊥) → crcPasses (part (length mark) n s) ≡ nestPasses mark (part 0 n s)
+  unfolding nestPasses
+  nest-tested nz =
+      let h : length mark ≤ n = omega (arith, nest-room nz) in
+      ap crcPasses (sym (front-rest (length mark) n s h) ∙ ap (drop (length mark)) (sym (part-front n s)))
+
+  pub nest-end : n - 2 ≡ nestTo mark (take n s)
+  nest-end = ap (λ (k : ℕ). k - 2) (sym (found-length (forms mark some) s n e))

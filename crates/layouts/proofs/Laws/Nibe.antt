@@ -22,7 +22,7 @@ use Rattle.layouts.specs.Work.Heads.{onlyIf, isByte, runLen, bytesLen}
 use Rattle.layouts.specs.Work.Nibe.{nibeFormLen, nibePasses, nibeFrom, nibeTo}
 use Rattle.layouts.proofs.Laws.Heads.{Head, Right, Run, run-right, only-test, only-eq, only-yes, only-no, only-zero}
 use Rattle.layouts.proofs.Laws.ByteRuns.{all-bytes, bytes-all, one-of-bytes, bytes-short, bytes-there}
-use Rattle.layouts.proofs.Laws.Buses.{Bus}
+use Rattle.layouts.proofs.Laws.Buses.{Bus, found-length, found-part}
 
 -- the last element of a list, and those before it
 last-split : (n : ℕ) (u : List ℕ) → length u ≡ n + 1 → u ≡ take n u ++ (getD u n 0 ∷ [])
@@ -149,9 +149,13 @@ module _ (s : List ℕ) where
   unfolding nibeFormLen
   form-there b a o h = bytes-there (getD s 2 0 + 4) s b h ∙ sym (only-yes _ _ (eq-eqb _ _ a) ∙ only-yes _ _ o)
 
-  pub form-least : 0 < nibeFormLen s → 4 ≤ nibeFormLen s
-  unfolding nibeFormLen
-  form-least h =
-      let k = forms .sound s h in
-      let m = k .is .fields in
-      omega (arith, k .size, ap length (k .is .laid), length-append (m .content) (m .xor ∷ []))
+  -- what is laid out so has four bytes and more, and its data end before the last
+  module _ (n : ℕ) (e : n ≡ nibeFormLen s) where
+    pub nibe-room : (n ≡ 0 → ⊥) → 4 ≤ length (part 0 n s)
+    nibe-room nz =
+        let k = forms .sound s (omega (arith, e)) in
+        let m = k .is .fields in
+        omega (arith, e, found-part forms s n e, k .size, ap length (k .is .laid), length-append (m .content) (m .xor ∷ []))
+
+    pub nibe-end : n - 1 ≡ nibeTo (take n s)
+    nibe-end = ap (λ (k : ℕ). k - 1) (sym (found-length forms s n e))
