@@ -26,17 +26,21 @@ bytes-all (x ∷ s) h =
     let q = T-and (isByte x) (all isByte s) h in
     bytes-cons (ltb→lt x 256 (q .0)) (bytes-all s (q .1))
 
--- one of some bytes is a byte
-pub one-of-bytes : (l : List ℕ) (x : ℕ) → T (all isByte l) → T (oneOf l x) → x < 256
-unfolding all isByte oneOf
-one-of-bytes [] x a o = absurd o
-one-of-bytes (y ∷ l) x a o =
-    let q = T-and (isByte y) (all isByte l) a in
-    go (eqb x y) refl o (q .0) (λ k. one-of-bytes l x (q .1) k)
+-- what holds of all of some elements holds of one of them
+pub one-of-all : (f : ℕ → Bool) (l : List ℕ) (x : ℕ) → T (all f l) → T (oneOf l x) → T (f x)
+unfolding all oneOf
+one-of-all f [] x a o = absurd o
+one-of-all f (y ∷ l) x a o =
+    let q = T-and (f y) (all f l) a in
+    go (eqb x y) refl o (q .0) (λ k. one-of-all f l x (q .1) k)
   where
-    go : (b : Bool) → eqb x y ≡ b → T (b || oneOf l x) → T (isByte y) → (T (oneOf l x) → x < 256) → x < 256
-    go true e k h rest = let f : x ≡ y = eqb→eq x y (rw e tt) in rw f (ltb→lt y 256 h)
+    go : (b : Bool) → eqb x y ≡ b → T (b || oneOf l x) → T (f y) → (T (oneOf l x) → T (f x)) → T (f x)
+    go true e k h rest = let d : x ≡ y = eqb→eq x y (rw e tt) in rw d h
     go false e k h rest = rest k
+
+pub one-of-bytes : (l : List ℕ) (x : ℕ) → T (all isByte l) → T (oneOf l x) → x < 256
+unfolding isByte
+one-of-bytes l x a o = ltb→lt x 256 (one-of-all isByte l x a o)
 
 -- what the code answers, which reads bytes: so many where there are so many
 module _ (k : ℕ) (s : List ℕ) where

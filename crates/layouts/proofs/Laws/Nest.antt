@@ -230,8 +230,19 @@ module _ (mark : List ℕ) (some : 0 < length mark) (s : List ℕ) (n : ℕ) (e 
       let k = forms mark some .sound s (omega (arith, e)) in
       let m = k .is .fields in
       let b : List ℕ = mark ++ lowFirst 2 (m .id) ++ lowFirst 2 (length (m .payload)) in
-      omega (arith, e, k .size, ap length (k .is .laid), length-append (b ++ m .payload) (lowFirst 2 (m .crc)), length-append b (m .payload), length-low 2 (m .crc),
-      length-append (mark ++ lowFirst 2 (m .id)) (lowFirst 2 (length (m .payload))), length-append mark (lowFirst 2 (m .id)), length-low 2 (m .id), length-low 2 (length (m .payload)))
+      omega (
+        arith,
+        e,
+        k .size,
+        ap length (k .is .laid),
+        length-append (b ++ m .payload) (lowFirst 2 (m .crc)),
+        length-append b (m .payload),
+        length-low 2 (m .crc),
+        length-append (mark ++ lowFirst 2 (m .id)) (lowFirst 2 (length (m .payload))),
+        length-append mark (lowFirst 2 (m .id)),
+        length-low 2 (m .id),
+        length-low 2 (length (m .payload)),
+      )
 
   pub nest-inside : n ≤ length s
   nest-inside = rw e (inside (forms mark some) s)

@@ -1,0 +1,6 @@
+pub mod Kinds
+pub mod Places
+pub mod Causes
+pub mod Seek
+pub mod Starts
+pub mod Runs

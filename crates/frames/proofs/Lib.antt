@@ -1,0 +1,5 @@
+pub mod Laws
+pub mod Theorems
+pub mod Demand
+pub mod Known
+pub mod Unique

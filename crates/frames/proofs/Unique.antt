@@ -1,0 +1,108 @@
+-- For each public function: two answers that meet its promise are the same answer.
+-- Assumes nothing.
+use mathlib.Core.Path.{_≡_, refl, sym, _∙_, ap, ap₂, subst}
+use mathlib.Core.Logic.{_⊎_, inl, inr, ⊎-elim}
+use Prim.Native.Nat.{ℕ, _+_, _≤_, _<_}
+use mathlib.Core.List.{List, [], _∷_}
+use native.Mathlib.Omega.{arith}
+use native.Mathlib.Decide.{decLe}
+use native.Mathlib.Nat.{eq-or-lt-of-le}
+use Rattle.digits.specs.Paper.Bytes.{part}
+use Rattle.digits.specs.declared.refusal.Refusal.{Refusal}
+use Rattle.digits.proofs.Laws.Refusals.{same-answer, one-answer}
+use Rattle.frames.specs.Paper.Kinds.{Frame, payloadFrom, payloadTo}
+use Rattle.frames.specs.Paper.Search.{FrameAt, Hit, Leftmost, foundNumber, foundHit, Searches, Hands}
+use Rattle.frames.specs.Paper.Runs as R
+use Rattle.frames.specs.Paper.Runs.{Run}
+use Rattle.frames.specs.Paper.Whole.{Ends, OneFrame, wholeNumber, wholeEnds, TestsWhole}
+use Rattle.frames.specs.Work.Frames.{fromOf, toOf}
+use Rattle.frames.specs.declared.Found.{Found}
+use Rattle.frames.specs.declared.Found.the-variants.{At, Refused}
+use Rattle.frames.specs.declared.Whole.{Whole}
+use Rattle.frames.specs.declared.Whole.the-variants.{Is, Refused as NotWhole}
+use Rattle.frames.proofs.Laws.Kinds.{begins, ends}
+use Rattle.frames.proofs.Laws.Places.{one-length}
+
+-- ---- the leftmost frame
+
+apart : (i j : ℕ) → (i ≡ j) ⊎ ((i < j) ⊎ (j < i))
+apart i j = go (decLe i j)
+  where
+    go : Dec (i ≤ j) → (i ≡ j) ⊎ ((i < j) ⊎ (j < i))
+    go (yes h) = ⊎-elim inl (λ l. inr (inl l)) (eq-or-lt-of-le h)
+    go (no h) = inr (inr (omega arith))
+
+abbrev hit : (start len from to : ℕ) → Hit
+hit i n x y = record { start = i; len = n; from = x; to = y }
+
+module _ {k : ℕ} {s : List ℕ} {place : ℕ} where
+  from-of : {v : Hit} (l : Leftmost k s place v) → v .from ≡ v .start + fromOf k (part (v .start) (v .start + v .len) s)
+  from-of {v} l = l .from-is ∙ ap (λ (x : ℕ). v .start + x) (begins (l .stands .frame))
+
+  to-of : {v : Hit} (l : Leftmost k s place v) → v .to ≡ v .start + toOf k (part (v .start) (v .start + v .len) s)
+  to-of {v} l = l .to-is ∙ ap (λ (x : ℕ). v .start + x) (ends (l .stands .frame))
+
+  pub leftmost-one : (u v : Hit) → Leftmost k s place u → Leftmost k s place v → u ≡ v
+  leftmost-one u v a b =
+      ⊎-elim
+      (λ (e : u .start ≡ v .start).
+      let n : u .len ≡ v .len = one-length (a .stands) (subst (λ (i : ℕ). FrameAt k s i (v .len)) (sym e) (b .stands)) in
+      let p : part (u .start) (u .start + u .len) s ≡ part (v .start) (v .start + v .len) s = rw (e, n) in
+      let x : u .from ≡ v .from = from-of a ∙ ap₂ (λ (i : ℕ) (w : List ℕ). i + fromOf k w) e p ∙ sym (from-of b) in
+      let y : u .to ≡ v .to = to-of a ∙ ap₂ (λ (i : ℕ) (w : List ℕ). i + toOf k w) e p ∙ sym (to-of b) in
+      same (u .start) (v .start) (u .len) (v .len) (u .from) (v .from) (u .to) (v .to) e n x y)
+      (λ h. absurd (⊎-elim (λ (l : u .start < v .start). b .none-before (u .start) (u .len) (a .behind) l (a .stands)) (λ (l : v .start < u .start). a .none-before (v .start) (v .len) (b .behind) l (b .stands)) h))
+      (apart (u .start) (v .start))
+    where
+      same : (i i′ n n′ x x′ y y′ : ℕ) → i ≡ i′ → n ≡ n′ → x ≡ x′ → y ≡ y′ → hit i n x y ≡ hit i′ n′ x′ y′
+      same i i′ n n′ x x′ y y′ p q r t = rw (p, q, r, t)
+
+-- ---- frames::search
+
+found-cases : (P : Found → Type 0) → ((v : Hit) → P (At (v .start) (v .len) (v .from) (v .to))) → ((why : Refusal) → P (Refused why)) → (r : Found) → P r
+found-cases P f g (At i n x y) = f (hit i n x y)
+found-cases P f g (Refused why) = g why
+
+found-answer : (r q : Found) → foundNumber r ≡ foundNumber q → foundHit r ≡ foundHit q → r ≡ q
+found-answer = same-answer (λ (v : Hit). At (v .start) (v .len) (v .from) (v .to)) Refused foundNumber foundHit (λ v. refl) (λ why. refl) (λ v. refl) found-cases
+
+pub searched-one : {k : ℕ} {s : List ℕ} {place : ℕ} (r q : Found) → Searches k s place r → Searches k s place q → r ≡ q
+searched-one r q a b = let e = one-answer leftmost-one a b in found-answer r q (e .0) (e .1)
+
+-- ---- frames::frame and frames::payload
+
+pub handed-one : {k : ℕ} {s : List ℕ} {place : ℕ} (cut : Hit → List ℕ) (p q : List ℕ) → Hands k s place cut p → Hands k s place cut q → p ≡ q
+handed-one cut p q a b = one-answer (λ u v x y. x .2 ∙ ap cut (leftmost-one (x .0) (y .0) (x .1) (y .1)) ∙ sym (y .2)) (a .answer) (b .answer) .1
+
+-- ---- frames::whole
+
+module _ {k : ℕ} {s : List ℕ} where
+  ends-one : (u v : Ends) → OneFrame k s u → OneFrame k s v → u ≡ v
+  ends-one u v a b =
+      let x : u .from ≡ v .from = a .from-is ∙ begins (a .frame) ∙ sym (begins (b .frame)) ∙ sym (b .from-is) in
+      let y : u .to ≡ v .to = a .to-is ∙ ends (a .frame) ∙ sym (ends (b .frame)) ∙ sym (b .to-is) in
+      same (u .from) (v .from) (u .to) (v .to) x y
+    where
+      same : (x x′ y y′ : ℕ) → x ≡ x′ → y ≡ y′ → record { from = x; to = y } ≡ record { from = x′; to = y′ }
+      same x x′ y y′ p q = rw (p, q)
+
+  pub whole-one : (r q : Whole) → TestsWhole k s r → TestsWhole k s q → r ≡ q
+  whole-one r q a b = let e = one-answer ends-one a b in whole-answer r q (e .0) (e .1)
+    where
+      whole-cases : (P : Whole → Type 0) → ((v : Ends) → P (Is (v .from) (v .to))) → ((why : Refusal) → P (NotWhole why)) → (r : Whole) → P r
+      whole-cases P f g (Is x y) = f (record { from = x; to = y })
+      whole-cases P f g (NotWhole why) = g why
+
+      whole-answer : (r q : Whole) → wholeNumber r ≡ wholeNumber q → wholeEnds r ≡ wholeEnds q → r ≡ q
+      whole-answer = same-answer (λ (v : Ends). Is (v .from) (v .to)) NotWhole wholeNumber wholeEnds (λ v. refl) (λ why. refl) (λ v. refl) whole-cases
+
+-- ---- one search after the other
+
+pub run-one : {k : ℕ} {s : List ℕ} {place : ℕ} {xs ys : List Hit} → Run k s place xs → Run k s place ys → xs ≡ ys
+run-one (R.ends a) (R.ends b) = refl
+run-one (R.ends a) (R.finds b r) = absurd (differ (searched-one _ _ a b))
+  where
+    differ : {why : Refusal} {i n x y : ℕ} → Refused why ≡ At i n x y → ⊥
+    differ e = ?
+run-one (R.finds a r) (R.ends b) = ?
+run-one (R.finds a r) (R.finds b q) = ?

@@ -1,0 +1,5 @@
+pub mod Kinds
+pub mod Search
+pub mod Runs
+pub mod Whole
+pub mod Demand

@@ -1,0 +1,91 @@
+// Frames of the five kinds in a buffer: the search, and the parts that it hands back.
+mod kinds;
+mod seek;
+
+use digits::refusal::Refusal;
+ghost use mathlib.Core.Path.{_≡_};
+ghost use Rattle.frames.specs.Paper.Search.{Searches, Hands, framePart, payloadPart};
+ghost use Rattle.frames.specs.Paper.Whole.{TestsWhole};
+
+// What a search finds: the frame's start and length, and the places where its payload begins and ends.
+pub enum Found {
+    At {
+        start: usize,
+        len: usize,
+        from: usize,
+        to: usize,
+    },
+    Refused(Refusal),
+}
+
+// Whether bytes are one frame: the places where its payload begins and ends.
+pub enum Whole {
+    Is { from: usize, to: usize },
+    Refused(Refusal),
+}
+
+// The frame with the smallest start at or after the place. Refusals: 2 for a kind that is not known, 3 for a place beyond the
+// buffer's length, 1 for no frame from there on.
+pub fn search(kind: u8, buffer: &[u8], place: usize) -> Found
+    ensures { λ r. ⌜ Searches kind (now (buffer .entry)) place r ⌝ }
+{
+    if !kinds::known(kind) {
+        return Found::Refused(Refusal::Kind);
+    }
+    if buffer.len() < place {
+        return Found::Refused(Refusal::Place);
+    }
+    seek::first(kind, buffer, place)
+}
+
+// That frame, as a part of the buffer; empty for a refusal.
+pub fn frame(kind: u8, buffer: &[u8], place: usize) -> &[u8]
+    ensures { λ r. ⌜ Hands kind (now (buffer .entry)) place (framePart (now (buffer .entry))) (now r) ⌝ }
+{
+    match search(kind, buffer, place) {
+        Found::At {
+            start,
+            len,
+            from,
+            to,
+        } => &buffer[start..start + len],
+        Found::Refused(why) => &buffer[..0],
+    }
+}
+
+// Its payload, as a part of the buffer; empty for a refusal.
+pub fn payload(kind: u8, buffer: &[u8], place: usize) -> &[u8]
+    ensures { λ r. ⌜ Hands kind (now (buffer .entry)) place (payloadPart (now (buffer .entry))) (now r) ⌝ }
+{
+    match search(kind, buffer, place) {
+        Found::At {
+            start,
+            len,
+            from,
+            to,
+        } => &buffer[from..to],
+        Found::Refused(why) => &buffer[..0],
+    }
+}
+
+// Whether s is one frame and no byte more. Refusals: 2 for a kind that is not known, 5 for anything else than one frame.
+pub fn whole(kind: u8, s: &[u8]) -> Whole
+    ensures { λ r. ⌜ TestsWhole kind (now (s .entry)) r ⌝ }
+{
+    if !kinds::known(kind) {
+        return Whole::Refused(Refusal::Kind);
+    }
+    let n = s.len();
+    if n == 0 {
+        return Whole::Refused(Refusal::Limits);
+    }
+    let spot = kinds::at_head(kind, s);
+    let len = spot.len;
+    if len != n {
+        return Whole::Refused(Refusal::Limits);
+    }
+    Whole::Is {
+        from: spot.from,
+        to: spot.to,
+    }
+}
