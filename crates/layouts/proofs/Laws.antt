@@ -4,3 +4,7 @@ pub mod Buses
 pub mod ByteRuns
 pub mod Nest
 pub mod Nibe
+pub mod HomiqFields
+pub mod Homiq
+pub mod HomiqOne
+pub mod HomiqFrame

@@ -327,15 +327,18 @@ module _ {P : List ℕ → Type 0} {f : List ℕ → ℕ} (p : Right P f) where
   found s n h a =
       ap f (sym (take-append-drop n s)) ∙ p .complete a (drop n s) ∙ length-take-le n s h
 
--- what stands at a place ends in the list, too
-pub onward-inside : (f : List ℕ → ℕ) → ((s : List ℕ) → f s ≤ length s) → (s : List ℕ) (at : ℕ) → at ≤ length s → onward f s at ≤ length s
+-- what stands at a place ends in the list, too, wherever it is looked for
+pub ends-inside : (f : List ℕ → ℕ) → ((s : List ℕ) → f s ≤ length s) → (s : List ℕ) (at r : ℕ) → r ≡ onward f s at → r ≤ length s
 unfolding on
-onward-inside f inner s zero h = omega arith
-onward-inside f inner s (suc a) h = go (f (drop (suc a) s)) (inner (drop (suc a) s))
+ends-inside f inner s zero r e = omega arith
+ends-inside f inner s (suc a) r e = go (f (drop (suc a) s)) (inner (drop (suc a) s)) e
   where
-    go : (n : ℕ) → n ≤ length (drop (suc a) s) → on (suc a) n ≤ length s
-    go zero k = omega arith
-    go (suc n) k = omega (arith, length-drop (suc a) s)
+    go : (n : ℕ) → n ≤ length (drop (suc a) s) → r ≡ on (suc a) n → r ≤ length s
+    go zero k e = omega arith
+    go (suc n) k e = omega (arith, length-drop (suc a) s)
+
+pub onward-inside : (f : List ℕ → ℕ) → ((s : List ℕ) → f s ≤ length s) → (s : List ℕ) (at : ℕ) → at ≤ length s → onward f s at ≤ length s
+onward-inside f inner s at h = ends-inside f inner s at (onward f s at) refl
 
 -- what the code finds in the part from a place on: its end is no larger than a slice is long, and is where the word ends
 module _ (f : List ℕ → ℕ) (s : List ℕ) (at n : ℕ) (e : n ≡ f (part at (length s) s)) where

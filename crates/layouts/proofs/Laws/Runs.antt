@@ -8,8 +8,8 @@ use native.Mathlib.Numerals.{add-one}
 use native.Mathlib.Nat.{le-of-suc-le-suc}
 use native.Mathlib.Omega.{arith}
 use lib.Dec.{T, eqb}
-use lib.ListN.{length, getD, drop, take, drop-of-length-le}
-use lib.Seq.{drop-cons}
+use lib.ListN.{length, getD, drop, take, drop-of-length-le, length-take}
+use lib.Seq.{drop-cons, take-take}
 use borrow.Author.Tests.{eq-eqb, ne-eqb}
 use Rattle.digits.proofs.Laws.Tests.{T-and, T-true}
 use Rattle.layouts.specs.Paper.Chars.{oneOf, all}
@@ -99,9 +99,32 @@ leading-all f (x ∷ s) = go (f x) refl (leading-all f s)
     go true e h = rw e h
     go false e h = tt
 
-pub leading-word : (f : ℕ → Bool) (w : List ℕ) (x : ℕ) (t : List ℕ) → T (all f w) → f x ≡ false → leading f (w ++ x ∷ t) ≡ length w
+-- the run within the first k elements
+module _ (f : ℕ → Bool) (k : ℕ) (s : List ℕ) where
+  pub leading-most : (leading f (take k s) ≤ k) × (leading f (take k s) ≤ length s)
+  leading-most = let l = leading-le f (take k s) in let m = length-take k s in (omega arith, omega arith)
+
+  pub leading-front : T (all f (take (leading f (take k s)) s))
+  leading-front = let t = leading-all f (take k s) in rw (take-take (leading f (take k s)) k s (leading-most .0)) at t
+
+-- a word and then an element that f does not hold of, within the first k
+pub leading-word : (f : ℕ → Bool) (w : List ℕ) (x : ℕ) (t : List ℕ) (k : ℕ) → T (all f w) → f x ≡ false → length w < k
+    → leading f (take k (w ++ x ∷ t)) ≡ length w
 unfolding leading all
-leading-word f [] x t a e = rw e
-leading-word f (y ∷ w) x t a e =
+leading-word f w x t zero a e h = absurd (omega arith)
+leading-word f [] x t (suc k) a e h = rw e
+leading-word f (y ∷ w) x t (suc k) a e h =
     let q = T-and (f y) (all f w) a in
-    rw (T-true (f y) (q .0), leading-word f w x t (q .1) e)
+    rw (T-true (f y) (q .0), leading-word f w x t k (q .1) e (omega arith))
+
+-- f holds of each element, one by one
+pub all-by : (f : ℕ → Bool) (s : List ℕ) → ((i : ℕ) → i < length s → f (getD s i 0) ≡ true) → T (all f s)
+unfolding all
+all-by f [] h = tt
+all-by f (x ∷ s) h = rw (h 0 (omega arith)) (all-by f s (λ i k. h (suc i) (omega arith)))
+
+pub all-at : (f : ℕ → Bool) (s : List ℕ) (i : ℕ) → T (all f s) → i < length s → T (f (getD s i 0))
+unfolding all
+all-at f [] i a h = absurd (omega arith)
+all-at f (x ∷ s) zero a h = T-and (f x) (all f s) a .0
+all-at f (x ∷ s) (suc i) a h = all-at f s i (T-and (f x) (all f s) a .1) (omega arith)

@@ -1,0 +1,131 @@
+-- `layouts::homiq::frame` meets its contract: what is found is laid out so, and the test of the CRC is the definition's.
+-- Assumes nothing.
+use native.Mathlib.Omega.{arith}
+use denote.Ref.{now}
+use Rattle.layouts.specs.Work.Homiq.{numberLen}
+use Rattle.layouts.proofs.Laws.Heads.{inside, ends-inside}
+use Rattle.layouts.proofs.Laws.HomiqFields.{number-right}
+use Rattle.layouts.proofs.Laws.Homiq.{head-right}
+use Rattle.layouts.proofs.Laws.HomiqFrame.{Found, frame-none, frame-found, frame-figures, frame-other, frame-same}
+use borrow.Author.Needs.{needs}
+use Rattle.layouts.proofs.homiq.frame.Statement.{statement}
+use Rattle.layouts.proofs.homiq.frame.Tie as tie
+use Rattle.layouts.proofs.homiq.frame.Reads as reads
+use Rattle.layouts.proofs.homiq.frame.Lts as lts
+use Rattle.layouts.proofs.homiq.crc_of.Reads as crc-of-reads
+use Rattle.layouts.proofs.homiq.head.Reads as head-reads
+use Rattle.layouts.proofs.homiq.number_at.Reads as number-at-reads
+use Rattle.layouts.proofs.homiq.value.Reads as value-reads
+use Rattle.layouts.proofs.nothing.Reads as nothing-reads
+use Rattle.layouts.proofs.words.word_at.Reads as word-at-reads
+
+head-requires : tie.Need-head-requires
+head-requires c κs = search needs
+
+number-at-requires : tie.Need-number-at-requires
+number-at-requires c κs = let e = c .head .ensures in (rw e (inside head-right _), omega arith)
+
+slice-aggregate-word-at : tie.Need-slice-aggregate-word-at
+slice-aggregate-word-at c = search needs
+
+word-at-requires : tie.Need-word-at-requires
+word-at-requires c κs = ends-inside (numberLen 0 255) (inside (number-right 0 255 (omega arith))) _ _ _ (c .before .number-at .ensures)
+
+nothing-requires : tie.Need-nothing-requires
+nothing-requires c κs = search needs
+
+returns : tie.Need-returns
+returns c = let w = c .before .before in rw (c .nothing .ensures .0, c .nothing .ensures .1 .0, c .nothing .ensures .1 .1) (frame-none _ _ _ _ (w .before .before .before .head .ensures) (w .before .before .number-at .ensures) (w .word-at .ensures) (c .before .if1 .taken))
+
+-- behind the first test: what stands where
+abbrev Behind : Type 0
+Behind =
+    lts.Else1 (
+      head-reads.Asked,
+      head-reads.Learnt,
+      number-at-reads.Asked,
+      number-at-reads.Learnt,
+      word-at-reads.Asked,
+      word-at-reads.Learnt,
+      nothing-reads.Asked,
+      nothing-reads.Learnt,
+      crc-of-reads.Asked,
+      crc-of-reads.Learnt,
+      value-reads.Asked,
+      value-reads.Learnt,
+    )
+    reads.Pre reads.Post
+
+found : (c : Behind)
+    → Found (now (c .before .before .before .before .before .before .args .s)) (c .before .before .before .before .head .result)
+    (c .before .before .before .number-at .result) (c .before .word-at .result)
+found c =
+    let w = c .before in
+    frame-found _ _ _ _ (w .before .before .before .head .ensures) (w .before .before .number-at .ensures) (w .word-at .ensures) (c .if1 .left)
+
+sub-crc-of : tie.Need-sub-crc-of
+sub-crc-of c = found c .two
+
+part-crc-of-start : tie.Need-part-crc-of-start
+part-crc-of-start c = found c .two
+
+part-crc-of-end : tie.Need-part-crc-of-end
+part-crc-of-end c = let f = found c in omega (arith, f .crosses, f .inner)
+
+crc-of-requires : tie.Need-crc-of-requires
+crc-of-requires c κs = search needs
+
+cast-if2 : tie.Need-cast-if2
+cast-if2 c = search needs
+
+sub-value : tie.Need-sub-value
+sub-value c = let f = found (c .before .before) in omega (arith, f .crosses)
+
+sub-value-2 : tie.Need-sub-value-2
+sub-value-2 c = let f = found (c .before .before) in omega (arith, f .crosses)
+
+part-value-start : tie.Need-part-value-start
+part-value-start c = let f = found (c .before .before) in omega (arith, f .crosses)
+
+part-value-end : tie.Need-part-value-end
+part-value-end c = let f = found (c .before .before) in omega (arith, f .inner)
+
+value-requires : tie.Need-value-requires
+value-requires c κs = frame-figures (found (c .before .before .before))
+
+nothing-requires-2 : tie.Need-nothing-requires-2
+nothing-requires-2 c κs = search needs
+
+returns-2 : tie.Need-returns-2
+returns-2 c = let v = c .before .before in rw (c .nothing2 .ensures .0, c .nothing2 .ensures .1 .0, c .nothing2 .ensures .1 .1) (frame-other (found (c .before .before .before .before .before .before)) _ _ (v .before .before .crc-of .ensures) (v .value .ensures) (c .before .if2 .taken))
+
+sub-t11 : tie.Need-sub-t11
+sub-t11 c = let f = found (c .before .before .before .before .before) in omega (arith, f .two)
+
+returns-3 : tie.Need-returns-3
+returns-3 c = frame-same (found (c .before .before .before .before .before)) _ _ (c .before .before .before .crc-of .ensures) (c .before .value .ensures) (c .if2 .left)
+
+pub frame-spec : {M : Type 1} → statement M
+frame-spec =
+    tie.close
+    (tie.spec
+    head-requires
+    number-at-requires
+    slice-aggregate-word-at
+    word-at-requires
+    nothing-requires
+    returns
+    sub-crc-of
+    part-crc-of-start
+    part-crc-of-end
+    crc-of-requires
+    cast-if2
+    sub-value
+    sub-value-2
+    part-value-start
+    part-value-end
+    value-requires
+    nothing-requires-2
+    returns-2
+    sub-t11
+    returns-3)

@@ -1,0 +1,45 @@
+-- `layouts::homiq::number_at` meets its contract: the end of what `number` finds from a place on.
+-- Assumes nothing.
+use native.Mathlib.Omega.{arith}
+use denote.Ref.{now}
+use Rattle.layouts.specs.Work.Heads.{on}
+use Rattle.layouts.specs.Work.Homiq.{numberLen}
+use Rattle.layouts.proofs.Laws.Heads.{inside, at-fits, at-ends}
+use Rattle.layouts.proofs.Laws.HomiqFields.{number-right}
+use borrow.Author.Needs.{needs}
+use Rattle.layouts.proofs.homiq.number_at.Statement.{statement}
+use Rattle.layouts.proofs.homiq.number_at.Tie as tie
+
+returns : tie.Need-returns
+unfolding on
+returns c = simp (c .if1 .taken)
+
+sub-number : tie.Need-sub-number
+sub-number c = search needs
+
+part-number-start : tie.Need-part-number-start
+part-number-start c = search needs
+
+part-number-end : tie.Need-part-number-end
+part-number-end c = search needs
+
+number-requires : tie.Need-number-requires
+number-requires c κs = search needs
+
+onto-requires : tie.Need-onto-requires
+onto-requires c κs = let s = c .before .before .before .before in at-fits (numberLen (s .args .low) (s .args .high)) (now (s .args .s)) _ _ (c .number .ensures) (inside (number-right _ _ (s .pre .1))) (s .pre .0) (omega (arith, s .good))
+
+returns-2 : tie.Need-returns-2
+returns-2 c = let s = c .before .before .before .before .before in at-ends (numberLen (s .args .low) (s .args .high)) (now (s .args .s)) _ _ (c .before .number .ensures) _ (c .onto .ensures)
+
+pub number-at-spec : {M : Type 1} → statement M
+number-at-spec =
+    tie.close
+    (tie.spec
+    returns
+    sub-number
+    part-number-start
+    part-number-end
+    number-requires
+    onto-requires
+    returns-2)
