@@ -1,3 +1,5 @@
 pub mod Heads
 pub mod Runs
 pub mod Buses
+pub mod HexDigits
+pub mod Nikobus
