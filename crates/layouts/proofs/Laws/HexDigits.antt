@@ -3,11 +3,11 @@
 use mathlib.Core.Path.{_≡_, refl, sym, _∙_, ap, ap₂, subst}
 use Prim.Native.Nat.{ℕ, zero, suc, _+_, _-_, _*_, _/_, _%_, _^_, _≤_, _<_}
 use mathlib.Core.List.{List, [], _∷_, _++_, append-assoc}
-use mathlib.Core.Bool.{Bool, true, false, _&&_, _||_, cond}
+use mathlib.Core.Bool.{Bool, true, false, not, _&&_, _||_, cond}
 use native.Mathlib.Omega.{arith}
 use lib.Dec.{T, eqb, leb, ltb, eqb→eq, leb→le, lit<}
 use lib.ListN.{length, getD, drop, length-drop}
-use borrow.Author.Tests.{lt-ltb, le-ltb, leb-true, leb-false}
+use borrow.Author.Tests.{lt-ltb, le-ltb, leb-true, leb-false, not-true, not-false}
 use Rattle.digits.specs.Paper.Ascii.{ascii}
 use Rattle.digits.specs.Paper.Bytes.{Bytes}
 use Rattle.digits.specs.Paper.Hex.{hexDigit, hexByte, hexWord, hexBytes}
@@ -96,6 +96,13 @@ hex-high c h = go (leb c 70) refl
     go : (b : Bool) → leb c 70 ≡ b → b ≡ isHex c
     go true e = sym (T-true _ (hex-letter c h (leb-true c 70 e)))
     go false e = sym (no-hex c (λ k. hex-cases c ⊥ k (λ x y. omega arith) (λ x y. omega (arith, leb-false c 70 e))))
+
+-- what the code's test tells
+pub told-hex : (c : ℕ) {r : Bool} → r ≡ isHex c → not r ≡ false → T (isHex c)
+told-hex c e f = rw (sym e ∙ not-false _ f) tt
+
+pub told-no-hex : (c : ℕ) {r : Bool} → r ≡ isHex c → not r ≡ true → T (isHex c) → ⊥
+told-no-hex c e f h = rw (sym e ∙ not-true _ f) at h
 
 -- each of digits is one
 pub hex-at : (s : List ℕ) (i : ℕ) → i < length s → T (all isHex s) → T (isHex (getD s i 0))

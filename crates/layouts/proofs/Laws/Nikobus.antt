@@ -15,20 +15,20 @@ use Rattle.digits.specs.Paper.Hex.{hexDigit, hexByte, hexBytes, hexWord}
 use Rattle.digits.specs.Work.Hex.{placeOf}
 use Rattle.digits.proofs.Laws.Bytes.{bytes-take, bytes-drop, bytes-append, bytes-cons, bytes-nil}
 use Rattle.digits.proofs.Laws.Hex.{length-hex, hex-inj, byte-inj, word-inj, word-of}
-use Rattle.digits.proofs.Laws.Parts.{part-middle, take-ats}
+use Rattle.digits.proofs.Laws.Parts.{part-front, part-middle, take-ats}
 use Rattle.digits.proofs.Laws.Tests.{T-and, T-true}
 use Rattle.checks.specs.Paper.Check.{check}
 use Rattle.checks.specs.Paper.Buses.{nikobusCrc16, nikobusCrc8}
 use Rattle.checks.proofs.Laws.Feed.{check-lt}
 use Rattle.layouts.specs.Paper.Chars.{all, isHex, CR}
-use Rattle.layouts.specs.Paper.Layout.{bytesOf, payloadFrom, payloadTo, Form}
+use Rattle.layouts.specs.Paper.Layout.{bytesOf, payloadFrom, payloadTo, Form, Leads}
 use Rattle.layouts.specs.Paper.Nikobus.{Nikobus, link, press, tail, Limits, link-limits, press-limits, tail-limits, linkChecked, Passes, link-passes, press-passes, tail-passes, nikobus}
 use Rattle.layouts.specs.Work.Heads.{onlyIf, starts, wordLen, runLen, on, onward, andThen, orElse, passing}
 use Rattle.layouts.specs.Work.Nikobus.{hexPair, digitsLen, llOf, linkHeadLen, linkFormLen, pressLen, tailLen, nikobusFormLen, passes16, passes8, linkLen, nikobusPasses, nikobusFrom, nikobusTo}
 use Rattle.layouts.specs.Work.Nikobus.{bytesOf as bytesIn}
-use Rattle.layouts.proofs.Laws.Heads.{Head, Right, Then, Or, left, right, Run, join, glue, only-test, only-eq, only-yes, only-no, only-zero, starts-splits, starts-append, starts-same, same-starts, word-right, run-right, then-right, or-right, same-right}
-use Rattle.layouts.proofs.Laws.HexDigits.{length-byte, length-word, pair-byte, pair-lt, hex-append, word-hex, byte-hex, bytes-hex, hex-all, hex-bytes, length-bytes, bytes-bytes}
-use Rattle.layouts.proofs.Laws.Buses.{Bus}
+use Rattle.layouts.proofs.Laws.Heads.{Head, Right, Then, Or, left, right, Run, join, glue, only-test, only-eq, only-yes, only-no, only-zero, starts-splits, starts-append, starts-same, same-starts, word-right, run-right, then-right, or-right, same-right, or-first, or-second, taken, inside}
+use Rattle.layouts.proofs.Laws.HexDigits.{digit-hex, length-byte, length-word, pair-byte, pair-lt, byte-pair, hex-append, word-hex, byte-hex, bytes-hex, hex-all, hex-bytes, length-bytes, bytes-bytes}
+use Rattle.layouts.proofs.Laws.Buses.{Bus, frame-right, leads-at, leads-none}
 
 -- ---- `$`, LL
 
@@ -431,3 +431,203 @@ nikobus-one (press d) tail k l e = absurd (different 1 (λ q. omega arith) e)
 nikobus-one tail (link p x y) k l e = absurd (different 0 (λ q. omega arith) e)
 nikobus-one tail (press d) k l e = absurd (different 1 (λ q. omega arith) e)
 nikobus-one tail tail k l e = refl
+
+-- ---- what the code finds: LL
+
+-- what stands at the head where LL is there
+pub record LlThere (s : List ℕ) : Type 0 where
+  pub size : 3 ≤ length s
+  pub mark : getD s 0 0 ≡ 36
+  pub high : T (isHex (getD s 1 0))
+  pub low : T (isHex (getD s 2 0))
+  pub least : 12 ≤ hexPair (getD s 1 0) (getD s 2 0)
+  pub even : hexPair (getD s 1 0) (getD s 2 0) % 2 ≡ 0
+
+ll-is : (s : List ℕ) → LlThere s → llOf s ≡ hexPair (getD s 1 0) (getD s 2 0)
+unfolding llOf
+ll-is [] r = absurd (omega (arith, r .size))
+ll-is (x ∷ []) r = absurd (omega (arith, r .size))
+ll-is (x ∷ y ∷ []) r = absurd (omega (arith, r .size))
+ll-is (x ∷ y ∷ z ∷ s) r =
+    let ll = hexPair y z in
+    let b : hexByte ll ≡ y ∷ z ∷ [] = byte-pair y z (r .high) (r .low) in
+    let m : x ≡ 36 = r .mark in
+    let e : starts (36 ∷ hexByte ll) (x ∷ y ∷ z ∷ s) ≡ true = rw (b, m) (starts-append (36 ∷ y ∷ z ∷ []) s) in
+    only-yes _ _ e ∙ only-yes _ _ (le-leb 12 ll (r .least)) ∙ only-yes _ _ (eq-eqb _ 0 (r .even))
+
+pub ll-whole : (s : List ℕ) (n : ℕ) → 3 ≤ length s → getD s 0 0 ≡ 36 → T (isHex (getD s 1 0)) → T (isHex (getD s 2 0))
+    → n ≡ hexPair (getD s 1 0) (getD s 2 0) → 12 ≤ n → n % 2 ≡ 0 → n ≡ llOf s
+ll-whole s n z m h l e a b =
+    e ∙ sym (ll-is s (record { size = z; mark = m; high = h; low = l; least = rw e at a; even = rw e at b }))
+
+ll-made : (ll : ℕ) (t : List ℕ) → 12 ≤ ll → ll % 2 ≡ 0 → ll < 256 → LlThere ((36 ∷ hexByte ll) ++ t)
+unfolding hexByte
+ll-made ll t a b c =
+    let e : hexPair (hexDigit (ll / 16)) (hexDigit (ll % 16)) ≡ ll = pair-byte ll c in
+    record {
+      size = omega arith;
+      mark = refl;
+      high = digit-hex (ll / 16) (omega arith);
+      low = digit-hex (ll % 16) (omega arith);
+      least = rw e a;
+      even = rw e b;
+    }
+
+pub ll-there : (s : List ℕ) → 0 < llOf s → LlThere s
+ll-there s k =
+    let h = ll-sound s 3 refl k in
+    let r = h .is in
+    subst LlThere (sym (h .splits ∙ ap (λ (w : List ℕ). w ++ h .rest) (r .layout))) (ll-made (r .ll) (h .rest) (r .low) (r .even) (r .byte))
+
+pub no-ll : (s : List ℕ) → (LlThere s → ⊥) → 0 ≡ llOf s
+no-ll s f = go (llOf s) refl
+  where
+    go : (n : ℕ) → llOf s ≡ n → 0 ≡ n
+    go zero e = refl
+    go (suc n) e = absurd (f (ll-there s (omega (arith, e))))
+
+pub ll-least : (s : List ℕ) → 0 < llOf s → 12 ≤ llOf s
+ll-least s k = let r = ll-there s k in omega (arith, r .least, ll-is s r)
+
+-- ---- .. a link's form
+
+ll-take : (s : List ℕ) → llOf (take 3 s) ≡ llOf s
+unfolding llOf starts hexByte
+ll-take [] = refl
+ll-take (x ∷ []) = refl
+ll-take (x ∷ y ∷ []) = refl
+ll-take (x ∷ y ∷ z ∷ s) = refl
+
+pub digits-are : (k : ℕ) (s : List ℕ) (r : Bool) → k ≤ length s → all isHex (part 0 k s) ≡ r → digitsLen k s ≡ onlyIf r k
+unfolding runLen
+digits-are k s r h e =
+    only-yes _ _ (le-leb k (length s) h) ∙ ap (λ (b : Bool). onlyIf b k) (ap (all isHex) (sym (part-front k s)) ∙ e)
+
+module _ (s : List ℕ) (n : ℕ) (is : n ≡ llOf s) where
+  pub no-form : n ≡ 0 → 0 ≡ linkFormLen s
+  unfolding linkFormLen linkHeadLen onlyIf on
+  no-form z = let e : llOf s ≡ 0 = sym is ∙ z in rw e
+
+  pub form-whole : (n ≡ 0 → ⊥) → (end r : ℕ) → end ≡ onward (digitsLen (n - 4)) s 3 → r ≡ onward (wordLen (CR ∷ [])) s end → r ≡ linkFormLen s
+  unfolding linkFormLen linkHeadLen
+  form-whole nz end r ee er =
+      let h : onlyIf (ltb 0 (llOf s)) 3 ≡ 3 = only-yes _ _ (lt-ltb 0 (llOf s) (omega (arith, is))) in
+      er ∙ rw (ee, is, h, ll-take s)
+
+-- ---- .. a link
+
+link-long : (w : List ℕ) → LinkForm w → 10 ≤ length w
+link-long w r = rw (r .laid) (omega (arith, link-size (r .payload) (r .crc16) (r .crc8)))
+
+link-hex : (w : List ℕ) → LinkForm w → T (all isHex (part 3 (length w - 7) w))
+link-hex w r = go (r .payload) (r .crc16) (r .crc8) (r .limits) (r .laid)
+  where
+    go : (p : List ℕ) (x y : ℕ) → Limits (link p x y) → w ≡ bytesOf nikobus (link p x y) → T (all isHex (part 3 (length w - 7) w))
+    go p x y (link-limits _ _ b _ _) e =
+        rw e (subst (λ (l : List ℕ). T (all isHex l)) (sym (payload-part p x y)) (hex-all p b))
+
+module _ (s : List ℕ) (n : ℕ) (is : n ≡ linkFormLen s) where
+  pub form-inside : n ≤ length s
+  form-inside = rw is (inside link-form-right s)
+
+  form-there : (n ≡ 0 → ⊥) → LinkForm (part 0 n s)
+  form-there nz =
+      let k : 0 < linkFormLen s = omega (arith, is) in
+      subst LinkForm (ap (λ (i : ℕ). take i s) (sym is) ∙ sym (part-front n s)) (taken link-form-right s k)
+
+  pub form-long : (n ≡ 0 → ⊥) → 10 ≤ length (part 0 n s)
+  form-long nz = link-long (part 0 n s) (form-there nz)
+
+  pub form-hex : (n ≡ 0 → ⊥) → T (all isHex (part 3 (length (part 0 n s) - 7) (part 0 n s)))
+  form-hex nz = link-hex (part 0 n s) (form-there nz)
+
+  pub link-tested : (a b : Bool) → a ≡ passes16 (part 0 n s) → b ≡ passes8 (part 0 n s) → linkLen s ≡ onlyIf (a && b) n
+  unfolding linkLen
+  link-tested a b ea eb = rw (ea, eb, part-front n s, is)
+
+  pub no-link-form : n ≡ 0 → 0 ≡ linkLen s
+  unfolding linkLen
+  no-link-form z = let e : linkFormLen s ≡ 0 = sym is ∙ z in rw e (sym (only-zero _))
+
+-- ---- .. a press
+
+pub press-whole : (s : List ℕ) (a b r : ℕ) → a ≡ wordLen (ascii "#N") s → b ≡ onward (digitsLen 6) s a → r ≡ onward (wordLen (CR ∷ [])) s b → r ≡ pressLen s
+unfolding pressLen
+press-whole s a b r ea eb er = rw (er, eb, ea)
+
+-- ---- .. and one of the three, told by the first character
+
+or-none : (n : ℕ) → orElse n 0 ≡ n
+or-none zero = refl
+or-none (suc n) = refl
+
+tested : (n : ℕ) (s : List ℕ) → getD s 0 0 ≡ 36 → onlyIf (passes16 (take n s) && passes8 (take n s)) n ≡ onlyIf (nikobusPasses (take n s)) n
+unfolding nikobusPasses starts
+tested zero s m = only-zero _ ∙ sym (only-zero _)
+tested (suc n) [] m = absurd (omega arith)
+tested (suc n) (x ∷ s) m = rw (eq-eqb x 36 m)
+
+untested : (n : ℕ) (s : List ℕ) → getD s 0 0 ≡ 35 → nikobusPasses (take n s) ≡ true
+unfolding nikobusPasses starts
+untested zero s m = refl
+untested (suc n) [] m = absurd (omega arith)
+untested (suc n) (x ∷ s) m = rw m
+
+-- a link's places
+link-from : (n : ℕ) (s : List ℕ) → getD s 0 0 ≡ 36 → (n ≡ 0 → ⊥) → 3 ≡ nikobusFrom (take n s)
+unfolding nikobusFrom starts
+link-from zero s m nz = absurd (nz refl)
+link-from (suc n) [] m nz = absurd (omega arith)
+link-from (suc n) (x ∷ s) m nz = rw m
+
+link-to : (n : ℕ) (s : List ℕ) → getD s 0 0 ≡ 36 → (n ≡ 0 → ⊥) → n ≤ length s → n - 7 ≡ nikobusTo (take n s)
+unfolding nikobusTo starts
+link-to zero s m nz h = absurd (nz refl)
+link-to (suc n) [] m nz h = absurd (omega arith)
+link-to (suc n) (x ∷ s) m nz h = rw m (omega (arith, length-take-le n s (omega arith)))
+
+module _ (s : List ℕ) (mark : getD s 0 0 ≡ 36) where
+  as-link : linkLen s ≡ passing nikobusFormLen nikobusPasses s
+  unfolding linkLen nikobusFormLen
+  as-link =
+      let a : pressLen s ≡ 0 = no-press s (λ e. omega arith) in
+      let b : tailLen s ≡ 0 = no-tail s (λ e. omega arith) in
+      rw (a, b, or-none) (tested (linkFormLen s) s mark)
+
+  pub link-none : 0 ≡ linkLen s → Leads nikobus s 0 0 0
+  link-none e = leads-none nikobus-bus s (e ∙ as-link)
+
+  pub link-leads : (n : ℕ) → n ≡ linkLen s → (n ≡ 0 → ⊥) → Leads nikobus s n 3 (n - 7)
+  link-leads n e nz =
+      let q : n ≡ passing nikobusFormLen nikobusPasses s = e ∙ as-link in
+      let h : n ≤ length s = rw q (inside (frame-right nikobus-bus) s) in
+      leads-at nikobus-bus s n 3 (n - 7) q nz (link-from n s mark nz) (link-to n s mark nz h)
+
+module _ (s : List ℕ) (mark : getD s 0 0 ≡ 35) where
+  as-button : orElse (pressLen s) (tailLen s) ≡ passing nikobusFormLen nikobusPasses s
+  unfolding nikobusFormLen
+  as-button =
+      let a : linkFormLen s ≡ 0 = no-link s (λ e. omega arith) in
+      rw a (sym (only-yes _ _ (untested (orElse (pressLen s) (tailLen s)) s mark)))
+
+  pub press-leads : (n : ℕ) → n ≡ pressLen s → (n ≡ 0 → ⊥) → Leads nikobus s n 2 8
+  unfolding nikobusFrom nikobusTo starts
+  press-leads n e nz =
+      let k : 0 < pressLen s = omega (arith, e) in
+      let f = taken press-right s k in
+      let l : take n s ≡ bytesOf nikobus (press (f .digits)) = ap (λ (i : ℕ). take i s) e ∙ f .laid in
+      leads-at nikobus-bus s n 2 8 (e ∙ sym (or-first _ _ k) ∙ as-button) nz (rw l) (rw l)
+
+  pub tail-leads : (n : ℕ) → 0 ≡ pressLen s → n ≡ tailLen s → Leads nikobus s n n n
+  unfolding nikobusFrom nikobusTo starts
+  tail-leads zero z e = leads-none nikobus-bus s (e ∙ sym (or-second _ _ (sym z)) ∙ as-button)
+  tail-leads (suc n) z e =
+      let k : 0 < tailLen s = omega (arith, e) in
+      let l : take (suc n) s ≡ bytesOf nikobus tail = ap (λ (i : ℕ). take i s) e ∙ taken tail-right s k in
+      let four : suc n ≡ 4 = e ∙ sym (length-take-le (tailLen s) s (inside tail-right s)) ∙ ap length (taken tail-right s k) in
+      leads-at nikobus-bus s (suc n) (suc n) (suc n) (e ∙ sym (or-second _ _ (sym z)) ∙ as-button) (λ q. omega arith) (rw l four) (rw l four)
+
+pub other-none : (s : List ℕ) → (getD s 0 0 ≡ 36 → ⊥) → (getD s 0 0 ≡ 35 → ⊥) → Leads nikobus s 0 0 0
+unfolding nikobusFormLen
+other-none s h k =
+    leads-none nikobus-bus s (rw (no-link s h, no-press s k, no-tail s k) (sym (only-zero _)))

@@ -1,5 +1,6 @@
-use mathlib.Core.Path.{_≡_, refl, sym, _∙_, ap}
+use mathlib.Core.Path.{_≡_, _∙_}
 use Prim.Native.Nat.{_≤_, _<_, _-_}
+use native.Mathlib.Omega.{arith}
 use lib.ListN.{length, drop}
 use borrow.Author.Needs.{needs}
 use Rattle.checks.specs.Paper.Check.{feed, check}
@@ -26,7 +27,7 @@ new-requires c κs = search needs
 
 -- src/nikobus.rt:223:5
 loop-holds : tie.Need-loop-holds Inv-loop μ-loop
-loop-holds c = ?
+loop-holds c = (search needs, search needs, rw (c .new .ensures))
 
 -- src/nikobus.rt:223:11
 add-loop : tie.Need-add-loop Inv-loop μ-loop
@@ -46,7 +47,7 @@ shared-slice-read-pair-2 c = search needs
 
 -- src/nikobus.rt:224:24
 pair-requires : tie.Need-pair-requires Inv-loop μ-loop
-pair-requires c κs = ?
+pair-requires c κs = let s = c .before .before .before .before .before .before in let i = c .before .before .loop-test .taken in (hex-at _ _ (omega arith) (s .pre), hex-at _ _ (omega arith) (s .pre))
 
 -- src/nikobus.rt:224:9
 byte-requires : tie.Need-byte-requires Inv-loop μ-loop
@@ -62,11 +63,11 @@ loop-less c = search needs
 
 -- src/nikobus.rt:223:5
 loop-again : tie.Need-loop-again Inv-loop μ-loop
-loop-again c = ?
+loop-again c = let l = c .before .before .before .before in (search needs, search needs, pairs-step nikobusCrc16 _ _ _ _ (l .loop-test .taken) (c .byte .ensures ∙ rw (c .before .pair .ensures)) ∙ l .before .loop .inv .2)
 
 -- src/nikobus.rt:217:1
 returns : tie.Need-returns Inv-loop μ-loop
-returns c = ?
+returns c = let l = c .before .loop .inv in pairs-end nikobusCrc16 _ _ _ (l .1) (c .loop-test .left) ∙ l .2
 
 pub payload-crc-spec : {M : Type 1} → statement M
 payload-crc-spec =
