@@ -2,8 +2,8 @@
 use super::Spot;
 use super::nothing;
 use super::words;
-use checks::nikobus::Crc16;
 use checks::nikobus::Crc8;
+use checks::nikobus::Crc16;
 use digits::hex;
 use digits::hex::Byte;
 ghost use mathlib.Core.Path.{_≡_};

@@ -60,10 +60,11 @@ module _ {l : Layout} {form : List ℕ → ℕ} {test : List ℕ → Bool} {from
   -- of two answers the numbers are the same
   pub one-lead : {s : List ℕ} {n x y m u v : ℕ} → Leads l s n x y → Leads l s m u v → (n ≡ m) × (x ≡ u) × (y ≡ v)
   one-lead {s} (leads {n = n} h f) (leads {n = m} k g) =
-      let e : n ≡ m = sym (found frame-right s n h f) ∙ found frame-right s m k g in
-      (e,
-      b .begins (take n s) (f .form) ∙ ap (λ (i : ℕ). from (take i s)) e ∙ sym (b .begins (take m s) (g .form)),
-      b .ends (take n s) (f .form) ∙ ap (λ (i : ℕ). to (take i s)) e ∙ sym (b .ends (take m s) (g .form)))
+      let e : n ≡ m = sym (found frame-right s n h f) ∙ found frame-right s m k g in (
+        e,
+        b .begins (take n s) (f .form) ∙ ap (λ (i : ℕ). from (take i s)) e ∙ sym (b .begins (take m s) (g .form)),
+        b .ends (take n s) (f .form) ∙ ap (λ (i : ℕ). to (take i s)) e ∙ sym (b .ends (take m s) (g .form)),
+      )
   one-lead (leads {n = n} h f) (none g) = absurd (g n h f)
   one-lead (none g) (leads {n = n} h f) = absurd (g n h f)
   one-lead (none g) (none k) = (refl, refl, refl)

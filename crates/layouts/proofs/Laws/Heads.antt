@@ -337,7 +337,6 @@ onward-inside f inner s (suc a) h = go (f (drop (suc a) s)) (inner (drop (suc a)
     go zero k = omega arith
     go (suc n) k = omega (arith, length-drop (suc a) s)
 
-
 -- what the code finds in the part from a place on: its end is no larger than a slice is long, and is where the word ends
 module _ (f : List ℕ → ℕ) (s : List ℕ) (at n : ℕ) (e : n ≡ f (part at (length s) s)) where
   pub at-fits : ((u : List ℕ) → f u ≤ length u) → at ≤ length s → length s < 2 ^ 64 → at + n < 2 ^ 64

@@ -2,10 +2,10 @@
 -- Assumes nothing.
 use mathlib.Core.Path.{_≡_, refl, sym, _∙_, ap, ap₂, subst}
 use Prim.Native.Nat.{ℕ, zero, suc, _+_, _-_, _*_, _/_, _%_, _^_, _≤_, _<_}
-use mathlib.Core.List.{List, [], _∷_, _++_, append-assoc}
+use mathlib.Core.List.{List, [], _∷_, _++_}
 use mathlib.Core.Bool.{Bool, true, false, not, _&&_, _||_, cond}
 use native.Mathlib.Omega.{arith}
-use lib.Dec.{T, eqb, leb, ltb, eqb→eq, leb→le, lit<}
+use lib.Dec.{T, eqb, leb, ltb, eqb→eq, leb→le}
 use lib.ListN.{length, getD, drop, length-drop}
 use borrow.Author.Tests.{lt-ltb, le-ltb, leb-true, leb-false, not-true, not-false}
 use Rattle.digits.specs.Paper.Ascii.{ascii}
@@ -44,7 +44,7 @@ place-in (y ∷ l) c h = go (eqb c y) refl (λ k. place-in l c k) h
     go false e f k = let p = f k in record { place = suc (p .place); inside = omega (arith, p .inside); there = p .there }
 
 -- a digit is the digit of its place
-pub digit-place : (c : ℕ) → T (isHex c) → hexDigit (placeOf c) ≡ c
+digit-place : (c : ℕ) → T (isHex c) → hexDigit (placeOf c) ≡ c
 unfolding isHex hexDigit
 digit-place c h =
     let p = place-in (ascii "0123456789ABCDEF") c h in
@@ -78,7 +78,7 @@ hex-figure c h k =
     let e : hexDigit (c - 48) ≡ c = digit-of (c - 48) (omega arith) ∙ simp (lt-ltb (c - 48) 10 (omega arith)) (omega arith) in
     rw e at (digit-hex (c - 48) (omega arith))
 
-pub hex-letter : (c : ℕ) → 65 ≤ c → c ≤ 70 → T (isHex c)
+hex-letter : (c : ℕ) → 65 ≤ c → c ≤ 70 → T (isHex c)
 hex-letter c h k =
     let e : hexDigit (c - 55) ≡ c = digit-of (c - 55) (omega arith) ∙ simp (le-ltb (c - 55) 10 (omega arith)) (omega arith) in
     rw e at (digit-hex (c - 55) (omega arith))
@@ -147,15 +147,6 @@ pub hex-append : (p q : List ℕ) → hexBytes (p ++ q) ≡ hexBytes p ++ hexByt
 unfolding hexBytes hexByte
 hex-append [] q = refl
 hex-append (b ∷ p) q = rw (hex-append p q)
-
--- four digits are two bytes'
-pub word-hex : (n : ℕ) → hexWord n ≡ hexBytes (n / 256 ∷ n % 256 ∷ [])
-unfolding hexWord hexBytes hexByte
-word-hex n = refl
-
-pub byte-hex : (b : ℕ) → hexByte b ≡ hexBytes (b ∷ [])
-unfolding hexBytes hexByte
-byte-hex b = refl
 
 pub bytes-hex : (p : List ℕ) → Bytes p → bytesOf (hexBytes p) ≡ p
 unfolding bytesOf hexBytes hexByte

@@ -1,18 +1,18 @@
--- `nikobusFormLen` finds what is laid out as a link, a press or a tail, and only that; its tests tell whether the check values of a link are right.
+-- Nikobus: its recogniser finds what is laid out as a link, a press or a tail, and only that; its tests tell whether a link's check
+-- values are right; no two fields have the same bytes; and what the code finds on its way is that.
 -- Assumes nothing.
 use mathlib.Core.Path.{_≡_, refl, sym, _∙_, ap, ap₂, subst}
-use Prim.Native.Nat.{ℕ, zero, suc, _+_, _-_, _*_, _/_, _%_, _^_, _≤_, _<_}
+use Prim.Native.Nat.{ℕ, zero, suc, _+_, _-_, _*_, _/_, _%_, _≤_, _<_}
 use mathlib.Core.List.{List, [], _∷_, _++_, append-assoc}
-use mathlib.Core.Bool.{Bool, true, false, _&&_, cond}
+use mathlib.Core.Bool.{Bool, true, _&&_}
 use native.Mathlib.Omega.{arith}
-use lib.Dec.{T, eqb, leb, ltb, eqb→eq, leb→le}
+use lib.Dec.{T, ltb, eqb→eq, leb→le}
 use lib.ListN.{length, getD, take, drop, length-append, length-drop, take-append-drop}
-use lib.Seq.{take-all, take-at, drop-at, length-take-le, take-append-seam}
+use lib.Seq.{take-all, take-at, drop-at, length-take-le}
 use borrow.Author.Tests.{eq-eqb, ne-eqb, le-leb, lt-ltb, ltb-true}
 use Rattle.digits.specs.Paper.Ascii.{ascii}
 use Rattle.digits.specs.Paper.Bytes.{Bytes, part}
 use Rattle.digits.specs.Paper.Hex.{hexDigit, hexByte, hexBytes, hexWord}
-use Rattle.digits.specs.Work.Hex.{placeOf}
 use Rattle.digits.proofs.Laws.Bytes.{bytes-take, bytes-drop, bytes-append, bytes-cons, bytes-nil}
 use Rattle.digits.proofs.Laws.Hex.{length-hex, hex-inj, byte-inj, word-inj, word-of}
 use Rattle.digits.proofs.Laws.Parts.{part-front, part-middle, take-ats}
@@ -23,27 +23,62 @@ use Rattle.checks.proofs.Laws.Feed.{check-lt}
 use Rattle.layouts.specs.Paper.Chars.{all, isHex, CR}
 use Rattle.layouts.specs.Paper.Layout.{bytesOf, payloadFrom, payloadTo, Form, Leads}
 use Rattle.layouts.specs.Paper.Nikobus.{Nikobus, link, press, tail, Limits, link-limits, press-limits, tail-limits, linkChecked, Passes, link-passes, press-passes, tail-passes, nikobus}
-use Rattle.layouts.specs.Work.Heads.{onlyIf, starts, wordLen, runLen, on, onward, andThen, orElse, passing}
+use Rattle.layouts.specs.Work.Heads.{onlyIf, starts, wordLen, runLen, on, onward, orElse, passing}
 use Rattle.layouts.specs.Work.Nikobus.{hexPair, digitsLen, llOf, linkHeadLen, linkFormLen, pressLen, tailLen, nikobusFormLen, passes16, passes8, linkLen, nikobusPasses, nikobusFrom, nikobusTo}
 use Rattle.layouts.specs.Work.Nikobus.{bytesOf as bytesIn}
-use Rattle.layouts.proofs.Laws.Heads.{Head, Right, Then, Or, left, right, Run, join, glue, only-test, only-eq, only-yes, only-no, only-zero, starts-splits, starts-append, starts-same, same-starts, word-right, run-right, then-right, or-right, same-right, or-first, or-second, taken, inside}
-use Rattle.layouts.proofs.Laws.HexDigits.{digit-hex, length-byte, length-word, pair-byte, pair-lt, byte-pair, hex-append, word-hex, byte-hex, bytes-hex, hex-all, hex-bytes, length-bytes, bytes-bytes}
+use Rattle.layouts.proofs.Laws.Heads.{Head, Right, Then, Or, left, right, Run, join, glue, only-test, only-eq, only-yes, only-zero, starts-splits, starts-append, starts-same, same-starts, word-right, run-right, then-right, or-right, same-right, word-inside, run-inside, onward-inside, or-first, or-second, taken, inside}
+use Rattle.layouts.proofs.Laws.HexDigits.{digit-hex, length-byte, length-word, pair-byte, pair-lt, byte-pair, hex-append, bytes-hex, hex-all, hex-bytes, length-bytes, bytes-bytes}
 use Rattle.layouts.proofs.Laws.Buses.{Bus, frame-right, leads-at, leads-none}
 
 -- ---- `$`, LL
 
+-- what stands at the head where LL is there
+pub record LlThere (s : List ℕ) : Type 0 where
+  pub size : 3 ≤ length s
+  pub mark : getD s 0 0 ≡ 36
+  pub high : T (isHex (getD s 1 0))
+  pub low : T (isHex (getD s 2 0))
+  pub least : 12 ≤ hexPair (getD s 1 0) (getD s 2 0)
+  pub even : hexPair (getD s 1 0) (getD s 2 0) % 2 ≡ 0
+
+-- what is read, and what is written
+ll-is : (s : List ℕ) → LlThere s → llOf s ≡ hexPair (getD s 1 0) (getD s 2 0)
+unfolding llOf
+ll-is [] r = absurd (omega (arith, r .size))
+ll-is (x ∷ []) r = absurd (omega (arith, r .size))
+ll-is (x ∷ y ∷ []) r = absurd (omega (arith, r .size))
+ll-is (x ∷ y ∷ z ∷ s) r =
+    let ll = hexPair y z in
+    let b : hexByte ll ≡ y ∷ z ∷ [] = byte-pair y z (r .high) (r .low) in
+    let m : x ≡ 36 = r .mark in
+    let e : starts (36 ∷ hexByte ll) (x ∷ y ∷ z ∷ s) ≡ true = rw (b, m) (starts-append (36 ∷ y ∷ z ∷ []) s) in
+    only-yes _ _ e ∙ only-yes _ _ (le-leb 12 ll (r .least)) ∙ only-yes _ _ (eq-eqb _ 0 (r .even))
+
+ll-made : (ll : ℕ) (t : List ℕ) → 12 ≤ ll → ll % 2 ≡ 0 → ll < 256 → LlThere ((36 ∷ hexByte ll) ++ t)
+unfolding hexByte
+ll-made ll t a b c =
+    let e : hexPair (hexDigit (ll / 16)) (hexDigit (ll % 16)) ≡ ll = pair-byte ll c in
+    record {
+      size = omega arith;
+      mark = refl;
+      high = digit-hex (ll / 16) (omega arith);
+      low = digit-hex (ll % 16) (omega arith);
+      least = rw e a;
+      even = rw e b;
+    }
+
+-- what is written is read
+ll-read : (ll : ℕ) (t : List ℕ) → 12 ≤ ll → ll % 2 ≡ 0 → ll < 256 → llOf ((36 ∷ hexByte ll) ++ t) ≡ ll
+unfolding hexByte
+ll-read ll t a b c = ll-is ((36 ∷ hexByte ll) ++ t) (ll-made ll t a b c) ∙ pair-byte ll c
+
+-- `$` and an LL that there may be
 record LinkHead (u : List ℕ) : Type 0 where
   ll : ℕ
   low : 12 ≤ ll
   even : ll % 2 ≡ 0
   byte : ll < 256
   layout : u ≡ 36 ∷ hexByte ll
-
-ll-read : (ll : ℕ) (t : List ℕ) → 12 ≤ ll → ll % 2 ≡ 0 → ll < 256 → llOf ((36 ∷ hexByte ll) ++ t) ≡ ll
-unfolding llOf hexByte
-ll-read ll t a b c =
-    let e : hexPair (hexDigit (ll / 16)) (hexDigit (ll % 16)) ≡ ll = pair-byte ll c in
-    rw e (only-yes _ _ (starts-append (36 ∷ hexByte ll) t) ∙ only-yes _ _ (le-leb 12 ll a) ∙ only-yes _ _ (eq-eqb _ 0 b))
 
 ll-head : {u : List ℕ} (r : LinkHead u) → llOf u ≡ r .ll
 unfolding hexByte
@@ -128,7 +163,6 @@ cut n d l h =
     let k : length q ≡ n + 3 = length-bytes (n + 3) d (omega arith) in
     let b : Bytes q = bytes-bytes d in
     let z = drop n q in
-    let b₀ = b .each n in
     record {
       bytes = take n q;
       crc16 = getD z 0 0 * 256 + getD z 1 0;
@@ -243,17 +277,17 @@ tail-right = word-right (bytesOf nikobus tail) (omega arith)
 -- ---- one of the three, by the first character
 
 -- no link where another character than `$` stands first, no press and no tail where another than `#` does
-pub no-link : (s : List ℕ) → (getD s 0 0 ≡ 36 → ⊥) → linkFormLen s ≡ 0
+no-link : (s : List ℕ) → (getD s 0 0 ≡ 36 → ⊥) → linkFormLen s ≡ 0
 unfolding linkFormLen linkHeadLen llOf starts onlyIf on
 no-link [] h = refl
 no-link (x ∷ s) h = simp (ne-eqb x 36 h)
 
-pub no-press : (s : List ℕ) → (getD s 0 0 ≡ 35 → ⊥) → pressLen s ≡ 0
+no-press : (s : List ℕ) → (getD s 0 0 ≡ 35 → ⊥) → pressLen s ≡ 0
 unfolding pressLen wordLen starts onlyIf on
 no-press [] h = refl
 no-press (x ∷ s) h = simp (ne-eqb x 35 h)
 
-pub no-tail : (s : List ℕ) → (getD s 0 0 ≡ 35 → ⊥) → tailLen s ≡ 0
+no-tail : (s : List ℕ) → (getD s 0 0 ≡ 35 → ⊥) → tailLen s ≡ 0
 unfolding tailLen wordLen starts onlyIf
 no-tail [] h = refl
 no-tail (x ∷ s) h = simp (ne-eqb x 35 h)
@@ -279,6 +313,7 @@ no-press-there : (w t : List ℕ) → TailForm w → pressLen (w ++ t) ≡ 0
 unfolding pressLen wordLen starts onlyIf on
 no-press-there w t e = rw e
 
+-- THE RECOGNISER FINDS WHAT IS LAID OUT SO, AND ONLY THAT
 form-right : Right (Form nikobus) nikobusFormLen
 unfolding nikobusFormLen
 form-right = same-right to-form from-form (or-right link-form-right (or-right press-right tail-right no-press-there) no-link-there)
@@ -386,6 +421,7 @@ finishes w (link p x y) l e = rw e (omega (arith, length-byte (length p * 2 + 10
 finishes w (press d) (press-limits six hex) e = rw e (omega arith)
 finishes w tail l e = rw e
 
+-- THE BUS: all that its frames have in common with those of the others
 pub nikobus-bus : Bus nikobus nikobusFormLen nikobusPasses nikobusFrom nikobusTo
 nikobus-bus =
     record {
@@ -398,7 +434,7 @@ nikobus-bus =
 
 -- ---- no two fields have the same bytes
 
--- what stands first, and second
+-- lists that differ at a place
 different : (i : ℕ) {u v : List ℕ} → (getD u i 0 ≡ getD v i 0 → ⊥) → u ≡ v → ⊥
 different i f e = f (ap (λ (l : List ℕ). getD l i 0) e)
 
@@ -421,6 +457,7 @@ press-one : (c d : List ℕ) → Limits (press c) → Limits (press d) → bytes
 press-one c d (press-limits k _) (press-limits l _) e =
     ap press (sym (take-at c (CR ∷ []) 6 k) ∙ ap (λ (w : List ℕ). take 6 (drop 2 w)) e ∙ take-at d (CR ∷ []) 6 l)
 
+-- NO TWO FIELDS WITHIN THE LIMITS HAVE THE SAME BYTES
 pub nikobus-one : (m n : Nikobus) → Limits m → Limits n → bytesOf nikobus m ≡ bytesOf nikobus n → m ≡ n
 nikobus-one (link p x y) (link q u v) k l e = link-one p q x y u v k l e
 nikobus-one (link p x y) (press d) k l e = absurd (different 0 (λ q. omega arith) e)
@@ -434,51 +471,18 @@ nikobus-one tail tail k l e = refl
 
 -- ---- what the code finds: LL
 
--- what stands at the head where LL is there
-pub record LlThere (s : List ℕ) : Type 0 where
-  pub size : 3 ≤ length s
-  pub mark : getD s 0 0 ≡ 36
-  pub high : T (isHex (getD s 1 0))
-  pub low : T (isHex (getD s 2 0))
-  pub least : 12 ≤ hexPair (getD s 1 0) (getD s 2 0)
-  pub even : hexPair (getD s 1 0) (getD s 2 0) % 2 ≡ 0
-
-ll-is : (s : List ℕ) → LlThere s → llOf s ≡ hexPair (getD s 1 0) (getD s 2 0)
-unfolding llOf
-ll-is [] r = absurd (omega (arith, r .size))
-ll-is (x ∷ []) r = absurd (omega (arith, r .size))
-ll-is (x ∷ y ∷ []) r = absurd (omega (arith, r .size))
-ll-is (x ∷ y ∷ z ∷ s) r =
-    let ll = hexPair y z in
-    let b : hexByte ll ≡ y ∷ z ∷ [] = byte-pair y z (r .high) (r .low) in
-    let m : x ≡ 36 = r .mark in
-    let e : starts (36 ∷ hexByte ll) (x ∷ y ∷ z ∷ s) ≡ true = rw (b, m) (starts-append (36 ∷ y ∷ z ∷ []) s) in
-    only-yes _ _ e ∙ only-yes _ _ (le-leb 12 ll (r .least)) ∙ only-yes _ _ (eq-eqb _ 0 (r .even))
-
 pub ll-whole : (s : List ℕ) (n : ℕ) → 3 ≤ length s → getD s 0 0 ≡ 36 → T (isHex (getD s 1 0)) → T (isHex (getD s 2 0))
     → n ≡ hexPair (getD s 1 0) (getD s 2 0) → 12 ≤ n → n % 2 ≡ 0 → n ≡ llOf s
 ll-whole s n z m h l e a b =
     e ∙ sym (ll-is s (record { size = z; mark = m; high = h; low = l; least = rw e at a; even = rw e at b }))
 
-ll-made : (ll : ℕ) (t : List ℕ) → 12 ≤ ll → ll % 2 ≡ 0 → ll < 256 → LlThere ((36 ∷ hexByte ll) ++ t)
-unfolding hexByte
-ll-made ll t a b c =
-    let e : hexPair (hexDigit (ll / 16)) (hexDigit (ll % 16)) ≡ ll = pair-byte ll c in
-    record {
-      size = omega arith;
-      mark = refl;
-      high = digit-hex (ll / 16) (omega arith);
-      low = digit-hex (ll % 16) (omega arith);
-      least = rw e a;
-      even = rw e b;
-    }
-
-pub ll-there : (s : List ℕ) → 0 < llOf s → LlThere s
+ll-there : (s : List ℕ) → 0 < llOf s → LlThere s
 ll-there s k =
     let h = ll-sound s 3 refl k in
     let r = h .is in
     subst LlThere (sym (h .splits ∙ ap (λ (w : List ℕ). w ++ h .rest) (r .layout))) (ll-made (r .ll) (h .rest) (r .low) (r .even) (r .byte))
 
+-- where one of these fails there is no LL
 pub no-ll : (s : List ℕ) → (LlThere s → ⊥) → 0 ≡ llOf s
 no-ll s f = go (llOf s) refl
   where
@@ -486,7 +490,7 @@ no-ll s f = go (llOf s) refl
     go zero e = refl
     go (suc n) e = absurd (f (ll-there s (omega (arith, e))))
 
-pub ll-least : (s : List ℕ) → 0 < llOf s → 12 ≤ llOf s
+ll-least : (s : List ℕ) → 0 < llOf s → 12 ≤ llOf s
 ll-least s k = let r = ll-there s k in omega (arith, r .least, ll-is s r)
 
 -- ---- .. a link's form
@@ -513,6 +517,16 @@ module _ (s : List ℕ) (n : ℕ) (is : n ≡ llOf s) where
   form-whole nz end r ee er =
       let h : onlyIf (ltb 0 (llOf s)) 3 ≡ 3 = only-yes _ _ (lt-ltb 0 (llOf s) (omega (arith, is))) in
       er ∙ rw (ee, is, h, ll-take s)
+
+  -- the places on the way
+  pub ll-four : (n ≡ 0 → ⊥) → 4 ≤ n
+  ll-four nz = omega (arith, is, ll-least s (omega (arith, is)))
+
+  pub ll-three : (n ≡ 0 → ⊥) → 3 ≤ length s
+  ll-three nz = ll-there s (omega (arith, is)) .size
+
+  pub form-digits : (n ≡ 0 → ⊥) → (end : ℕ) → end ≡ onward (digitsLen (n - 4)) s 3 → end ≤ length s
+  form-digits nz end e = rw e (onward-inside (digitsLen (n - 4)) (run-inside isHex (n - 4)) s 3 (ll-three nz))
 
 -- ---- .. a link
 
@@ -549,7 +563,17 @@ module _ (s : List ℕ) (n : ℕ) (is : n ≡ linkFormLen s) where
   unfolding linkLen
   no-link-form z = let e : linkFormLen s ≡ 0 = sym is ∙ z in rw e (sym (only-zero _))
 
+pub link-seven : (s : List ℕ) (n : ℕ) → n ≡ linkLen s → (n ≡ 0 → ⊥) → 7 ≤ n
+unfolding linkLen
+link-seven s n e nz =
+    let k : 0 < linkLen s = omega (arith, e) in
+    let f : n ≡ linkFormLen s = e ∙ only-eq _ _ k in
+    omega (arith, form-long s n f nz, ap length (part-front n s), length-take-le n s (form-inside s n f))
+
 -- ---- .. a press
+
+pub press-digits : (s : List ℕ) (a b : ℕ) → a ≡ wordLen (ascii "#N") s → b ≡ onward (digitsLen 6) s a → b ≤ length s
+press-digits s a b ea eb = rw (eb, ea) (onward-inside (digitsLen 6) (run-inside isHex 6) s (wordLen (ascii "#N") s) (word-inside (ascii "#N") s))
 
 pub press-whole : (s : List ℕ) (a b r : ℕ) → a ≡ wordLen (ascii "#N") s → b ≡ onward (digitsLen 6) s a → r ≡ onward (wordLen (CR ∷ [])) s b → r ≡ pressLen s
 unfolding pressLen
@@ -561,6 +585,7 @@ or-none : (n : ℕ) → orElse n 0 ≡ n
 or-none zero = refl
 or-none (suc n) = refl
 
+-- a link is tested, a press and a tail are not
 tested : (n : ℕ) (s : List ℕ) → getD s 0 0 ≡ 36 → onlyIf (passes16 (take n s) && passes8 (take n s)) n ≡ onlyIf (nikobusPasses (take n s)) n
 unfolding nikobusPasses starts
 tested zero s m = only-zero _ ∙ sym (only-zero _)
@@ -631,3 +656,7 @@ pub other-none : (s : List ℕ) → (getD s 0 0 ≡ 36 → ⊥) → (getD s 0 0 
 unfolding nikobusFormLen
 other-none s h k =
     leads-none nikobus-bus s (rw (no-link s h, no-press s k, no-tail s k) (sym (only-zero _)))
+
+pub empty-none : (s : List ℕ) → length s ≡ 0 → Leads nikobus s 0 0 0
+empty-none [] e = other-none [] (λ z. omega arith) (λ z. omega arith)
+empty-none (x ∷ s) e = absurd (omega arith)

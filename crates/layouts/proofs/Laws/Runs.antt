@@ -105,4 +105,3 @@ leading-word f [] x t a e = rw e
 leading-word f (y ∷ w) x t a e =
     let q = T-and (f y) (all f w) a in
     rw (T-true (f y) (q .0), leading-word f w x t (q .1) e)
-

@@ -1,3 +1,5 @@
+-- `layouts::nikobus::digits` meets its contract: the tests are those of a run of digits.
+-- Assumes nothing.
 use mathlib.Core.Path.{sym, _∙_}
 use mathlib.Core.Bool.{true, false}
 use borrow.Author.Tests.{lt-leb}
@@ -7,37 +9,27 @@ use Rattle.layouts.proofs.Laws.Nikobus.{digits-are}
 use borrow.Author.Needs.{needs}
 use Rattle.layouts.proofs.nikobus.digits.Statement.{statement}
 use Rattle.layouts.proofs.nikobus.digits.Tie as tie
-use Rattle.layouts.proofs.nikobus.digits.Reads as reads
-use Rattle.layouts.proofs.nikobus.digits.Lts as lts
-use Rattle.layouts.proofs.nikobus.all_digits.Reads as all-digits-reads
 
--- src/nikobus.rt:157:9
 returns : tie.Need-returns
 unfolding runLen
 returns c = sym (only-no _ _ (lt-leb _ _ (c .if1 .taken)))
 
--- src/nikobus.rt:159:19
 sub-all-digits : tie.Need-sub-all-digits
 sub-all-digits c = search needs
 
--- src/nikobus.rt:159:19
 part-all-digits-start : tie.Need-part-all-digits-start
 part-all-digits-start c = search needs
 
--- src/nikobus.rt:159:19
 part-all-digits-end : tie.Need-part-all-digits-end
 part-all-digits-end c = search needs
 
--- src/nikobus.rt:159:8
 all-digits-requires : tie.Need-all-digits-requires
 all-digits-requires c κs = search needs
 
--- src/nikobus.rt:160:9
 returns-2 : tie.Need-returns-2
 unfolding onlyIf
 returns-2 c = sym (digits-are _ _ true (c .before .before .before .if1 .left) (sym (c .before .all-digits .ensures) ∙ c .if2 .taken))
 
--- src/nikobus.rt:153:1
 returns-3 : tie.Need-returns-3
 unfolding onlyIf
 returns-3 c = sym (digits-are _ _ false (c .before .before .before .if1 .left) (sym (c .before .all-digits .ensures) ∙ c .if2 .left))

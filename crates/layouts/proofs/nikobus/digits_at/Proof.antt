@@ -1,3 +1,5 @@
+-- `layouts::nikobus::digits_at` meets its contract: what the digits of the part end at is where they end in the whole.
+-- Assumes nothing.
 use native.Mathlib.Omega.{arith}
 use denote.Ref.{now}
 use Rattle.layouts.specs.Paper.Chars.{isHex}
@@ -7,37 +9,26 @@ use Rattle.layouts.proofs.Laws.Heads.{at-fits, at-ends, run-inside}
 use borrow.Author.Needs.{needs}
 use Rattle.layouts.proofs.nikobus.digits_at.Statement.{statement}
 use Rattle.layouts.proofs.nikobus.digits_at.Tie as tie
-use Rattle.layouts.proofs.nikobus.digits_at.Reads as reads
-use Rattle.layouts.proofs.nikobus.digits_at.Lts as lts
-use Rattle.layouts.proofs.nikobus.digits.Reads as digits-reads
-use Rattle.layouts.proofs.words.onto.Reads as onto-reads
 
--- src/nikobus.rt:147:9
 returns : tie.Need-returns
 unfolding on
 returns c = simp (c .if1 .taken)
 
--- src/nikobus.rt:149:28
 sub-digits : tie.Need-sub-digits
 sub-digits c = search needs
 
--- src/nikobus.rt:149:28
 part-digits-start : tie.Need-part-digits-start
 part-digits-start c = search needs
 
--- src/nikobus.rt:149:28
 part-digits-end : tie.Need-part-digits-end
 part-digits-end c = search needs
 
--- src/nikobus.rt:149:21
 digits-requires : tie.Need-digits-requires
 digits-requires c κs = search needs
 
--- src/nikobus.rt:149:5
 onto-requires : tie.Need-onto-requires
 onto-requires c κs = let s = c .before .before .before .before in at-fits (digitsLen (s .args .k)) (now (s .args .s)) _ _ (c .digits .ensures) (run-inside isHex _) (s .pre) (omega (arith, s .good))
 
--- src/nikobus.rt:142:1
 returns-2 : tie.Need-returns-2
 returns-2 c = let s = c .before .before .before .before .before in at-ends (digitsLen (s .args .k)) (now (s .args .s)) _ _ (c .before .digits .ensures) _ (c .onto .ensures)
 

@@ -1,47 +1,36 @@
+-- `layouts::nikobus::frame` meets its contract: the first character tells which of the three can be there.
+-- Assumes nothing.
+use Rattle.layouts.proofs.Laws.Nikobus.{empty-none, other-none}
 use borrow.Author.Needs.{needs}
 use Rattle.layouts.proofs.nikobus.frame.Statement.{statement}
 use Rattle.layouts.proofs.nikobus.frame.Tie as tie
-use Rattle.layouts.proofs.nikobus.frame.Reads as reads
-use Rattle.layouts.proofs.nikobus.frame.Lts as lts
-use Rattle.layouts.proofs.nikobus.button.Reads as button-reads
-use Rattle.layouts.proofs.nikobus.linked.Reads as linked-reads
-use Rattle.layouts.proofs.nothing.Reads as nothing-reads
 
--- src/nikobus.rt:28:9
 nothing-requires : tie.Need-nothing-requires
 nothing-requires c κs = search needs
 
--- src/nikobus.rt:28:9
 returns : tie.Need-returns
-returns c = ?
+returns c = let e = c .nothing .ensures in rw (e .0, e .1 .0, e .1 .1) (empty-none _ (c .before .if1 .taken))
 
--- src/nikobus.rt:30:16
 shared-slice-read-mark : tie.Need-shared-slice-read-mark
 shared-slice-read-mark c = search needs
 
--- src/nikobus.rt:32:9
 linked-requires : tie.Need-linked-requires
 linked-requires c κs = search needs
 
--- src/nikobus.rt:32:9
 returns-2 : tie.Need-returns-2
 returns-2 c = search needs
 
--- src/nikobus.rt:35:9
 button-requires : tie.Need-button-requires
 button-requires c κs = search needs
 
--- src/nikobus.rt:35:9
 returns-3 : tie.Need-returns-3
 returns-3 c = search needs
 
--- src/nikobus.rt:37:5
 nothing-requires-2 : tie.Need-nothing-requires-2
 nothing-requires-2 c κs = search needs
 
--- src/nikobus.rt:24:1
 returns-4 : tie.Need-returns-4
-returns-4 c = ?
+returns-4 c = let e = c .nothing2 .ensures in rw (e .0, e .1 .0, e .1 .1) (other-none _ (c .before .before .if2 .left) (c .before .if3 .left))
 
 pub frame-spec : {M : Type 1} → statement M
 frame-spec =

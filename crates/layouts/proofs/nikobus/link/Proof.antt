@@ -1,63 +1,57 @@
+-- `layouts::nikobus::link` meets its contract: the form, and then both tests on it.
+-- Assumes nothing.
+use mathlib.Core.Path.{refl, sym, _∙_}
+use mathlib.Core.Bool.{true, false}
+use native.Mathlib.Omega.{arith}
+use borrow.Author.Tests.{not-true, not-false}
+use denote.Ref.{now}
+use Rattle.layouts.specs.Work.Heads.{onlyIf}
+use Rattle.layouts.proofs.Laws.Nikobus.{no-link-form, form-inside, form-long, form-hex, link-tested}
 use borrow.Author.Needs.{needs}
 use Rattle.layouts.proofs.nikobus.link.Statement.{statement}
 use Rattle.layouts.proofs.nikobus.link.Tie as tie
-use Rattle.layouts.proofs.nikobus.link.Reads as reads
-use Rattle.layouts.proofs.nikobus.link.Lts as lts
-use Rattle.layouts.proofs.nikobus.link_form.Reads as link-form-reads
-use Rattle.layouts.proofs.nikobus.passes16.Reads as passes16-reads
-use Rattle.layouts.proofs.nikobus.passes8.Reads as passes8-reads
 
--- src/nikobus.rt:81:9
 link-form-requires : tie.Need-link-form-requires
 link-form-requires c κs = search needs
 
--- src/nikobus.rt:83:9
 returns : tie.Need-returns
-returns c = ?
+returns c = no-link-form _ _ (c .before .link-form .ensures) (c .if1 .taken)
 
--- src/nikobus.rt:85:18
 sub-passes16 : tie.Need-sub-passes16
 sub-passes16 c = search needs
 
--- src/nikobus.rt:85:18
 part-passes16-start : tie.Need-part-passes16-start
 part-passes16-start c = search needs
 
--- src/nikobus.rt:85:18
 part-passes16-end : tie.Need-part-passes16-end
-part-passes16-end c = ?
+part-passes16-end c = form-inside (now (c .before .before .before .args .s)) _ (c .before .link-form .ensures)
 
--- src/nikobus.rt:85:9
 passes16-requires : tie.Need-passes16-requires
-passes16-requires c κs = ?
+passes16-requires c κs = let f = c .before in let e = f .before .link-form .ensures in (form-long _ _ e (f .if1 .left), form-hex _ _ e (f .if1 .left))
 
--- src/nikobus.rt:86:9
 returns-2 : tie.Need-returns-2
-returns-2 c = ?
+unfolding onlyIf
+returns-2 c = sym (link-tested _ _ (c .before .before .before .before .link-form .ensures) false _ (sym (not-true _ (c .if2 .taken)) ∙ c .before .passes16 .ensures) refl)
 
--- src/nikobus.rt:88:17
 sub-passes8 : tie.Need-sub-passes8
 sub-passes8 c = search needs
 
--- src/nikobus.rt:88:17
 part-passes8-start : tie.Need-part-passes8-start
 part-passes8-start c = search needs
 
--- src/nikobus.rt:88:17
 part-passes8-end : tie.Need-part-passes8-end
-part-passes8-end c = ?
+part-passes8-end c = form-inside (now (c .before .before .before .before .before .before .args .s)) _ (c .before .before .before .before .link-form .ensures)
 
--- src/nikobus.rt:88:9
 passes8-requires : tie.Need-passes8-requires
-passes8-requires c κs = ?
+passes8-requires c κs = let f = c .before .before .before .before in let h = form-long _ _ (f .before .link-form .ensures) (f .if1 .left) in omega arith
 
--- src/nikobus.rt:89:9
 returns-3 : tie.Need-returns-3
-returns-3 c = ?
+unfolding onlyIf
+returns-3 c = let f = c .before .before .before in sym (link-tested _ _ (c .before .before .before .before .before .before .before .link-form .ensures) true false (sym (not-false _ (f .if2 .left)) ∙ f .before .passes16 .ensures) (sym (not-true _ (c .if3 .taken)) ∙ c .before .passes8 .ensures))
 
--- src/nikobus.rt:78:1
 returns-4 : tie.Need-returns-4
-returns-4 c = ?
+unfolding onlyIf
+returns-4 c = let f = c .before .before .before in sym (link-tested _ _ (c .before .before .before .before .before .before .before .link-form .ensures) true true (sym (not-false _ (f .if2 .left)) ∙ f .before .passes16 .ensures) (sym (not-false _ (c .if3 .left)) ∙ c .before .passes8 .ensures))
 
 pub link-spec : {M : Type 1} → statement M
 link-spec =

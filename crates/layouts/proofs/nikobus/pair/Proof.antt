@@ -1,28 +1,22 @@
+-- `layouts::nikobus::pair` meets its contract: two digits are read, and as their byte.
+-- Assumes nothing.
 use Rattle.layouts.proofs.Laws.HexDigits.{pair-is, pair-read}
 use borrow.Author.Needs.{needs}
 use Rattle.layouts.proofs.nikobus.pair.Statement.{statement}
 use Rattle.layouts.proofs.nikobus.pair.Tie as tie
-use Rattle.layouts.proofs.nikobus.pair.Reads as reads
-use Rattle.layouts.proofs.nikobus.pair.Lts as lts
-use Rattle.digits.proofs.hex.byte_of.Reads as byte-of-reads
 
--- src/nikobus.rt:236:11
 byte-of-requires : tie.Need-byte-of-requires
 byte-of-requires c κs = search needs
 
--- src/nikobus.rt:237:18
 enum-known-b : tie.Need-enum-known-b
 enum-known-b c = search needs
 
--- src/nikobus.rt:238:26
 enum-told : tie.Need-enum-told
 enum-told c = search needs
 
--- src/nikobus.rt:231:1
 returns : tie.Need-returns
 returns c = pair-is (c .before .before .before .byte-of .ensures) (c .before .b .given .1)
 
--- src/nikobus.rt:231:1
 returns-2 : tie.Need-returns-2
 returns-2 c = let s = c .before .before .before in absurd (pair-read (s .pre .0) (s .pre .1) (c .before .before .byte-of .ensures) (c .enum-told .given .1))
 

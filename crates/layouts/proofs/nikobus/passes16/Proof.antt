@@ -1,60 +1,45 @@
+-- `layouts::nikobus::passes16` meets its contract: what is compared are the parts that the test names.
+-- Assumes nothing.
 use mathlib.Core.Path.{_∙_}
 use Rattle.digits.proofs.Laws.Parts.{part-rest}
 use Rattle.layouts.specs.Work.Nikobus.{passes16}
 use borrow.Author.Needs.{needs}
 use Rattle.layouts.proofs.nikobus.passes16.Statement.{statement}
 use Rattle.layouts.proofs.nikobus.passes16.Tie as tie
-use Rattle.layouts.proofs.nikobus.passes16.Reads as reads
-use Rattle.layouts.proofs.nikobus.passes16.Lts as lts
-use Rattle.digits.proofs.hex.four_digits.Reads as four-digits-reads
-use Rattle.layouts.proofs.nikobus.payload_crc.Reads as payload-crc-reads
-use Rattle.layouts.proofs.words.starts_with.Reads as starts-with-reads
 
--- src/nikobus.rt:201:13
 sub-n : tie.Need-sub-n
 sub-n c = search needs
 
--- src/nikobus.rt:202:49
 sub-payload-crc : tie.Need-sub-payload-crc
 sub-payload-crc c = search needs
 
--- src/nikobus.rt:202:49
 part-payload-crc-start : tie.Need-part-payload-crc-start
 part-payload-crc-start c = search needs
 
--- src/nikobus.rt:202:49
 part-payload-crc-end : tie.Need-part-payload-crc-end
 part-payload-crc-end c = search needs
 
--- src/nikobus.rt:202:37
 payload-crc-requires : tie.Need-payload-crc-requires
 payload-crc-requires c κs = search needs
 
--- src/nikobus.rt:202:20
 four-digits-requires : tie.Need-four-digits-requires
 four-digits-requires c κs = search needs
 
--- src/nikobus.rt:203:24
 sub-starts-with : tie.Need-sub-starts-with
 sub-starts-with c = search needs
 
--- src/nikobus.rt:203:24
 part-starts-with-start : tie.Need-part-starts-with-start
 part-starts-with-start c = search needs
 
--- src/nikobus.rt:203:24
 part-starts-with-end : tie.Need-part-starts-with-end
 part-starts-with-end c = search needs
 
--- src/nikobus.rt:203:33
 slice-aggregate-starts-with : tie.Need-slice-aggregate-starts-with
 slice-aggregate-starts-with c = search needs
 
--- src/nikobus.rt:203:5
 starts-with-requires : tie.Need-starts-with-requires
 starts-with-requires c κs = search needs
 
--- src/nikobus.rt:196:1
 returns : tie.Need-returns
 unfolding passes16
 returns c = c .starts-with .ensures ∙ rw (c .before .before .before .four-digits .ensures, c .before .before .before .before .payload-crc .ensures, part-rest)

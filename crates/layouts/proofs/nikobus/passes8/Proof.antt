@@ -1,60 +1,45 @@
+-- `layouts::nikobus::passes8` meets its contract: what is compared are the parts that the test names.
+-- Assumes nothing.
 use mathlib.Core.Path.{_∙_}
 use Rattle.digits.proofs.Laws.Parts.{part-front, part-rest}
 use Rattle.layouts.specs.Work.Nikobus.{passes8}
 use borrow.Author.Needs.{needs}
 use Rattle.layouts.proofs.nikobus.passes8.Statement.{statement}
 use Rattle.layouts.proofs.nikobus.passes8.Tie as tie
-use Rattle.layouts.proofs.nikobus.passes8.Reads as reads
-use Rattle.layouts.proofs.nikobus.passes8.Lts as lts
-use Rattle.checks.proofs.nikobus.Crc8.of.Reads as of-reads
-use Rattle.digits.proofs.hex.two_digits.Reads as two-digits-reads
-use Rattle.layouts.proofs.words.starts_with.Reads as starts-with-reads
 
--- src/nikobus.rt:211:13
 sub-n : tie.Need-sub-n
 sub-n c = search needs
 
--- src/nikobus.rt:212:45
 sub-of : tie.Need-sub-of
 sub-of c = search needs
 
--- src/nikobus.rt:212:45
 part-of-start : tie.Need-part-of-start
 part-of-start c = search needs
 
--- src/nikobus.rt:212:45
 part-of-end : tie.Need-part-of-end
 part-of-end c = search needs
 
--- src/nikobus.rt:212:36
 of-requires : tie.Need-of-requires
 of-requires c κs = search needs
 
--- src/nikobus.rt:212:20
 two-digits-requires : tie.Need-two-digits-requires
 two-digits-requires c κs = search needs
 
--- src/nikobus.rt:213:24
 sub-starts-with : tie.Need-sub-starts-with
 sub-starts-with c = search needs
 
--- src/nikobus.rt:213:24
 part-starts-with-start : tie.Need-part-starts-with-start
 part-starts-with-start c = search needs
 
--- src/nikobus.rt:213:24
 part-starts-with-end : tie.Need-part-starts-with-end
 part-starts-with-end c = search needs
 
--- src/nikobus.rt:213:33
 slice-aggregate-starts-with : tie.Need-slice-aggregate-starts-with
 slice-aggregate-starts-with c = search needs
 
--- src/nikobus.rt:213:5
 starts-with-requires : tie.Need-starts-with-requires
 starts-with-requires c κs = search needs
 
--- src/nikobus.rt:207:1
 returns : tie.Need-returns
 unfolding passes8
 returns c = c .starts-with .ensures ∙ rw (c .before .before .before .two-digits .ensures, c .before .before .before .before .of .ensures, part-rest, part-front)

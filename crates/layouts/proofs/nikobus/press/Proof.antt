@@ -1,35 +1,28 @@
+-- `layouts::nikobus::press` meets its contract: word, digits and CR one after another.
+-- Assumes nothing.
+use Rattle.layouts.proofs.Laws.Heads.{word-inside}
+use Rattle.layouts.proofs.Laws.Nikobus.{press-digits, press-whole}
 use borrow.Author.Needs.{needs}
 use Rattle.layouts.proofs.nikobus.press.Statement.{statement}
 use Rattle.layouts.proofs.nikobus.press.Tie as tie
-use Rattle.layouts.proofs.nikobus.press.Reads as reads
-use Rattle.layouts.proofs.nikobus.press.Lts as lts
-use Rattle.layouts.proofs.nikobus.digits_at.Reads as digits-at-reads
-use Rattle.layouts.proofs.words.word.Reads as word-reads
-use Rattle.layouts.proofs.words.word_at.Reads as word-at-reads
 
--- src/nikobus.rt:98:28
 slice-aggregate-word : tie.Need-slice-aggregate-word
 slice-aggregate-word c = search needs
 
--- src/nikobus.rt:98:9
 word-requires : tie.Need-word-requires
 word-requires c κs = search needs
 
--- src/nikobus.rt:99:9
 digits-at-requires : tie.Need-digits-at-requires
-digits-at-requires c κs = ?
+digits-at-requires c κs = rw (c .word .ensures) (word-inside _ _)
 
--- src/nikobus.rt:100:26
 slice-aggregate-word-at : tie.Need-slice-aggregate-word-at
 slice-aggregate-word-at c = search needs
 
--- src/nikobus.rt:100:5
 word-at-requires : tie.Need-word-at-requires
-word-at-requires c κs = ?
+word-at-requires c κs = press-digits _ _ _ (c .before .before .word .ensures) (c .before .digits-at .ensures)
 
--- src/nikobus.rt:95:1
 returns : tie.Need-returns
-returns c = ?
+returns c = press-whole _ _ _ _ (c .before .before .before .word .ensures) (c .before .before .digits-at .ensures) (c .word-at .ensures)
 
 pub press-spec : {M : Type 1} → statement M
 press-spec =
