@@ -8,3 +8,5 @@ pub mod HomiqFields
 pub mod Homiq
 pub mod HomiqOne
 pub mod HomiqFrame
+pub mod HexDigits
+pub mod Nikobus
