@@ -22,6 +22,7 @@ use Rattle.frames.specs.declared.Whole.{Whole}
 use Rattle.frames.specs.declared.Whole.the-variants.{Is, Refused as NotWhole}
 use Rattle.frames.proofs.Laws.Kinds.{begins, ends}
 use Rattle.frames.proofs.Laws.Places.{one-length}
+use Rattle.frames.proofs.Laws.Runs.{leftmost, none-found}
 
 -- ---- the leftmost frame
 
@@ -74,7 +75,7 @@ searched-one r q a b = let e = one-answer leftmost-one a b in found-answer r q (
 pub handed-one : {k : ℕ} {s : List ℕ} {place : ℕ} (cut : Hit → List ℕ) (p q : List ℕ) → Hands k s place cut p → Hands k s place cut q → p ≡ q
 handed-one cut p q a b = one-answer (λ u v x y. x .2 ∙ ap cut (leftmost-one (x .0) (y .0) (x .1) (y .1)) ∙ sym (y .2)) (a .answer) (b .answer) .1
 
--- ---- frames::whole
+-- ---- frames::one_frame
 
 module _ {k : ℕ} {s : List ℕ} where
   ends-one : (u v : Ends) → OneFrame k s u → OneFrame k s v → u ≡ v
@@ -83,7 +84,7 @@ module _ {k : ℕ} {s : List ℕ} where
       let y : u .to ≡ v .to = a .to-is ∙ ends (a .frame) ∙ sym (ends (b .frame)) ∙ sym (b .to-is) in
       same (u .from) (v .from) (u .to) (v .to) x y
     where
-      same : (x x′ y y′ : ℕ) → x ≡ x′ → y ≡ y′ → record { from = x; to = y } ≡ record { from = x′; to = y′ }
+      same : (x x′ y y′ : ℕ) → x ≡ x′ → y ≡ y′ → _≡_ {A = Ends} (record { from = x; to = y }) (record { from = x′; to = y′ })
       same x x′ y y′ p q = rw (p, q)
 
   pub whole-one : (r q : Whole) → TestsWhole k s r → TestsWhole k s q → r ≡ q
@@ -100,9 +101,9 @@ module _ {k : ℕ} {s : List ℕ} where
 
 pub run-one : {k : ℕ} {s : List ℕ} {place : ℕ} {xs ys : List Hit} → Run k s place xs → Run k s place ys → xs ≡ ys
 run-one (R.ends a) (R.ends b) = refl
-run-one (R.ends a) (R.finds b r) = absurd (differ (searched-one _ _ a b))
-  where
-    differ : {why : Refusal} {i n x y : ℕ} → Refused why ≡ At i n x y → ⊥
-    differ e = ?
-run-one (R.finds a r) (R.ends b) = ?
-run-one (R.finds a r) (R.finds b q) = ?
+run-one (R.ends a) (R.finds {start = i} {len = n} b r) = absurd (none-found a i n (leftmost b .behind) (leftmost b .stands))
+run-one (R.finds {start = i} {len = n} a r) (R.ends b) = absurd (none-found b i n (leftmost a .behind) (leftmost a .stands))
+run-one {k} {s} (R.finds {start = i} {len = n} {from = x} {to = y} {later = later} a r) (R.finds {start = j} {len = m} {from = u} {to = v} b q) =
+    let e : hit i n x y ≡ hit j m u v = leftmost-one (hit i n x y) (hit j m u v) (leftmost a) (leftmost b) in
+    let at : i + n ≡ j + m = ap (λ (h : Hit). h .start + h .len) e in
+    ap₂ (λ (h : Hit) (l : List Hit). h ∷ l) e (run-one (subst (λ (p : ℕ). Run k s p later) at r) q)

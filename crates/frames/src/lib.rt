@@ -69,7 +69,7 @@ pub fn payload(kind: u8, buffer: &[u8], place: usize) -> &[u8]
 }
 
 // Whether s is one frame and no byte more. Refusals: 2 for a kind that is not known, 5 for anything else than one frame.
-pub fn whole(kind: u8, s: &[u8]) -> Whole
+pub fn one_frame(kind: u8, s: &[u8]) -> Whole
     ensures { λ r. ⌜ TestsWhole kind (now (s .entry)) r ⌝ }
 {
     if !kinds::known(kind) {

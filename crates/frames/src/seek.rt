@@ -124,6 +124,7 @@ fn first_homiq(buffer: &[u8], place: usize, end: usize) -> Found
 
 // The next place before the end where a frame can begin: what is found from there on is what is found from the place on.
 fn skip(kind: u8, buffer: &[u8], place: usize, end: usize) -> usize
+    requires { ⌜ paper.known kind ≡ true ⌝ }
     requires { ⌜ end + 3 ≡ length (now buffer) ⌝ }
     requires { ⌜ place ≤ length (now buffer) ⌝ }
     ensures { λ r. ⌜ place ≤ r ⌝ }

@@ -45,6 +45,9 @@ by-kind (suc (suc (suc (suc zero)))) e C a b c d f = d
 by-kind (suc (suc (suc (suc (suc zero))))) e C a b c d f = f
 by-kind (suc (suc (suc (suc (suc (suc k)))))) e C a b c d f = let q = known-range (suc (suc (suc (suc (suc (suc k)))))) e in absurd (omega (arith, q .1))
 
+pub last-kind : (k : ℕ) → known k ≡ true → (k ≡ 1 → ⊥) → (k ≡ 2 → ⊥) → (k ≡ 3 → ⊥) → (k ≡ 4 → ⊥) → k ≡ 5
+last-kind k e a b c d = let q = known-range k e in omega (arith, q .0, q .1)
+
 pub frame-known : {k : ℕ} {f : List ℕ} → Frame k f → known k ≡ true
 unfolding known
 frame-known (nikobus r) = refl
@@ -63,35 +66,35 @@ nikobus-kind : Right (Frame 1) (frameLen 1)
 unfolding frameLen nikobusLen
 nikobus-kind = same-right (λ w r. nikobus r) (λ w r. un r) (frame-right nikobus-bus)
   where
-    un : {w : List ℕ} → Frame 1 w → layout.Frame _ w
+    un : {w : List ℕ} → Frame 1 w → layout.Frame nikobuses.nikobus w
     un (nikobus r) = r
 
 command-kind : Right (Frame 2) (frameLen 2)
 unfolding frameLen nestLen
 command-kind = same-right (λ w r. command r) (λ w r. un r) (frame-right (nest-bus (preamble Command) some))
   where
-    un : {w : List ℕ} → Frame 2 w → layout.Frame _ w
+    un : {w : List ℕ} → Frame 2 w → layout.Frame (nests.nest Command) w
     un (command r) = r
 
 response-kind : Right (Frame 3) (frameLen 3)
 unfolding frameLen nestLen
 response-kind = same-right (λ w r. response r) (λ w r. un r) (frame-right (nest-bus (preamble Response) some))
   where
-    un : {w : List ℕ} → Frame 3 w → layout.Frame _ w
+    un : {w : List ℕ} → Frame 3 w → layout.Frame (nests.nest Response) w
     un (response r) = r
 
 nibe-kind : Right (Frame 4) (frameLen 4)
 unfolding frameLen nibeLen
 nibe-kind = same-right (λ w r. nibe r) (λ w r. un r) (frame-right nibe-bus)
   where
-    un : {w : List ℕ} → Frame 4 w → layout.Frame _ w
+    un : {w : List ℕ} → Frame 4 w → layout.Frame nibes.nibe w
     un (nibe r) = r
 
 homiq-kind : Right (Frame 5) (frameLen 5)
 unfolding frameLen homiqLen
 homiq-kind = same-right (λ w r. homiq r) (λ w r. un r) (frame-right homiq-bus)
   where
-    un : {w : List ℕ} → Frame 5 w → layout.Frame _ w
+    un : {w : List ℕ} → Frame 5 w → layout.Frame homiqs.homiq w
     un (homiq r) = r
 
 -- OF EVERY KNOWN KIND `frameLen` finds the frames, and only those

@@ -46,4 +46,4 @@ none-between {k} {s} (R.finds {place = place} {start = i} {len = n} {from = x} {
         → TakenUp j (record { start = i; len = n; from = x; to = y } ∷ later)
     go (no f) d l rest = absurd (l .none-before j m h (omega arith) q)
     go (yes e) (yes d) l rest = R.there (rest d)
-    go (yes e) (no f) l rest = R.here e (omega arith)
+    go (yes e) (no f) l rest = R.here {v = record { start = i; len = n; from = x; to = y }} e (omega arith)

@@ -11,6 +11,7 @@ use lib.Seq.{getD-drop}
 use borrow.Author.Tests.{le-leb, eq-eqb}
 use Rattle.digits.proofs.Laws.Tests.{T-and, T-true}
 use Rattle.digits.specs.Paper.Hex.{hexByte, hexWord, hexBytes, hexDigit}
+use Rattle.digits.specs.Paper.Decimal.{decimal}
 use Rattle.digits.specs.Paper.LowFirst.{lowFirst}
 use Rattle.digits.specs.Paper.Ascii.{ascii}
 use Rattle.digits.proofs.Laws.Hex.{digit-upper}
@@ -60,6 +61,11 @@ nikobus-begun (N.link p x y) (N.link-limits some short b c d) f e =
 nikobus-begun (N.press d) (N.press-limits six hex) f e = rw e (record { four = omega (arith, length-append d (0x0D ∷ [])); mark = refl })
 nikobus-begun N.tail N.tail-limits f e = rw e (record { four = omega arith; mark = refl })
 
+-- the commands all begin with 6
+sixes : T (all (λ c. eqb (c / 16) 6) nibes.commands)
+unfolding all
+sixes = tt
+
 begun : {k : ℕ} {f : List ℕ} → Frame k f → Begun k f
 unfolding mayStart lowFirst
 begun {f = f} (nikobus r) = nikobus-begun (r .form .fields) (r .form .limits) f (r .form .laid)
@@ -69,10 +75,11 @@ begun (nibe r) =
     let m = r .form .fields in
     let six : T (eqb (m .command / 16) 6) = one-of-all (λ c. eqb (c / 16) 6) nibes.commands (m .command) sixes (r .form .limits .command) in
     rw (layout.Form.laid (layout.Frame.form r)) (record { four = omega (arith, length-append (m .content) (m .xor ∷ [])); mark = T-true _ six })
-  where
-    sixes : T (all (λ c. eqb (c / 16) 6) nibes.commands)
-    sixes = ?
-begun (homiq r) = ?
+begun (homiq r) =
+    let m = r .form .fields in
+    let z : List ℕ = ascii ";" ++ decimal (m .crc) ++ ascii ";>" in
+    rw (layout.Form.laid (layout.Frame.form r))
+    (record { four = omega (arith, length-append (homiqs.payload m) (homiqs.behind m), length-append z (0x0D ∷ 0x0A ∷ [])); mark = refl })
 
 -- ---- no frame
 
@@ -117,7 +124,7 @@ module _ (k : ℕ) (kn : known k ≡ true) (s : List ℕ) (i : ℕ) where
       → seek k (drop (i + 1) s) (i + 1) ≡ seek k (drop i s) i
   seek-pass h e =
       let z : i + 0 ≡ i = omega arith in
-      let d : (j : ℕ) → getD (drop i s) j 0 ≡ getD s (i + j) 0 = λ j. getD-drop in
+      let d : (j : ℕ) → getD (drop i s) j 0 ≡ getD s (i + j) 0 = λ j. getD-drop i s j 0 in
       seek-miss k s i h (no-start k kn (drop i s) (rw (d 0, d 1, d 2, z) e))
 
   -- fewer than four bytes are left
