@@ -3,4 +3,5 @@ pub mod Places
 pub mod Causes
 pub mod Seek
 pub mod Starts
+pub mod Loops
 pub mod Runs

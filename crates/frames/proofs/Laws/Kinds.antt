@@ -3,10 +3,10 @@
 use mathlib.Core.Path.{_≡_, refl, sym, _∙_, ap}
 use Prim.Native.Nat.{ℕ, zero, suc, _≤_, _<_}
 use mathlib.Core.Bool.{Bool, true, _&&_}
-use mathlib.Core.List.{List}
+use mathlib.Core.List.{List, _++_}
 use native.Mathlib.Omega.{arith}
 use lib.Dec.{T, lit<, leb, leb→le}
-use lib.ListN.{length, take}
+use lib.ListN.{length, take, length-append}
 use Rattle.digits.proofs.Laws.Tests.{T-and}
 use Rattle.layouts.specs.Paper.Layout as layout
 use Rattle.layouts.specs.Paper.Layout.{Layout, Leads}
@@ -118,6 +118,20 @@ ends {f = f} (command r) = nest-bus (preamble Command) some .ends f (r .form)
 ends {f = f} (response r) = nest-bus (preamble Response) some .ends f (r .form)
 ends {f = f} (nibe r) = nibe-bus .ends f (r .form)
 ends {f = f} (homiq r) = homiq-bus .ends f (r .form)
+
+-- the payload lies in the frame
+form-holds : {l : Layout} {f : List ℕ} (r : layout.Form l f)
+    → (layout.payloadFrom l (r .fields) ≤ layout.payloadTo l (r .fields)) × (layout.payloadTo l (r .fields) ≤ length f)
+form-holds {l} {f} r =
+    let m = r .fields in
+    (omega arith, omega (arith, ap length (r .laid), length-append (l .before m ++ l .payload m) (l .behind m), length-append (l .before m) (l .payload m)))
+
+pub payload-inside : {k : ℕ} {f : List ℕ} (r : Frame k f) → (payloadFrom r ≤ payloadTo r) × (payloadTo r ≤ length f)
+payload-inside (nikobus r) = form-holds (r .form)
+payload-inside (command r) = form-holds (r .form)
+payload-inside (response r) = form-holds (r .form)
+payload-inside (nibe r) = form-holds (r .form)
+payload-inside (homiq r) = form-holds (r .form)
 
 -- ---- what the layouts' functions answer
 
