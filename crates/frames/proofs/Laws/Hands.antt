@@ -1,0 +1,36 @@
+-- The part of the buffer that a search finds.
+-- Assumes nothing.
+use mathlib.Core.Path.{_≡_, refl, sym, _∙_, ap, subst}
+use Prim.Native.Nat.{ℕ, _+_, _≤_, _<_}
+use mathlib.Core.List.{List, []}
+use native.Mathlib.Omega.{arith}
+use lib.ListN.{length}
+use Rattle.digits.specs.Paper.Refusals.{refusalNumber, Answers, answers, refuses}
+use Rattle.digits.specs.declared.refusal.Refusal.{Refusal}
+use Rattle.digits.proofs.Laws.Refusals.{cause-of, some-number}
+use Rattle.frames.specs.Paper.Search.{FrameAt, Hit, Leftmost, Searches, Hands}
+use Rattle.frames.specs.declared.Found.{Found}
+use Rattle.frames.specs.declared.Found.the-variants.{At, Refused}
+use Rattle.frames.proofs.Laws.Kinds.{payload-inside}
+use Rattle.frames.proofs.Laws.Places.{size-at}
+use Rattle.frames.proofs.Laws.Runs.{leftmost}
+
+module _ {k : ℕ} {s : List ℕ} {place : ℕ} {r : Found} (a : Searches k s place r) where
+  module _ {start len from to : ℕ} (e : r ≡ At start len from to) where
+    there : Searches k s place (At start len from to)
+    there = subst (Searches k s place) e a
+
+    pub found-inside : start + len ≤ length s
+    found-inside = leftmost there .stands .inside
+
+    pub payload-there : (from ≤ to) × (to ≤ length s)
+    payload-there =
+        let q = leftmost there in
+        let i = payload-inside (q .stands .frame) in
+        (omega (arith, q .from-is, q .to-is, i .0), omega (arith, q .to-is, i .1, size-at (q .stands), q .stands .inside))
+
+    pub hands-found : (cut : Hit → List ℕ) (p : List ℕ) → p ≡ cut (record { start = start; len = len; from = from; to = to }) → Hands k s place cut p
+    hands-found cut p f = record { number = 0; answer = answers (cause-of there) (record { start = start; len = len; from = from; to = to }, leftmost there, f) }
+
+  pub hands-nothing : {why : Refusal} → r ≡ Refused why → (cut : Hit → List ℕ) → Hands k s place cut []
+  hands-nothing {why} e cut = record { number = refusalNumber why; answer = refuses (some-number why) (cause-of (subst (Searches k s place) e a)) }

@@ -1,0 +1,30 @@
+use borrow.Author.Needs.{needs}
+use Rattle.frames.proofs.search.Statement.{statement}
+use Rattle.frames.proofs.search.Tie as tie
+use Rattle.frames.proofs.search.Reads as reads
+use Rattle.frames.proofs.search.Lts as lts
+use Rattle.frames.proofs.kinds.known.Reads as known-reads
+use Rattle.frames.proofs.seek.first.Reads as first-reads
+
+-- src/lib.rt:32:9
+known-requires : tie.Need-known-requires
+known-requires c κs = search needs
+
+-- src/lib.rt:33:9
+returns : tie.Need-returns
+returns c = ?
+
+-- src/lib.rt:36:9
+returns-2 : tie.Need-returns-2
+returns-2 c = ?
+
+-- src/lib.rt:38:5
+first-requires : tie.Need-first-requires
+first-requires c κs = ?
+
+-- src/lib.rt:29:1
+returns-3 : tie.Need-returns-3
+returns-3 c = ?
+
+pub search-spec : {M : Type 1} → statement M
+search-spec = tie.close (tie.spec known-requires returns returns-2 first-requires returns-3)
