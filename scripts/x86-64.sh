@@ -6,11 +6,14 @@ kit=$(dirname "$(dirname "$(readlink -f "$(command -v rt)")")")
 tools=$kit/on/$(uname -m)/toolchain/bin
 lib=$kit/toolchain/lib
 
-# build OUT SOURCE ARCHIVE
+# build OUT SOURCE ARCHIVE..: warnings are errors. scripts/headers has the few declarations of C's library that our files need, since
+# the kit's compiler comes without headers.
 build() {
-    "$tools/clang" --target=x86_64-linux-gnu -std=c11 -O3 -fPIE -fno-builtin -Wall -Wextra -Werror -c "$2" -o "$1.o" &&
-        "$tools/ld.lld" -pie -dynamic-linker "$lib/ld-linux-x86-64.so.2" -rpath "$lib" -o "$1" \
-            "$lib/Scrt1.o" "$lib/crti.o" "$lib/crtbeginS.o" "$1.o" "$3" \
+    local out=$1 source=$2
+    shift 2
+    "$tools/clang" --target=x86_64-linux-gnu -std=c11 -O3 -fPIE -fno-builtin -isystem scripts/headers -Wall -Wextra -Werror -c "$source" -o "$out.o" &&
+        "$tools/ld.lld" -pie -dynamic-linker "$lib/ld-linux-x86-64.so.2" -rpath "$lib" -o "$out" \
+            "$lib/Scrt1.o" "$lib/crti.o" "$lib/crtbeginS.o" "$out.o" "$@" \
             "$lib/libc.so.6" "$lib/libc_nonshared.a" "$lib/ld-linux-x86-64.so.2" "$lib/libgcc.a" "$lib/crtendS.o" "$lib/crtn.o"
 }
 

@@ -75,13 +75,13 @@ fn starts_nikobus(a: u8, b: u8) -> bool
     false
 }
 
-// These three bytes.
+// These three bytes; the last first, since a run of start bytes differs there.
 fn three(a: u8, b: u8, c: u8, first: u8, second: u8, third: u8) -> bool
     ensures { λ r. ⌜ r ≡ (eqb a first && (eqb b second && eqb c third)) ⌝ }
 {
-    if a == first {
+    if c == third {
         if b == second {
-            return c == third;
+            return a == first;
         }
     }
     false

@@ -47,7 +47,7 @@ fn first_nikobus(buffer: &[u8], place: usize, end: usize) -> Found
     requires { ⌜ place ≤ length (now buffer) ⌝ }
     ensures { λ r. ⌜ r ≡ seek 1 (drop place (now (buffer .entry))) place ⌝ }
 {
-    let mut at = skip(1, buffer, place, end);
+    let mut at = place;
     while at < end {
         let spot = nikobus::frame(&buffer[at..]);
         if spot.len != 0 {
@@ -63,7 +63,7 @@ fn first_command(buffer: &[u8], place: usize, end: usize) -> Found
     requires { ⌜ place ≤ length (now buffer) ⌝ }
     ensures { λ r. ⌜ r ≡ seek 2 (drop place (now (buffer .entry))) place ⌝ }
 {
-    let mut at = skip(2, buffer, place, end);
+    let mut at = place;
     while at < end {
         let spot = nest::frame(Direction::Command, &buffer[at..]);
         if spot.len != 0 {
@@ -79,7 +79,7 @@ fn first_response(buffer: &[u8], place: usize, end: usize) -> Found
     requires { ⌜ place ≤ length (now buffer) ⌝ }
     ensures { λ r. ⌜ r ≡ seek 3 (drop place (now (buffer .entry))) place ⌝ }
 {
-    let mut at = skip(3, buffer, place, end);
+    let mut at = place;
     while at < end {
         let spot = nest::frame(Direction::Response, &buffer[at..]);
         if spot.len != 0 {
@@ -95,7 +95,7 @@ fn first_nibe(buffer: &[u8], place: usize, end: usize) -> Found
     requires { ⌜ place ≤ length (now buffer) ⌝ }
     ensures { λ r. ⌜ r ≡ seek 4 (drop place (now (buffer .entry))) place ⌝ }
 {
-    let mut at = skip(4, buffer, place, end);
+    let mut at = place;
     while at < end {
         let spot = nibe::frame(&buffer[at..]);
         if spot.len != 0 {
@@ -111,7 +111,7 @@ fn first_homiq(buffer: &[u8], place: usize, end: usize) -> Found
     requires { ⌜ place ≤ length (now buffer) ⌝ }
     ensures { λ r. ⌜ r ≡ seek 5 (drop place (now (buffer .entry))) place ⌝ }
 {
-    let mut at = skip(5, buffer, place, end);
+    let mut at = place;
     while at < end {
         let spot = homiq::frame(&buffer[at..]);
         if spot.len != 0 {

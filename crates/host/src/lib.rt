@@ -3,6 +3,7 @@
 use digits::refusal;
 use digits::refusal::Refusal;
 use frames::Found;
+use frames::Whole;
 use numbers::text;
 use numbers::text::Reading;
 use puts::Written;
@@ -15,6 +16,7 @@ ghost use Rattle.numbers.specs.Paper.Text as T;
 ghost use Rattle.numbers.specs.Paper.Text.{InLimits};
 ghost use Rattle.numbers.specs.Paper.Answers.{TextCause, zeroNumber};
 ghost use Rattle.frames.specs.Paper.Search.{zeroHit, SearchCause, Leftmost};
+ghost use Rattle.frames.specs.Paper.Whole.{zeroEnds, WholeCause, OneFrame};
 
 // A frame found: its place in the buffer and its length, and the places where its payload begins and ends.
 #[repr(C)]
@@ -22,6 +24,14 @@ pub struct Hit {
     pub refusal: u32,
     pub start: usize,
     pub length: usize,
+    pub from: usize,
+    pub to: usize,
+}
+
+// The places in a frame where its payload begins and ends.
+#[repr(C)]
+pub struct Ends {
+    pub refusal: u32,
     pub from: usize,
     pub to: usize,
 }
@@ -63,6 +73,25 @@ pub extern "C" fn bolsterweft_search(kind: u8, buffer: &[u8], place: usize) -> H
             refusal: numbered(why),
             start: 0,
             length: 0,
+            from: 0,
+            to: 0,
+        },
+    }
+}
+
+// Whether s is one frame and no byte more.
+#[no_mangle]
+pub extern "C" fn bolsterweft_one_frame(kind: u8, s: &[u8]) -> Ends
+    ensures { λ r. ⌜ Answers zeroEnds (WholeCause kind (now (s .entry))) (OneFrame kind (now (s .entry))) (r .refusal) (record { from = r .from; to = r .to }) ⌝ }
+{
+    match frames::one_frame(kind, s) {
+        Whole::Is { from, to } => Ends {
+            refusal: 0,
+            from,
+            to,
+        },
+        Whole::Refused(why) => Ends {
+            refusal: numbered(why),
             from: 0,
             to: 0,
         },

@@ -1,7 +1,6 @@
 use mathlib.Core.Path.{refl, _∙_}
 use Prim.Native.Nat.{_-_}
 use lib.ListN.{length}
-use denote.Ref.{now}
 use native.Mathlib.Omega.{arith}
 use borrow.Author.Needs.{needs}
 use Rattle.frames.specs.Paper.Kinds.{known}
@@ -21,14 +20,9 @@ Inv-loop buffer place end at₀ at = Seeking 3 buffer place at
 abbrev μ-loop : tie.MeasureT-loop
 μ-loop buffer place end at₀ at = length buffer - at
 
--- src/seek.rt:82:9
-skip-requires : tie.Need-skip-requires Inv-loop μ-loop
-unfolding known
-skip-requires c κs = (refl, (c .before .pre .0, c .before .pre .1))
-
 -- src/seek.rt:83:5
 loop-holds : tie.Need-loop-holds Inv-loop μ-loop
-loop-holds c = record { within = c .skip .ensures .1 .0; same = c .skip .ensures .1 .1 }
+loop-holds c = record { within = c .before .pre .1; same = refl }
 
 -- src/seek.rt:84:53
 sub-frame : tie.Need-sub-frame Inv-loop μ-loop
@@ -49,35 +43,35 @@ frame-requires c κs = search needs
 -- src/seek.rt:86:13
 found-requires : tie.Need-found-requires Inv-loop μ-loop
 unfolding known
-found-requires c κs = let s = c .before .before .before .before .before .before .before .before in hit-fits refl (c .before .before .before .before .before .loop .inv) (omega (arith, s .pre .0, c .before .before .before .before .loop-test .taken)) (response-spot (c .before .before .frame .ensures)) (omega (arith, s .good))
+found-requires c κs = let s = c .before .before .before .before .before .before .before in hit-fits refl (c .before .before .before .before .before .loop .inv) (omega (arith, s .pre .0, c .before .before .before .before .loop-test .taken)) (response-spot (c .before .before .frame .ensures)) (omega (arith, s .good))
 
 -- src/seek.rt:86:13
 returns : tie.Need-returns Inv-loop μ-loop
 unfolding known
-returns c = let s = c .before .before .before .before .before .before .before .before .before in c .found .ensures ∙ hit-found refl (c .before .before .before .before .before .before .loop .inv) (omega (arith, s .pre .0, c .before .before .before .before .before .loop-test .taken)) (response-spot (c .before .before .before .frame .ensures)) (c .before .if1 .taken)
+returns c = let s = c .before .before .before .before .before .before .before .before in c .found .ensures ∙ hit-found refl (c .before .before .before .before .before .before .loop .inv) (omega (arith, s .pre .0, c .before .before .before .before .before .loop-test .taken)) (response-spot (c .before .before .before .frame .ensures)) (c .before .if1 .taken)
 
 -- src/seek.rt:88:30
 add-skip : tie.Need-add-skip Inv-loop μ-loop
-add-skip c = let s = c .before .before .before .before .before .before .before .before in omega (arith, s .pre .0, s .good, c .before .before .before .before .loop-test .taken)
+add-skip c = let s = c .before .before .before .before .before .before .before in omega (arith, s .pre .0, s .good, c .before .before .before .before .loop-test .taken)
 
 -- src/seek.rt:88:9
-skip-requires-2 : tie.Need-skip-requires-2 Inv-loop μ-loop
+skip-requires : tie.Need-skip-requires Inv-loop μ-loop
 unfolding known
-skip-requires-2 c κs = let s = c .before .before .before .before .before .before .before .before in (refl, (s .pre .0, omega (arith, s .pre .0, c .before .before .before .before .loop-test .taken)))
+skip-requires c κs = let s = c .before .before .before .before .before .before .before in (refl, (s .pre .0, omega (arith, s .pre .0, c .before .before .before .before .loop-test .taken)))
 
 -- src/seek.rt:83:5
 loop-less : tie.Need-loop-less Inv-loop μ-loop
-loop-less c = let s = c .before .before .before .before .before .before .before .before .before in omega (arith, c .skip2 .ensures .0, s .pre .0, c .before .before .before .before .before .loop-test .taken)
+loop-less c = let s = c .before .before .before .before .before .before .before .before in omega (arith, c .skip .ensures .0, s .pre .0, c .before .before .before .before .before .loop-test .taken)
 
 -- src/seek.rt:83:5
 loop-again : tie.Need-loop-again Inv-loop μ-loop
 unfolding known
-loop-again c = let s = c .before .before .before .before .before .before .before .before .before in miss-next refl (c .before .before .before .before .before .before .loop .inv) (omega (arith, s .pre .0, c .before .before .before .before .before .loop-test .taken)) (response-spot (c .before .before .before .frame .ensures)) (c .before .if1 .left) (c .skip2 .ensures .1 .0) (c .skip2 .ensures .1 .1)
+loop-again c = let s = c .before .before .before .before .before .before .before .before in miss-next refl (c .before .before .before .before .before .before .loop .inv) (omega (arith, s .pre .0, c .before .before .before .before .before .loop-test .taken)) (response-spot (c .before .before .before .frame .ensures)) (c .before .if1 .left) (c .skip .ensures .1 .0) (c .skip .ensures .1 .1)
 
 -- src/seek.rt:77:1
 returns-2 : tie.Need-returns-2 Inv-loop μ-loop
 unfolding known
-returns-2 c = let s = c .before .before .before .before in none-left refl (c .before .loop .inv) (omega (arith, s .pre .0, c .loop-test .left))
+returns-2 c = let s = c .before .before .before in none-left refl (c .before .loop .inv) (omega (arith, s .pre .0, c .loop-test .left))
 
 pub first-response-spec : {M : Type 1} → statement M
 first-response-spec =
@@ -85,7 +79,6 @@ first-response-spec =
     (tie.spec
     Inv-loop
     μ-loop
-    skip-requires
     loop-holds
     sub-frame
     part-frame-start
@@ -94,7 +87,7 @@ first-response-spec =
     found-requires
     returns
     add-skip
-    skip-requires-2
+    skip-requires
     loop-less
     loop-again
     returns-2)

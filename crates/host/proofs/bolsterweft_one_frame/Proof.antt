@@ -1,0 +1,42 @@
+use borrow.Author.Needs.{needs}
+use Rattle.host.proofs.bolsterweft_one_frame.Statement.{statement}
+use Rattle.host.proofs.bolsterweft_one_frame.Tie as tie
+use Rattle.host.proofs.bolsterweft_one_frame.Reads as reads
+use Rattle.host.proofs.bolsterweft_one_frame.Lts as lts
+use Rattle.frames.proofs.one_frame.Reads as one-frame-reads
+use Rattle.host.proofs.numbered.Reads as numbered-reads
+
+-- src/lib.rt:87:11
+one-frame-requires : tie.Need-one-frame-requires
+one-frame-requires c κs = search needs
+
+-- src/lib.rt:88:21
+enum-known-from : tie.Need-enum-known-from
+enum-known-from c = search needs
+
+-- src/lib.rt:93:24
+enum-known-why : tie.Need-enum-known-why
+enum-known-why c = search needs
+
+-- src/lib.rt:94:22
+numbered-requires : tie.Need-numbered-requires
+numbered-requires c κs = search needs
+
+-- src/lib.rt:83:1
+returns : tie.Need-returns
+returns c = ?
+
+-- src/lib.rt:83:1
+returns-2 : tie.Need-returns-2
+returns-2 c = ?
+
+pub bolsterweft-one-frame-spec : {M : Type 1} → statement M
+bolsterweft-one-frame-spec =
+    tie.close
+    (tie.spec
+    one-frame-requires
+    enum-known-from
+    enum-known-why
+    numbered-requires
+    returns
+    returns-2)

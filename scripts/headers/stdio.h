@@ -1,0 +1,18 @@
+/* What our C files need of <stdio.h>: the kit's compiler comes without headers. */
+#ifndef HEADERS_STDIO_H
+#define HEADERS_STDIO_H
+
+#include <stddef.h>
+
+typedef struct _IO_FILE FILE;
+extern FILE *stdin, *stdout, *stderr;
+
+int printf(const char *format, ...);
+int fprintf(FILE *file, const char *format, ...);
+int putchar(int c);
+size_t fread(void *to, size_t size, size_t n, FILE *file);
+size_t fwrite(const void *from, size_t size, size_t n, FILE *file);
+int ferror(FILE *file);
+int fflush(FILE *file);
+
+#endif
