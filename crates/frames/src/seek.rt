@@ -133,7 +133,7 @@ fn skip(kind: u8, buffer: &[u8], place: usize, end: usize) -> usize
 {
     let mut at = place;
     while at < end {
-        if kinds::may_start(kind, buffer[at], buffer[at + 1], buffer[at + 2]) {
+        if kinds::may_start(kind, &buffer[at..]) {
             return at;
         }
         at += 1;

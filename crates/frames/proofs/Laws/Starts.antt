@@ -2,12 +2,13 @@
 -- Assumes nothing.
 use mathlib.Core.Path.{_≡_, refl, sym, _∙_, ap, subst}
 use Prim.Native.Nat.{ℕ, zero, suc, _+_, _-_, _*_, _/_, _≤_, _<_}
-use mathlib.Core.Bool.{Bool, true, false, _&&_, _||_, true≢false}
+use mathlib.Core.Bool.{Bool, true, false, _&&_, _||_, and-true, true≢false}
 use mathlib.Core.List.{List, [], _∷_, _++_}
 use native.Mathlib.Omega.{arith}
 use lib.Dec.{T, leb, eqb, leb→le}
 use lib.ListN.{length, getD, take, drop, length-append, length-drop, List·getD-append}
-use lib.Seq.{getD-drop}
+use Rattle.digits.specs.Paper.Bytes.{part}
+use Rattle.digits.proofs.Laws.Parts.{part-rest}
 use borrow.Author.Tests.{le-leb, eq-eqb}
 use Rattle.digits.proofs.Laws.Tests.{T-and, T-true}
 use Rattle.digits.specs.Paper.Hex.{hexByte, hexWord, hexBytes, hexDigit}
@@ -120,13 +121,14 @@ seek-few k kn (x ∷ u) i h =
 
 module _ (k : ℕ) (kn : known k ≡ true) (s : List ℕ) (i : ℕ) where
   -- a place where no frame can begin is passed
-  pub seek-pass : i < length s → mayStart k (getD s i 0) (getD s (i + 1) 0) (getD s (i + 2) 0) ≡ false
+  pub seek-pass : i < length s → (u : List ℕ) → u ≡ part i (length s) s → mayStart k (getD u 0 0) (getD u 1 0) (getD u 2 0) ≡ false
       → seek k (drop (i + 1) s) (i + 1) ≡ seek k (drop i s) i
-  seek-pass h e =
-      let z : i + 0 ≡ i = omega arith in
-      let d : (j : ℕ) → getD (drop i s) j 0 ≡ getD s (i + j) 0 = λ j. getD-drop i s j 0 in
-      seek-miss k s i h (no-start k kn (drop i s) (rw (d 0, d 1, d 2, z) e))
+  seek-pass h u d e = seek-miss k s i h (ap (frameLen k) (sym (d ∙ part-rest i s)) ∙ no-start k kn u e)
 
   -- fewer than four bytes are left
   pub seek-left : length s < i + 4 → Refused NoFrame ≡ seek k (drop i s) i
   seek-left h = seek-few k kn (drop i s) i (omega (arith, length-drop i s))
+
+-- of three tests the last two hold
+pub all-three : (x y z : Bool) → y ≡ true → z ≡ true → x ≡ (x && (y && z))
+all-three x y z e f = rw (e, f) (sym (and-true x))

@@ -1,3 +1,6 @@
+use mathlib.Core.Path.{subst}
+use denote.Ref.{now}
+use Rattle.frames.specs.Paper.Whole.{TestsWhole}
 use borrow.Author.Needs.{needs}
 use Rattle.host.proofs.bolsterweft_one_frame.Statement.{statement}
 use Rattle.host.proofs.bolsterweft_one_frame.Tie as tie
@@ -24,11 +27,11 @@ numbered-requires c κs = search needs
 
 -- src/lib.rt:83:1
 returns : tie.Need-returns
-returns c = ?
+returns c = let s = c .before .before .before .before .before in subst (TestsWhole (s .args .kind) (now (s .args .s))) (c .before .from .given .1) (c .before .before .before .one-frame .ensures)
 
 -- src/lib.rt:83:1
 returns-2 : tie.Need-returns-2
-returns-2 c = ?
+returns-2 c = let s = c .before .before .before .before .before .before in rw (c .numbered .ensures) (subst (TestsWhole (s .args .kind) (now (s .args .s))) (c .before .before .why .given .1) (c .before .before .before .before .one-frame .ensures))
 
 pub bolsterweft-one-frame-spec : {M : Type 1} → statement M
 bolsterweft-one-frame-spec =

@@ -1,9 +1,10 @@
-use denote.Ref.{now}
 use mathlib.Core.Path.{_≡_, refl, sym, _∙_}
 use Prim.Native.Nat.{_≤_, _-_}
 use lib.ListN.{length, drop}
+use denote.Ref.{now}
 use borrow.Author.Needs.{needs}
 use native.Mathlib.Omega.{arith}
+use Rattle.digits.proofs.Laws.Parts.{length-part}
 use Rattle.frames.specs.Work.Seek.{seek}
 use Rattle.frames.proofs.Laws.Starts.{seek-pass}
 use Rattle.frames.proofs.seek.skip.Statement.{statement}
@@ -23,36 +24,28 @@ loop-holds : tie.Need-loop-holds Inv-loop μ-loop
 loop-holds c = (omega arith, (c .before .pre .1 .1, refl))
 
 -- src/seek.rt:136:35
-shared-slice-read-may-start : tie.Need-shared-slice-read-may-start Inv-loop μ-loop
-shared-slice-read-may-start c = let s = c .before .before .before .before in omega (arith, s .pre .1 .0, s .good, c .before .loop-test .taken)
+sub-may-start : tie.Need-sub-may-start Inv-loop μ-loop
+sub-may-start c = c .before .loop .inv .1 .0
 
--- src/seek.rt:136:54
-add-may-start : tie.Need-add-may-start Inv-loop μ-loop
-add-may-start c = let s = c .before .before .before .before in omega (arith, s .pre .1 .0, s .good, c .before .loop-test .taken)
+-- src/seek.rt:136:35
+part-may-start-start : tie.Need-part-may-start-start Inv-loop μ-loop
+part-may-start-start c = c .before .loop .inv .1 .0
 
--- src/seek.rt:136:47
-shared-slice-read-may-start-2 : tie.Need-shared-slice-read-may-start-2 Inv-loop μ-loop
-shared-slice-read-may-start-2 c = let s = c .before .before .before .before .before in omega (arith, s .pre .1 .0, s .good, c .before .before .loop-test .taken)
-
--- src/seek.rt:136:70
-add-may-start-2 : tie.Need-add-may-start-2 Inv-loop μ-loop
-add-may-start-2 c = let s = c .before .before .before .before .before in omega (arith, s .pre .1 .0, s .good, c .before .before .loop-test .taken)
-
--- src/seek.rt:136:63
-shared-slice-read-may-start-3 : tie.Need-shared-slice-read-may-start-3 Inv-loop μ-loop
-shared-slice-read-may-start-3 c = let s = c .before .before .before .before .before .before in omega (arith, s .pre .1 .0, s .good, c .before .before .before .loop-test .taken)
+-- src/seek.rt:136:35
+part-may-start-end : tie.Need-part-may-start-end Inv-loop μ-loop
+part-may-start-end c = search needs
 
 -- src/seek.rt:136:12
 may-start-requires : tie.Need-may-start-requires Inv-loop μ-loop
-may-start-requires c κs = tt
+may-start-requires c κs = let s = c .before .before .before .before in let b = now (s .args .buffer) in omega (arith, length-part (c .before .before .loop .at) (length b) b (c .before .before .loop .inv .1 .0) (omega arith), s .pre .1 .0, c .before .loop-test .taken)
 
 -- src/seek.rt:137:13
 returns : tie.Need-returns Inv-loop μ-loop
-returns c = c .before .before .before .before .before .before .loop .inv
+returns c = c .before .before .before .before .loop .inv
 
 -- src/seek.rt:139:9
 add-at : tie.Need-add-at Inv-loop μ-loop
-add-at c = let s = c .before .before .before .before .before .before .before .before in omega (arith, s .pre .1 .0, s .good, c .before .before .before .before .before .loop-test .taken)
+add-at c = let s = c .before .before .before .before .before .before in omega (arith, s .pre .1 .0, s .good, c .before .before .before .loop-test .taken)
 
 -- src/seek.rt:135:5
 loop-less : tie.Need-loop-less Inv-loop μ-loop
@@ -60,7 +53,7 @@ loop-less c = search needs
 
 -- src/seek.rt:135:5
 loop-again : tie.Need-loop-again Inv-loop μ-loop
-loop-again c = let s = c .before .before .before .before .before .before .before .before in let i = c .before .before .before .before .before .before .loop .inv in (omega (arith, i .0), (omega (arith, s .pre .1 .0, c .before .before .before .before .before .loop-test .taken), seek-pass _ (s .pre .0) (now (s .args .buffer)) _ (omega (arith, s .pre .1 .0, c .before .before .before .before .before .loop-test .taken)) (sym (c .before .may-start .ensures) ∙ c .if1 .left) ∙ i .1 .1))
+loop-again c = let s = c .before .before .before .before .before .before in let i = c .before .before .before .before .loop .inv in (omega (arith, i .0), (omega (arith, s .pre .1 .0, c .before .before .before .loop-test .taken), seek-pass _ (s .pre .0) (now (s .args .buffer)) _ (omega (arith, s .pre .1 .0, c .before .before .before .loop-test .taken)) _ refl (sym (c .before .may-start .ensures) ∙ c .if1 .left) ∙ i .1 .1))
 
 -- src/seek.rt:126:1
 returns-2 : tie.Need-returns-2 Inv-loop μ-loop
@@ -73,11 +66,9 @@ skip-spec =
     Inv-loop
     μ-loop
     loop-holds
-    shared-slice-read-may-start
-    add-may-start
-    shared-slice-read-may-start-2
-    add-may-start-2
-    shared-slice-read-may-start-3
+    sub-may-start
+    part-may-start-start
+    part-may-start-end
     may-start-requires
     returns
     add-at
