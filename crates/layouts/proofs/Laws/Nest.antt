@@ -66,7 +66,7 @@ body-made (x ∷ y ∷ z ∷ t ∷ r) n e h l b =
       layout = ap (λ (q : List ℕ). x ∷ y ∷ z ∷ t ∷ q) (sym (take-append-drop n r) ∙ ap (λ (q : List ℕ). p ++ q) (c .2)) ∙ sym (rw (e₀, e₁, e₂, e₃));
     }
 
-covered-bytes : (i : ℕ) (p : List ℕ) → Bytes p → Bytes (covered i p)
+pub covered-bytes : (i : ℕ) (p : List ℕ) → Bytes p → Bytes (covered i p)
 covered-bytes i p b =
     bytes-append (lowFirst 2 i ++ lowFirst 2 (length p)) p
     (bytes-append (lowFirst 2 i) (lowFirst 2 (length p)) (bytes-low 2 i) (bytes-low 2 (length p))) b
