@@ -78,7 +78,7 @@ handed-one cut p q a b = one-answer (λ u v x y. x .2 ∙ ap cut (leftmost-one (
 -- ---- frames::one_frame
 
 module _ {k : ℕ} {s : List ℕ} where
-  ends-one : (u v : Ends) → OneFrame k s u → OneFrame k s v → u ≡ v
+  pub ends-one : (u v : Ends) → OneFrame k s u → OneFrame k s v → u ≡ v
   ends-one u v a b =
       let x : u .from ≡ v .from = a .from-is ∙ begins (a .frame) ∙ sym (begins (b .frame)) ∙ sym (b .from-is) in
       let y : u .to ≡ v .to = a .to-is ∙ ends (a .frame) ∙ sym (ends (b .frame)) ∙ sym (b .to-is) in

@@ -5,36 +5,23 @@ use mathlib.Core.Path.{_≡_, sym, ap, _∙_}
 use mathlib.Core.Bool.{Bool, false}
 use mathlib.Core.List.{List}
 use Prim.Native.Nat.{ℕ}
-use native.Mathlib.Omega.{arith}
 use lib.IntN.{ℤ, pos}
 use lib.ListN.{length}
-use Rattle.digits.specs.Paper.Read.{Reads}
 use Rattle.digits.specs.Paper.Refusals.{Answers}
-use Rattle.digits.proofs.Laws.Reads.{one-reading}
 use Rattle.digits.proofs.Laws.Refusals.{one-answer}
 use Rattle.puts.specs.Paper.Wrote.{Wrote}
 use Rattle.puts.proofs.Laws.Wrote.{one-outcome}
-use Rattle.numbers.specs.Paper.Text.{text, Number, InLimits}
 use Rattle.numbers.specs.Paper.ByteValues.{valueBytes}
 use Rattle.numbers.specs.Paper.Single.{fitsSingle}
-use Rattle.numbers.specs.Paper.Answers.{TextCause, ValueCause, BytesCause, RangeCause, ValueIn, zeroNumber, shownRefusal, shownValue}
+use Rattle.numbers.specs.Paper.Answers.{ValueCause, BytesCause, RangeCause, ValueIn, shownRefusal, shownValue}
 use Rattle.numbers.specs.declared.panel.Shown.{Shown}
-use Rattle.numbers.proofs.Unique.{same-number, same-value, panel-shown}
+use Rattle.numbers.proofs.Unique.{same-value, panel-shown}
 use Rattle.probe.specs.Panel.{sizeOf, bitsOf, PanelBits}
 
--- probe_text, probe_value
-pub text-count : {z : ℤ} {d j k m n : ℕ} {room s t : List ℕ} → Wrote (TextCause z d (length room)) (text z d) room j m s
-    → Wrote (TextCause z d (length room)) (text z d) room k n t → (j ≡ k) × (m ≡ n) × (s ≡ t)
-text-count a b = one-outcome a b
-
+-- probe_value
 pub value-count : {w : ℕ} {signed : Bool} {z : ℤ} {j k m n : ℕ} {room s t : List ℕ} → Wrote (ValueCause w signed z (length room)) (valueBytes w z) room j m s
     → Wrote (ValueCause w signed z (length room)) (valueBytes w z) room k n t → (j ≡ k) × (m ≡ n) × (s ≡ t)
 value-count a b = one-outcome a b
-
--- probe_text_read
-pub number-read : {t : List ℕ} {j k : ℕ} {m n : Number} → Reads zeroNumber InLimits (λ n. text (n .raw) (n .decimals)) 7 t j m
-    → Reads zeroNumber InLimits (λ n. text (n .raw) (n .decimals)) 7 t k n → (j ≡ k) × (m ≡ n)
-number-read a b = one-reading (omega arith) (λ m n h k e. same-number m n e) a b
 
 -- probe_value_read
 pub value-read : {w : ℕ} {signed : Bool} {s : List ℕ} {j k : ℕ} {y z : ℤ} → Answers (pos 0) (BytesCause w s) (ValueIn w signed s) j y

@@ -7,8 +7,6 @@ use numbers::panel;
 use numbers::panel::Shown;
 use numbers::single;
 use numbers::single::Fit;
-use numbers::text;
-use numbers::text::Reading;
 use puts::Written;
 ghost use mathlib.Core.Path.{_≡_};
 ghost use mathlib.Core.Bool.{false, not};
@@ -16,13 +14,11 @@ ghost use lib.Dec.{eqb};
 ghost use lib.IntN.{pos};
 ghost use lib.Ieee.{binary32, ofInt, toBits};
 ghost use lib.ListN.{length};
-ghost use Rattle.digits.specs.Paper.Read.{Reads};
 ghost use Rattle.digits.specs.Paper.Refusals.{refusalNumber, Answers};
 ghost use Rattle.puts.specs.Paper.Wrote.{writtenRefusal, writtenCount, Wrote};
-ghost use Rattle.numbers.specs.Paper.Text.{text, InLimits};
 ghost use Rattle.numbers.specs.Paper.ByteValues.{valueBytes};
 ghost use Rattle.numbers.specs.Paper.Single.{fitsSingle};
-ghost use Rattle.numbers.specs.Paper.Answers.{TextCause, zeroNumber, ValueCause, BytesCause, ValueIn, RangeCause};
+ghost use Rattle.numbers.specs.Paper.Answers.{ValueCause, BytesCause, ValueIn, RangeCause};
 ghost use Rattle.probe.specs.Panel.{PanelBits};
 
 #[repr(C)]
@@ -55,31 +51,6 @@ pub struct Bits {
 pub struct Pair {
     pub temperature: u32,
     pub humidity: u32,
-}
-
-#[no_mangle]
-pub extern "C" fn probe_text(raw: i64, decimals: u32, room: &mut [u8]) -> Count
-    ensures { λ r. ⌜ Wrote (TextCause raw decimals (length (now (room .entry)))) (text raw decimals) (now (room .entry)) (r .refusal) (r .bytes) (now (room .exit)) ⌝ }
-{
-    counted(text::write(raw, decimals, room))
-}
-
-#[no_mangle]
-pub extern "C" fn probe_text_read(t: &[u8]) -> Number
-    ensures { λ r. ⌜ Reads zeroNumber InLimits (λ n. text (n .raw) (n .decimals)) 7 (now (t .entry)) (r .refusal) (record { raw = r .raw; decimals = r .decimals }) ⌝ }
-{
-    match text::read(t) {
-        Reading::Is(raw, decimals) => Number {
-            refusal: 0,
-            decimals,
-            raw,
-        },
-        Reading::Refused(why) => Number {
-            refusal: numbered(why),
-            decimals: 0,
-            raw: 0,
-        },
-    }
 }
 
 #[no_mangle]

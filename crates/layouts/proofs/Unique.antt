@@ -1,0 +1,51 @@
+-- For each public function: two answers that meet its promise are the same answer.
+-- Assumes nothing.
+use mathlib.Core.Path.{_≡_}
+use Prim.Native.Nat.{ℕ, suc, _<_}
+use mathlib.Core.Bool.{Bool}
+use mathlib.Core.List.{List}
+use native.Mathlib.Omega.{arith}
+use Rattle.layouts.specs.Paper.Layout.{Layout, Leads}
+use Rattle.layouts.specs.Paper.Nikobus.{nikobus}
+use Rattle.layouts.specs.Paper.Nest.{preamble, nest}
+use Rattle.layouts.specs.Paper.Nibe.{nibe}
+use Rattle.layouts.specs.Paper.Homiq.{homiq}
+use Rattle.layouts.specs.declared.Spot.{Spot}
+use Rattle.layouts.specs.declared.nest.Direction.{Direction}
+use Rattle.layouts.specs.declared.nest.Direction.the-variants.{Command, Response}
+use Rattle.layouts.proofs.Laws.Buses.{Bus, one-lead}
+use Rattle.layouts.proofs.Laws.Nikobus.{nikobus-bus}
+use Rattle.layouts.proofs.Laws.Nest.{nest-bus}
+use Rattle.layouts.proofs.Laws.Nibe.{nibe-bus}
+use Rattle.layouts.proofs.Laws.Homiq.{homiq-bus}
+
+-- an answer is its three numbers
+abbrev Answered : Layout → List ℕ → Spot → Type 0
+Answered l s r = Leads l s (r .len) (r .from) (r .to)
+
+one-spot : {l : Layout} {form : List ℕ → ℕ} {test : List ℕ → Bool} {from to : List ℕ → ℕ} → Bus l form test from to
+    → {s : List ℕ} (r q : Spot) → Answered l s r → Answered l s q → r ≡ q
+one-spot b r q x y = let e = one-lead b x y in same (r .len) (q .len) (r .from) (q .from) (r .to) (q .to) (e .0) (e .1) (e .2)
+  where
+    same : (i j k l m n : ℕ) → i ≡ j → k ≡ l → m ≡ n → _≡_ {A = Spot} (record { len = i; from = k; to = m }) (record { len = j; from = l; to = n })
+    same i j k l m n p q r = rw (p, q, r)
+
+-- nikobus::frame
+pub nikobus-frame : {s : List ℕ} (r q : Spot) → Answered nikobus s r → Answered nikobus s q → r ≡ q
+nikobus-frame = one-spot nikobus-bus
+
+-- nest::frame
+some : {n : ℕ} → 0 < suc n
+some = omega arith
+
+pub nest-frame : (d : Direction) {s : List ℕ} (r q : Spot) → Answered (nest d) s r → Answered (nest d) s q → r ≡ q
+nest-frame Command = one-spot (nest-bus (preamble Command) some)
+nest-frame Response = one-spot (nest-bus (preamble Response) some)
+
+-- nibe::frame
+pub nibe-frame : {s : List ℕ} (r q : Spot) → Answered nibe s r → Answered nibe s q → r ≡ q
+nibe-frame = one-spot nibe-bus
+
+-- homiq::frame
+pub homiq-frame : {s : List ℕ} (r q : Spot) → Answered homiq s r → Answered homiq s q → r ≡ q
+homiq-frame = one-spot homiq-bus
