@@ -2,6 +2,7 @@
 // script that shares no code with it makes.
 mod check_cases;
 mod digit_cases;
+mod frame_cases;
 mod number_cases;
 mod print;
 
@@ -16,4 +17,10 @@ fn main() {
     number_cases::singles();
     check_cases::papers();
     check_cases::catalogue();
+    frame_cases::papers();
+    frame_cases::nikobus();
+    frame_cases::nest();
+    frame_cases::nibe();
+    frame_cases::homiq();
+    frame_cases::searches();
 }
