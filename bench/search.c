@@ -2,6 +2,7 @@
    compiler, in the same run. The two take turns, so that what else the machine does falls on both; the least time of each counts. */
 #include "../include/bolsterweft.h"
 #include "../tests/frames_in_c.h"
+#include "../tests/frames_made.h"
 
 enum { SIZE = 65536 };
 
@@ -97,81 +98,6 @@ static int compare(const char *name, u8 kind, int bound) {
     return good && (ratio <= 1.25 || !bound) ? 0 : 1;
 }
 
-/* A Nikobus link of n payload bytes; its length. */
-static usize link(u8 *f, usize n, int spoilt) {
-    static const char digits[] = "0123456789ABCDEF";
-    usize at = 0;
-    u16 crc16 = 0xFFFF;
-    u8 crc8 = 0;
-    f[at++] = '$';
-    f[at++] = (u8)digits[(2 * n + 10) / 16];
-    f[at++] = (u8)digits[(2 * n + 10) % 16];
-    for (usize i = 0; i < n; i++) {
-        u8 v = (u8)(i * 37 + 11);
-        crc16 = crc_high16(crc16, v);
-        f[at++] = (u8)digits[v / 16];
-        f[at++] = (u8)digits[v % 16];
-    }
-    if (spoilt)
-        crc16 ^= 1;
-    for (int k = 12; k >= 0; k -= 4)
-        f[at++] = (u8)digits[crc16 >> k & 15];
-    for (usize i = 0; i < at; i++)
-        crc8 = crc_high8(crc8, f[i]);
-    f[at++] = (u8)digits[crc8 / 16];
-    f[at++] = (u8)digits[crc8 % 16];
-    f[at++] = '\r';
-    return at;
-}
-
-/* A Nest frame of n payload bytes. */
-static usize nest(u8 *f, u8 kind, usize n, int spoilt) {
-    usize at = 0, from;
-    u16 crc = 0;
-    f[at++] = 0xD5;
-    if (kind == 3)
-        f[at++] = 0xD5;
-    f[at++] = 0xAA;
-    f[at++] = 0x96;
-    from = at;
-    f[at++] = 0x02;
-    f[at++] = 0x00;
-    f[at++] = (u8)n;
-    f[at++] = (u8)(n >> 8);
-    for (usize i = 0; i < n; i++)
-        f[at++] = (u8)(i * 37 + 11);
-    for (usize i = from; i < at; i++)
-        crc = crc_high16(crc, f[i]);
-    if (spoilt)
-        crc ^= 1;
-    f[at++] = (u8)crc;
-    f[at++] = (u8)(crc >> 8);
-    return at;
-}
-
-static usize nibe(u8 *f, usize n, int spoilt) {
-    u8 x = (u8)n;
-    f[0] = 0xC0;
-    f[1] = 0x68;
-    f[2] = (u8)n;
-    for (usize i = 0; i < n; i++) {
-        f[3 + i] = (u8)(i * 37 + 11);
-        x ^= f[3 + i];
-    }
-    f[3 + n] = spoilt ? x ^ 1 : x;
-    return n + 4;
-}
-
-/* A Homiq frame with these six fields. */
-static usize homiq(u8 *f, const char *fields, int spoilt) {
-    usize n = strlen(fields);
-    u8 crc = 0;
-    for (usize i = 0; i < n; i++)
-        if (fields[i] != ';')
-            crc = crc_low8(crc, (u8)fields[i]);
-    return (usize)snprintf((char *)f, 200, "<;%s;%u;>\r\n", fields, spoilt ? crc ^ 1u : crc);
-}
-
 /* Nest's longest claim is 1,024 bytes: 00 04. */
 static const u8 heads[][8] = {{0}, "$FE", {0xD5, 0xAA, 0x96, 0, 0, 0, 4}, {0xD5, 0xD5, 0xAA, 0x96, 0, 0, 0, 4}, {0xC0, 0x6C, 0xFF}, "<;A;1;"};
 static const usize sizes[] = {0, 3, 7, 8, 3, 6};
@@ -179,28 +105,28 @@ static const usize sizes[] = {0, 3, 7, 8, 3, 6};
 static usize longest(u8 *f, u8 kind, int spoilt) {
     switch (kind) {
     case 1:
-        return link(f, 122, spoilt);
+        return made_link(f, 122, 11, spoilt);
     case 2:
     case 3:
-        return nest(f, kind, 1024, spoilt);
+        return made_nest(f, kind, 1024, 11, spoilt);
     case 4:
-        return nibe(f, 255, spoilt);
+        return made_nibe(f, 0x68, 255, 11, spoilt);
     default:
-        return homiq(f, "ABCDEFGH;0123456789ABCDEF;WXYZ;wxyz;511;s", spoilt);
+        return made_homiq(f, "ABCDEFGH;0123456789ABCDEF;WXYZ;wxyz;511;s", spoilt);
     }
 }
 
 static usize shortest(u8 *f, u8 kind) {
     switch (kind) {
     case 1:
-        return link(f, 3, 0);
+        return made_link(f, 3, 11, 0);
     case 2:
     case 3:
-        return nest(f, kind, 4, 0);
+        return made_nest(f, kind, 4, 11, 0);
     case 4:
-        return nibe(f, 2, 0);
+        return made_nibe(f, 0x69, 2, 11, 0);
     default:
-        return homiq(f, "I.3;1;0H;0;42;s", 0);
+        return made_homiq(f, "I.3;1;0H;0;42;s", 0);
     }
 }
 

@@ -9,7 +9,7 @@
  *   2        the kind is not 1 to 5
  *   3        the place is beyond the buffer's length
  *   4        the lent room is too short for the answer
- *   5        a raw number is out of range
+ *   5        not one frame of the kind; a raw number out of range
  *   7        decimals or a number text not as described, or a text whose number is out of range
  *
  * Where several causes apply, the one that is tested first counts: 2, 3, 7, 5, 4, 1. (6 and 8 are refusals of messages and
@@ -67,6 +67,17 @@ struct bolsterweft_found {
  * where the place is the length). The next search begins at start + length: so all frames of a buffer are found in order, no
  * two of them overlap, and none lies between them. */
 struct bolsterweft_found bolsterweft_search(uint8_t kind, const uint8_t *buffer, size_t buffer_length, size_t place);
+
+/* The places where the payload of a frame begins and ends, counted from the frame's first byte. */
+struct bolsterweft_ends {
+    uint32_t refusal;
+    size_t payload_from;
+    size_t payload_to;
+};
+
+/* Whether these bytes are one frame of the kind and no byte more. Refuses with 2 for an unknown kind, and with 5 where they are
+ * not. */
+struct bolsterweft_ends bolsterweft_one_frame(uint8_t kind, const uint8_t *frame, size_t frame_length);
 
 /* How many bytes were written. */
 struct bolsterweft_count {

@@ -2,6 +2,7 @@
    in, texts read by the grammar, character by character, bytes by C's own integers, floats by the machine's own casts.
 
    numbers SEED: prints the seed, each difference, and `N passed, M failed`: a test is a property, over all inputs. */
+#include "../include/bolsterweft.h"
 #include "probe.h"
 #include "trials.h"
 
@@ -71,6 +72,11 @@ static int same_number(struct number a, struct number b) {
     return a.refusal == b.refusal && a.raw == b.raw && a.decimals == b.decimals;
 }
 
+static struct number read_text(const u8 *t, usize n) {
+    struct bolsterweft_reading r = bolsterweft_number(t, n);
+    return (struct number){r.refusal, r.decimals, r.raw};
+}
+
 static int all_same(const u8 *s, usize n, u8 byte) {
     for (usize i = 0; i < n; i++)
         if (s[i] != byte)
@@ -87,11 +93,11 @@ static void try_text(i64 raw, u32 decimals) {
     u32 refusal = decimals > 3 ? 7 : !in_range(raw) ? 5 : 0;
     if (!refusal && (len = text_of(raw, decimals, own)) > n)
         refusal = 4;
-    struct count r = probe_text(raw, decimals, room, n);
-    expect(TEXT, r.refusal == refusal && r.bytes == (refusal ? 0 : len) && !memcmp(room, own, r.bytes), raw, decimals);
-    expect(TEXT_ROOM, all_same(room + r.bytes, sizeof room - r.bytes, byte), raw, decimals);
+    struct bolsterweft_count r = bolsterweft_text(raw, decimals, room, n);
+    expect(TEXT, r.refusal == refusal && r.length == (refusal ? 0 : len) && !memcmp(room, own, r.length), raw, decimals);
+    expect(TEXT_ROOM, all_same(room + r.length, sizeof room - r.length, byte), raw, decimals);
     if (decimals <= 3 && in_range(raw)) {
-        struct number back = probe_text_read((u8 *)own, text_of(raw, decimals, own)), wanted = {0, decimals, raw};
+        struct number back = read_text((u8 *)own, text_of(raw, decimals, own)), wanted = {0, decimals, raw};
         expect(READ_BACK, same_number(back, wanted), raw, decimals);
     }
 }
@@ -119,7 +125,7 @@ static void try_any_text(i64 raw) {
         for (usize i = 0; i < n; i++)
             t[i] = chars[any() % (sizeof chars - 1)];
     }
-    expect(READ, same_number(probe_text_read(t, n), read_of(t, n)), raw, (i64)n);
+    expect(READ, same_number(read_text(t, n), read_of(t, n)), raw, (i64)n);
 }
 
 /* The bytes as C's own integers have them: the machine is little-endian. */

@@ -44,8 +44,6 @@ struct pair {
     u32 humidity;
 };
 
-struct count probe_text(i64 raw, u32 decimals, u8 *room, usize n);
-struct number probe_text_read(const u8 *t, usize n);
 struct count probe_value(i64 raw, usize width, u8 is_signed, u8 *room, usize n);
 struct number probe_value_read(const u8 *s, usize n, usize width, u8 is_signed);
 struct truth probe_fits(i64 raw);

@@ -1,0 +1,83 @@
+/* Frames made in plain C from document 01, for the tests and the benchmarks. Each answers its length. The bytes of a payload are
+   given by a seed; a spoilt frame is laid out well, and its (first) check value is wrong. */
+#ifndef FRAMES_MADE_H
+#define FRAMES_MADE_H
+
+#include "frames_in_c.h"
+
+static u8 made_byte(usize i, u8 seed) { return (u8)(i * 37 + seed); }
+
+static usize made_link(u8 *f, usize n, u8 seed, int spoilt) {
+    static const char digits[] = "0123456789ABCDEF";
+    usize at = 0;
+    u16 crc16 = 0xFFFF;
+    u8 crc8 = 0;
+    f[at++] = '$';
+    f[at++] = (u8)digits[(2 * n + 10) / 16];
+    f[at++] = (u8)digits[(2 * n + 10) % 16];
+    for (usize i = 0; i < n; i++) {
+        u8 v = made_byte(i, seed);
+        crc16 = crc_high16(crc16, v);
+        f[at++] = (u8)digits[v / 16];
+        f[at++] = (u8)digits[v % 16];
+    }
+    if (spoilt)
+        crc16 ^= 1;
+    for (int k = 12; k >= 0; k -= 4)
+        f[at++] = (u8)digits[crc16 >> k & 15];
+    for (usize i = 0; i < at; i++)
+        crc8 = crc_high8(crc8, f[i]);
+    f[at++] = (u8)digits[crc8 / 16];
+    f[at++] = (u8)digits[crc8 % 16];
+    f[at++] = '\r';
+    return at;
+}
+
+static usize made_nest(u8 *f, u8 kind, usize n, u8 seed, int spoilt) {
+    usize at = 0, from;
+    u16 crc = 0;
+    f[at++] = 0xD5;
+    if (kind == 3)
+        f[at++] = 0xD5;
+    f[at++] = 0xAA;
+    f[at++] = 0x96;
+    from = at;
+    f[at++] = seed;
+    f[at++] = 0x00;
+    f[at++] = (u8)n;
+    f[at++] = (u8)(n >> 8);
+    for (usize i = 0; i < n; i++)
+        f[at++] = made_byte(i, seed);
+    for (usize i = from; i < at; i++)
+        crc = crc_high16(crc, f[i]);
+    if (spoilt)
+        crc ^= 1;
+    f[at++] = (u8)crc;
+    f[at++] = (u8)(crc >> 8);
+    return at;
+}
+
+static usize made_nibe(u8 *f, u8 command, usize n, u8 seed, int spoilt) {
+    u8 x = (u8)n;
+    f[0] = 0xC0;
+    f[1] = command;
+    f[2] = (u8)n;
+    for (usize i = 0; i < n; i++) {
+        f[3 + i] = made_byte(i, seed);
+        x ^= f[3 + i];
+    }
+    f[3 + n] = spoilt ? x ^ 1 : x;
+    return n + 4;
+}
+
+/* With these six fields. */
+static usize made_homiq(u8 *f, const char *fields, int spoilt) {
+    usize n = strlen(fields);
+    u8 crc = 0;
+    for (usize i = 0; i < n; i++)
+        if (fields[i] != ';')
+            crc = crc_low8(crc, (u8)fields[i]);
+    return (usize)snprintf((char *)f, 200, "<;%s;%u;>\r\n", fields, spoilt ? crc ^ 1u : crc);
+}
+
+#endif
