@@ -1,26 +1,21 @@
 -- DEMAND 3, over the frames.
 -- Assumes nothing.
-use mathlib.Core.Path.{_≡_, refl, sym, _∙_, ap, subst}
-use Prim.Native.Nat.{ℕ, _≤_, _<_}
-use mathlib.Core.List.{List, [], _∷_, _++_, List·Memᴰ, List·Memᴰ·head, List·Memᴰ·tail}
+use mathlib.Core.List.{List, List·Memᴰ, List·Memᴰ·head, List·Memᴰ·tail}
+use mathlib.Core.Path.{_≡_, refl, sym, _∙_, subst}
+use Prim.Native.Nat.{ℕ}
 use native.Mathlib.Omega.{arith}
 use lib.ListN.{length}
-use Rattle.digits.specs.Paper.Bytes.{Bytes}
 use Rattle.digits.proofs.Laws.Bytes.{bytes-cons}
-use Rattle.checks.specs.Paper.Bits.{highFirst, lowFirst, bitsOfBytes}
-use Rattle.checks.specs.Paper.Check.{Check, check}
-use Rattle.checks.specs.Paper.Buses.{nikobusCrc16, nestCrc, nibeXor, homiqCrc, checks}
-use Rattle.checks.specs.Paper.Stretch.{FitIn, Burst}
+use Rattle.digits.specs.Paper.Bytes.{Bytes}
 use Rattle.checks.proofs.Theorems.{burst-found-on-the-buses}
-use Rattle.layouts.specs.Paper.Layout.{Frame}
-use Rattle.layouts.specs.Paper.Nikobus as N
-use Rattle.layouts.specs.Paper.Nest as nests
-use Rattle.layouts.specs.Paper.Nibe as nibes
-use Rattle.layouts.specs.Paper.Homiq as homiqs
-use Rattle.layouts.specs.declared.nest.Direction.the-variants.{Command, Response}
-use Rattle.layouts.proofs.Laws.Nest.{covered-bytes}
-use Rattle.layouts.proofs.Laws.HomiqOne.{joined-bytes}
+use Rattle.checks.specs.Paper.Bits.{highFirst, lowFirst, bitsOfBytes}
+use Rattle.checks.specs.Paper.Buses.{nikobusCrc16, nestCrc, nibeXor, homiqCrc, checks}
+use Rattle.checks.specs.Paper.Check.{Check, check}
+use Rattle.checks.specs.Paper.Stretch.{FitIn, Burst}
 use Rattle.frames.specs.Paper.Demand.{Carries, link, command, response, nibe, homiq}
+use Rattle.layouts.proofs.Laws.HomiqOne.{joined-bytes}
+use Rattle.layouts.proofs.Laws.Nest.{covered-bytes}
+use Rattle.layouts.specs.Paper.Nikobus as N
 
 -- ---- what a frame that carries a check value says: it is the value of its bytes, under one of the buses' checks
 

@@ -1,29 +1,28 @@
 -- 01, "Known points" (a) to (g): the search, computed from the definitions. By `an-answer` of Theorems each is the one right answer.
 -- Assumes nothing.
+use mathlib.Core.List.{[], _∷_, _++_}
 use mathlib.Core.Path.{_≡_, refl}
-use mathlib.Core.List.{List, [], _∷_, _++_}
-use Prim.Native.Nat.{ℕ}
 use Rattle.digits.specs.Paper.Ascii.{ascii}
 use Rattle.digits.specs.Paper.Bits.{lows}
 use Rattle.digits.specs.Paper.Decimal.{decimal, decimalIn, enough}
-use Rattle.digits.specs.Paper.Hex.{hexDigit, hexByte, hexWord, hexBytes}
+use Rattle.digits.specs.Paper.Hex.{hexDigit, hexByte, hexWord}
 use Rattle.digits.specs.Paper.LowFirst.{lowFirst}
 use Rattle.digits.specs.Work.Decimal.{guess}
 use Rattle.digits.specs.Work.Hex.{placeOf}
 use Rattle.digits.specs.declared.refusal.Refusal.the-variants.{NoFrame}
 use Rattle.checks.specs.Paper.Bits.{bits, ofLows, number, bitsOfBytes}
 use Rattle.checks.specs.Paper.Check.{polyBits, feed}
-use Rattle.layouts.specs.Paper.Chars.{oneOf, all, isHex, CR, LF}
-use Rattle.layouts.specs.Paper.Homiq.{fieldChar}
-use Rattle.layouts.specs.Work.Heads.{onlyIf, starts, wordLen, runLen, isByte, leading, on}
-use Rattle.layouts.specs.Work.Nikobus.{bytesOf, llOf, linkHeadLen, linkFormLen, pressLen, tailLen, nikobusFormLen, passes16, passes8, linkLen, nikobusPasses, nikobusLen, nikobusFrom, nikobusTo}
-use Rattle.layouts.specs.Work.Nest.{bodyLen, nestFormLen, crcPasses, nestPasses, nestLen}
-use Rattle.layouts.specs.Work.Nibe.{nibeFormLen, nibePasses, nibeLen}
-use Rattle.layouts.specs.Work.Homiq.{fieldLen, isFigure, numberIn, numberLen, typeLen, headLen, homiqFormLen, kept, homiqPasses, homiqLen, homiqTo}
 use Rattle.frames.specs.Paper.Kinds.{known}
 use Rattle.frames.specs.Work.Frames.{frameLen, fromOf, toOf, headFrom, headTo}
 use Rattle.frames.specs.Work.Seek.{seek, searched}
 use Rattle.frames.specs.declared.Found.the-variants.{At, Refused}
+use Rattle.layouts.specs.Paper.Chars.{oneOf, all, isHex, CR, LF}
+use Rattle.layouts.specs.Paper.Homiq.{fieldChar}
+use Rattle.layouts.specs.Work.Heads.{onlyIf, starts, wordLen, runLen, isByte, leading, on}
+use Rattle.layouts.specs.Work.Homiq.{fieldLen, isFigure, numberIn, numberLen, typeLen, headLen, homiqFormLen, kept, homiqPasses, homiqLen, homiqTo}
+use Rattle.layouts.specs.Work.Nest.{bodyLen, nestFormLen, crcPasses, nestPasses, nestLen}
+use Rattle.layouts.specs.Work.Nibe.{nibeFormLen, nibePasses, nibeLen}
+use Rattle.layouts.specs.Work.Nikobus.{bytesOf, llOf, linkHeadLen, linkFormLen, pressLen, tailLen, nikobusFormLen, passes16, passes8, nikobusPasses, nikobusLen, nikobusFrom, nikobusTo}
 
 -- (a) "`$10110000B8CF9D` CR is link": a frame of 16 bytes, its payload the six digits from 3 on
 pub a : searched 1 (ascii "$10110000B8CF9D" ++ (CR ∷ [])) 0 ≡ At 0 16 3 9

@@ -1,25 +1,24 @@
 -- What the definitions of frames and of the search come to, for a reader.
 -- Assumes nothing.
-use mathlib.Core.Path.{_≡_, refl, sym, _∙_, ap, subst}
+use mathlib.Core.List.{List}
+use mathlib.Core.Path.{_≡_, refl, _∙_, ap, subst}
 use Prim.Native.Nat.{ℕ, _+_, _*_, _%_, _≤_, _<_}
-use mathlib.Core.List.{List, [], _∷_, _++_}
 use native.Mathlib.Omega.{arith}
-use lib.ListN.{length, getD, take, drop, length-append}
+use lib.ListN.{length, take, length-append}
 use Rattle.digits.specs.Paper.Bytes.{part}
-use Rattle.digits.specs.Paper.Hex.{hexByte, hexWord, hexBytes}
+use Rattle.digits.specs.Paper.Hex.{hexByte}
 use Rattle.digits.specs.Paper.LowFirst.{lowFirst}
-use Rattle.digits.proofs.Laws.LowFirst.{length-low}
-use Rattle.layouts.specs.Paper.Layout as layout
-use Rattle.layouts.specs.Paper.Nikobus as N
-use Rattle.layouts.specs.Paper.Nest as nests
+use Rattle.frames.specs.Paper.Kinds.{Frame}
+use Rattle.frames.specs.Paper.Runs.{Run, InOrder, TakenUp}
+use Rattle.frames.specs.Paper.Search.{FrameAt, Hit, Searches}
+use Rattle.frames.specs.Work.Seek.{searched}
+use Rattle.frames.specs.declared.Found.{Found}
 use Rattle.layouts.specs.declared.nest.Direction.{Direction}
 use Rattle.layouts.specs.declared.nest.Direction.the-variants.{Command, Response}
 use Rattle.layouts.proofs.Laws.Nikobus.{link-size}
-use Rattle.frames.specs.Paper.Kinds.{Frame}
-use Rattle.frames.specs.Paper.Search.{FrameAt, Hit, Searches}
-use Rattle.frames.specs.Paper.Runs.{Run, InOrder, TakenUp}
-use Rattle.frames.specs.Work.Seek.{searched}
-use Rattle.frames.specs.declared.Found.{Found}
+use Rattle.layouts.specs.Paper.Layout as layout
+use Rattle.layouts.specs.Paper.Nikobus as N
+use Rattle.layouts.specs.Paper.Nest as nests
 use Rattle.frames.proofs.Laws.Places as places
 use Rattle.frames.proofs.Laws.Seek as seeks
 use Rattle.frames.proofs.Laws.Runs as runs

@@ -1,19 +1,17 @@
 -- For each public function: two answers that meet its promise are the same answer.
 -- Assumes nothing.
-use mathlib.Core.Path.{_≡_, refl, sym, _∙_, ap, ap₂, subst}
+use mathlib.Core.List.{List, _∷_}
 use mathlib.Core.Logic.{_⊎_, inl, inr, ⊎-elim}
+use mathlib.Core.Path.{_≡_, refl, sym, _∙_, ap, ap₂, subst}
 use Prim.Native.Nat.{ℕ, _+_, _≤_, _<_}
-use mathlib.Core.List.{List, [], _∷_}
-use native.Mathlib.Omega.{arith}
 use native.Mathlib.Decide.{decLe}
 use native.Mathlib.Nat.{eq-or-lt-of-le}
+use native.Mathlib.Omega.{arith}
+use Rattle.digits.proofs.Laws.Refusals.{same-answer, one-answer}
 use Rattle.digits.specs.Paper.Bytes.{part}
 use Rattle.digits.specs.declared.refusal.Refusal.{Refusal}
-use Rattle.digits.proofs.Laws.Refusals.{same-answer, one-answer}
-use Rattle.frames.specs.Paper.Kinds.{Frame, payloadFrom, payloadTo}
-use Rattle.frames.specs.Paper.Search.{FrameAt, Hit, Leftmost, foundNumber, foundHit, Searches, Hands}
-use Rattle.frames.specs.Paper.Runs as R
 use Rattle.frames.specs.Paper.Runs.{Run}
+use Rattle.frames.specs.Paper.Search.{FrameAt, Hit, Leftmost, foundNumber, foundHit, Searches, Hands}
 use Rattle.frames.specs.Paper.Whole.{Ends, OneFrame, wholeNumber, wholeEnds, TestsWhole}
 use Rattle.frames.specs.Work.Frames.{fromOf, toOf}
 use Rattle.frames.specs.declared.Found.{Found}
@@ -23,6 +21,7 @@ use Rattle.frames.specs.declared.Whole.the-variants.{Is, Refused as NotW
 use Rattle.frames.proofs.Laws.Kinds.{begins, ends}
 use Rattle.frames.proofs.Laws.Places.{one-length}
 use Rattle.frames.proofs.Laws.Runs.{leftmost, none-found}
+use Rattle.frames.specs.Paper.Runs as R
 
 -- ---- the leftmost frame
 

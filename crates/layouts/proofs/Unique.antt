@@ -1,23 +1,23 @@
 -- For each public function: two answers that meet its promise are the same answer.
 -- Assumes nothing.
-use mathlib.Core.Path.{_≡_}
-use Prim.Native.Nat.{ℕ, suc, _<_}
 use mathlib.Core.Bool.{Bool}
 use mathlib.Core.List.{List}
+use mathlib.Core.Path.{_≡_}
+use Prim.Native.Nat.{ℕ, suc, _<_}
 use native.Mathlib.Omega.{arith}
+use Rattle.layouts.specs.Paper.Homiq.{homiq}
 use Rattle.layouts.specs.Paper.Layout.{Layout, Leads}
-use Rattle.layouts.specs.Paper.Nikobus.{nikobus}
 use Rattle.layouts.specs.Paper.Nest.{preamble, nest}
 use Rattle.layouts.specs.Paper.Nibe.{nibe}
-use Rattle.layouts.specs.Paper.Homiq.{homiq}
+use Rattle.layouts.specs.Paper.Nikobus.{nikobus}
 use Rattle.layouts.specs.declared.Spot.{Spot}
 use Rattle.layouts.specs.declared.nest.Direction.{Direction}
 use Rattle.layouts.specs.declared.nest.Direction.the-variants.{Command, Response}
 use Rattle.layouts.proofs.Laws.Buses.{Bus, one-lead}
-use Rattle.layouts.proofs.Laws.Nikobus.{nikobus-bus}
+use Rattle.layouts.proofs.Laws.Homiq.{homiq-bus}
 use Rattle.layouts.proofs.Laws.Nest.{nest-bus}
 use Rattle.layouts.proofs.Laws.Nibe.{nibe-bus}
-use Rattle.layouts.proofs.Laws.Homiq.{homiq-bus}
+use Rattle.layouts.proofs.Laws.Nikobus.{nikobus-bus}
 
 -- an answer is its three numbers
 abbrev Answered : Layout → List ℕ → Spot → Type 0

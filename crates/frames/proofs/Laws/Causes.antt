@@ -1,19 +1,19 @@
 -- The first cause that applies: the numbers that a call has no cause for are passed over.
 -- Assumes nothing.
-use mathlib.Core.Path.{_≡_, refl, sym, _∙_}
-use Prim.Native.Nat.{ℕ, _≤_, _<_}
 use mathlib.Core.Bool.{Bool, true, false, _||_, true≢false}
 use mathlib.Core.List.{List}
+use mathlib.Core.Path.{_≡_, refl, sym, _∙_}
+use Prim.Native.Nat.{ℕ, _≤_, _<_}
 use native.Mathlib.Omega.{arith}
 use lib.Dec.{eqb}
 use lib.ListN.{length}
-use Rattle.digits.specs.Paper.Refusals.{order, First, clear, here, after}
 use Rattle.digits.proofs.Laws.Refusals.{pass-over}
+use Rattle.digits.specs.Paper.Refusals.{order, First, clear, here, after}
 use Rattle.frames.specs.Paper.Kinds.{known, Frame}
-use Rattle.frames.specs.Paper.Search as S
 use Rattle.frames.specs.Paper.Search.{FrameAt, SearchCause}
-use Rattle.frames.specs.Paper.Whole as W
 use Rattle.frames.specs.Paper.Whole.{WholeCause}
+use Rattle.frames.specs.Paper.Search as S
+use Rattle.frames.specs.Paper.Whole as W
 
 abbrev ours : ℕ → Bool
 ours k = eqb k 2 || eqb k 3 || eqb k 5 || eqb k 1

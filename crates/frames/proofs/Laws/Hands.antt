@@ -1,14 +1,14 @@
 -- The part of the buffer that a search finds.
 -- Assumes nothing.
-use mathlib.Core.Path.{_≡_, refl, sym, _∙_, ap, subst}
-use Prim.Native.Nat.{ℕ, _+_, _≤_, _<_}
 use mathlib.Core.List.{List, []}
+use mathlib.Core.Path.{_≡_, subst}
+use Prim.Native.Nat.{ℕ, _+_, _≤_}
 use native.Mathlib.Omega.{arith}
 use lib.ListN.{length}
-use Rattle.digits.specs.Paper.Refusals.{refusalNumber, Answers, answers, refuses}
-use Rattle.digits.specs.declared.refusal.Refusal.{Refusal}
 use Rattle.digits.proofs.Laws.Refusals.{cause-of, some-number}
-use Rattle.frames.specs.Paper.Search.{FrameAt, Hit, Leftmost, Searches, Hands}
+use Rattle.digits.specs.Paper.Refusals.{refusalNumber, answers, refuses}
+use Rattle.digits.specs.declared.refusal.Refusal.{Refusal}
+use Rattle.frames.specs.Paper.Search.{Hit, Searches, Hands}
 use Rattle.frames.specs.declared.Found.{Found}
 use Rattle.frames.specs.declared.Found.the-variants.{At, Refused}
 use Rattle.frames.proofs.Laws.Kinds.{payload-inside}

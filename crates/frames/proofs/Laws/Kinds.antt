@@ -1,34 +1,34 @@
 -- The kinds as one: of a known kind the recogniser finds the frames, and only those.
 -- Assumes nothing.
-use mathlib.Core.Path.{_≡_, refl, sym, _∙_, ap}
-use Prim.Native.Nat.{ℕ, zero, suc, _≤_, _<_}
-use mathlib.Core.Bool.{Bool, true, _&&_}
+use mathlib.Core.Bool.{Bool, true}
 use mathlib.Core.List.{List, _++_}
+use mathlib.Core.Path.{_≡_, refl, sym, ap}
+use Prim.Native.Nat.{ℕ, zero, suc, _≤_, _<_}
 use native.Mathlib.Omega.{arith}
-use lib.Dec.{T, lit<, leb, leb→le}
+use lib.Dec.{leb, leb→le}
 use lib.ListN.{length, take, length-append}
 use Rattle.digits.proofs.Laws.Tests.{T-and}
-use Rattle.layouts.specs.Paper.Layout as layout
-use Rattle.layouts.specs.Paper.Layout.{Layout, Leads}
-use Rattle.layouts.specs.Paper.Nikobus as nikobuses
-use Rattle.layouts.specs.Paper.Nest as nests
-use Rattle.layouts.specs.Paper.Nest.{preamble}
-use Rattle.layouts.specs.Paper.Nibe as nibes
-use Rattle.layouts.specs.Paper.Homiq as homiqs
-use Rattle.layouts.specs.Work.Heads.{passing}
-use Rattle.layouts.specs.Work.Nikobus.{nikobusLen}
-use Rattle.layouts.specs.Work.Nest.{nestLen}
-use Rattle.layouts.specs.Work.Nibe.{nibeLen}
-use Rattle.layouts.specs.Work.Homiq.{homiqLen}
-use Rattle.layouts.specs.declared.nest.Direction.the-variants.{Command, Response}
-use Rattle.layouts.proofs.Laws.Heads.{Right, same-right}
-use Rattle.layouts.proofs.Laws.Buses.{Bus, frame-right, leads-at, leads-none, one-lead}
-use Rattle.layouts.proofs.Laws.Nikobus.{nikobus-bus}
-use Rattle.layouts.proofs.Laws.Nest.{nest-bus}
-use Rattle.layouts.proofs.Laws.Nibe.{nibe-bus}
-use Rattle.layouts.proofs.Laws.Homiq.{homiq-bus}
 use Rattle.frames.specs.Paper.Kinds.{known, Frame, nikobus, command, response, nibe, homiq, payloadFrom, payloadTo}
 use Rattle.frames.specs.Work.Frames.{frameLen, fromOf, toOf, wherever, headFrom, headTo}
+use Rattle.layouts.specs.Paper.Layout.{Layout, Leads}
+use Rattle.layouts.specs.Paper.Nest.{preamble}
+use Rattle.layouts.specs.Work.Heads.{passing}
+use Rattle.layouts.specs.Work.Homiq.{homiqLen}
+use Rattle.layouts.specs.Work.Nest.{nestLen}
+use Rattle.layouts.specs.Work.Nibe.{nibeLen}
+use Rattle.layouts.specs.Work.Nikobus.{nikobusLen}
+use Rattle.layouts.specs.declared.nest.Direction.the-variants.{Command, Response}
+use Rattle.layouts.proofs.Laws.Buses.{Bus, frame-right, leads-at, leads-none, one-lead}
+use Rattle.layouts.proofs.Laws.Heads.{Right, same-right}
+use Rattle.layouts.proofs.Laws.Homiq.{homiq-bus}
+use Rattle.layouts.proofs.Laws.Nest.{nest-bus}
+use Rattle.layouts.proofs.Laws.Nibe.{nibe-bus}
+use Rattle.layouts.proofs.Laws.Nikobus.{nikobus-bus}
+use Rattle.layouts.specs.Paper.Layout as layout
+use Rattle.layouts.specs.Paper.Nikobus as nikobuses
+use Rattle.layouts.specs.Paper.Nest as nests
+use Rattle.layouts.specs.Paper.Nibe as nibes
+use Rattle.layouts.specs.Paper.Homiq as homiqs
 
 -- ---- which kinds there are
 

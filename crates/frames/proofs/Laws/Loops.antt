@@ -1,23 +1,23 @@
 -- The loop of the search, once for all kinds: what is found from the present place on is what is found from the first.
 -- Assumes nothing.
-use mathlib.Core.Path.{_≡_, refl, sym, _∙_, ap, subst}
-use Prim.Native.Nat.{ℕ, zero, suc, _+_, _-_, _^_, _≤_, _<_}
 use mathlib.Core.Bool.{true}
 use mathlib.Core.List.{List}
+use mathlib.Core.Path.{_≡_, refl, sym, _∙_, ap}
+use Prim.Native.Nat.{ℕ, zero, suc, _+_, _-_, _^_, _≤_, _<_}
 use native.Mathlib.Omega.{arith}
 use lib.ListN.{length, take, drop, length-drop}
 use lib.Seq.{length-take-le}
-use Rattle.digits.specs.Paper.Bytes.{part}
 use Rattle.digits.proofs.Laws.Parts.{part-rest}
+use Rattle.digits.specs.Paper.Bytes.{part}
 use Rattle.digits.specs.declared.refusal.Refusal.the-variants.{NoFrame}
-use Rattle.layouts.proofs.Laws.Heads.{taken, inside}
-use Rattle.frames.specs.Paper.Kinds.{known, Frame, payloadFrom, payloadTo}
+use Rattle.frames.specs.Paper.Kinds.{known, Frame}
 use Rattle.frames.specs.Work.Frames.{frameLen, fromOf, toOf, wherever, headFrom, headTo}
 use Rattle.frames.specs.Work.Seek.{seek}
 use Rattle.frames.specs.declared.Found.the-variants.{At, Refused}
 use Rattle.frames.proofs.Laws.Kinds.{kind-right, begins, ends, payload-inside, Spotted}
 use Rattle.frames.proofs.Laws.Seek.{seek-hit, seek-miss}
 use Rattle.frames.proofs.Laws.Starts.{seek-left}
+use Rattle.layouts.proofs.Laws.Heads.{taken, inside}
 
 -- what was found at the head of s lies in s
 module _ (k : ℕ) (kn : known k ≡ true) (s : List ℕ) where

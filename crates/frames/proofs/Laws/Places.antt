@@ -1,19 +1,19 @@
 -- Frames at places of a buffer: at one place at most one length makes a frame.
 -- Assumes nothing.
-use mathlib.Core.Path.{_≡_, refl, sym, _∙_, ap, subst}
-use Prim.Native.Nat.{ℕ, zero, suc, _+_, _-_, _≤_, _<_}
 use mathlib.Core.Bool.{true}
 use mathlib.Core.List.{List}
-use native.Mathlib.Omega.{arith}
+use mathlib.Core.Path.{_≡_, sym, _∙_, ap, subst}
+use Prim.Native.Nat.{ℕ, suc, _+_, _-_, _≤_, _<_}
 use native.Mathlib.Nat.{add-sub-cancel-left}
+use native.Mathlib.Omega.{arith}
 use lib.ListN.{length, take, drop, length-drop}
 use lib.Seq.{length-take-le}
 use Rattle.digits.specs.Paper.Bytes.{part}
-use Rattle.layouts.proofs.Laws.Heads.{taken, inside, found}
 use Rattle.frames.specs.Paper.Kinds.{known, Frame, payloadFrom, payloadTo}
 use Rattle.frames.specs.Paper.Search.{FrameAt}
 use Rattle.frames.specs.Work.Frames.{frameLen, fromOf, toOf, wherever, headFrom, headTo}
 use Rattle.frames.proofs.Laws.Kinds.{kind-right, frame-known, begins, ends}
+use Rattle.layouts.proofs.Laws.Heads.{taken, inside, found}
 
 pub part-take : (i n : ℕ) (s : List ℕ) → part i (i + n) s ≡ take n (drop i s)
 part-take i n s = rw (add-sub-cancel-left i n)

@@ -1,18 +1,17 @@
 -- One search after the other: the frames stand in order, and none begins in between.
 -- Assumes nothing.
+use mathlib.Core.List.{List, _∷_}
 use mathlib.Core.Path.{_≡_, refl}
-use mathlib.Core.Logic.{⊎-elim}
 use Prim.Native.Nat.{ℕ, _+_, _≤_, _<_}
-use mathlib.Core.List.{List, [], _∷_}
-use native.Mathlib.Omega.{arith}
 use native.Mathlib.Decide.{decLe}
-use Rattle.digits.specs.Paper.Refusals.{First, clear, here, after, order}
+use native.Mathlib.Omega.{arith}
 use Rattle.digits.proofs.Laws.Refusals.{answered, cause-of}
+use Rattle.digits.specs.Paper.Refusals.{First, clear, here, after}
 use Rattle.digits.specs.declared.refusal.Refusal.the-variants.{NoFrame}
-use Rattle.frames.specs.Paper.Search.{FrameAt, Hit, Leftmost, SearchCause, no-frame, no-kind, no-place, Searches}
-use Rattle.frames.specs.Paper.Runs as R
 use Rattle.frames.specs.Paper.Runs.{Run, InOrder, TakenUp}
+use Rattle.frames.specs.Paper.Search.{FrameAt, Hit, Leftmost, SearchCause, no-frame, no-kind, no-place, Searches}
 use Rattle.frames.specs.declared.Found.the-variants.{At, Refused}
+use Rattle.frames.specs.Paper.Runs as R
 
 -- what an answer says
 pub leftmost : {k : ℕ} {s : List ℕ} {place start len from to : ℕ} → Searches k s place (At start len from to)

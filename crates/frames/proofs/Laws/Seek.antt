@@ -1,29 +1,27 @@
 -- The search, a place at a time, and that what it computes is the right answer.
 -- Assumes nothing.
-use mathlib.Core.Path.{_≡_, refl, sym, _∙_, ap, subst}
-use mathlib.Core.Logic.{⊎-elim}
-use Prim.Native.Nat.{ℕ, zero, suc, _+_, _-_, _≤_, _<_}
 use mathlib.Core.Bool.{Bool, true, false, cond}
 use mathlib.Core.List.{List, [], _∷_}
+use mathlib.Core.Logic.{⊎-elim}
+use mathlib.Core.Path.{_≡_, refl, sym, _∙_, ap}
+use Prim.Native.Nat.{ℕ, zero, suc, _+_, _-_, _≤_, _<_}
+use native.Mathlib.Nat.{eq-or-lt-of-le, le-of-suc-le-suc}
 use native.Mathlib.Numerals.{add-one}
 use native.Mathlib.Omega.{arith}
-use native.Mathlib.Nat.{eq-or-lt-of-le, le-of-suc-le-suc}
-use borrow.Author.Tests.{le-leb, lt-leb, leb-true, leb-false}
 use lib.Dec.{leb}
-use lib.ListN.{length, getD, take, drop, length-drop, drop-of-length-le}
+use lib.ListN.{length, getD, drop, length-drop, drop-of-length-le}
 use lib.Seq.{drop-cons}
-use Rattle.digits.specs.Paper.Refusals.{Answers, answers, refuses}
+use borrow.Author.Tests.{leb-true, leb-false}
+use Rattle.digits.specs.Paper.Refusals.{answers, refuses}
 use Rattle.digits.specs.declared.refusal.Refusal.the-variants.{NoFrame, Kind, Place}
-use Rattle.layouts.proofs.Laws.Heads.{inside}
-use Rattle.frames.specs.Paper.Kinds.{known, Frame}
-use Rattle.frames.specs.Paper.Search.{FrameAt, Hit, Leftmost, zeroHit, Searches}
+use Rattle.frames.specs.Paper.Kinds.{known}
+use Rattle.frames.specs.Paper.Search.{FrameAt, Searches}
 use Rattle.frames.specs.Work.Frames.{frameLen, headFrom, headTo}
 use Rattle.frames.specs.Work.Seek.{orElse, seek, searched}
 use Rattle.frames.specs.declared.Found.{Found}
 use Rattle.frames.specs.declared.Found.the-variants.{At, Refused}
-use Rattle.frames.proofs.Laws.Kinds.{kind-right}
-use Rattle.frames.proofs.Laws.Places.{at-place, positive, stands, from-there, to-there}
 use Rattle.frames.proofs.Laws.Causes.{search-0, search-1, search-2, search-3}
+use Rattle.frames.proofs.Laws.Places.{at-place, positive, stands, from-there, to-there}
 
 -- ---- one place
 

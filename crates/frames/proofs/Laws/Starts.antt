@@ -1,36 +1,34 @@
 -- Where a frame can begin: no frame has fewer than four bytes, and its first three are those of its kind.
 -- Assumes nothing.
-use mathlib.Core.Path.{_≡_, refl, sym, _∙_, ap, subst}
-use Prim.Native.Nat.{ℕ, zero, suc, _+_, _-_, _*_, _/_, _≤_, _<_}
 use mathlib.Core.Bool.{Bool, true, false, _&&_, _||_, and-true, true≢false}
 use mathlib.Core.List.{List, [], _∷_, _++_}
+use mathlib.Core.Path.{_≡_, refl, sym, _∙_, ap}
+use Prim.Native.Nat.{ℕ, zero, suc, _+_, _-_, _*_, _/_, _≤_, _<_}
 use native.Mathlib.Omega.{arith}
 use lib.Dec.{T, leb, eqb, leb→le}
-use lib.ListN.{length, getD, take, drop, length-append, length-drop, List·getD-append}
-use Rattle.digits.specs.Paper.Bytes.{part}
-use Rattle.digits.proofs.Laws.Parts.{part-rest}
-use borrow.Author.Tests.{le-leb, eq-eqb}
-use Rattle.digits.proofs.Laws.Tests.{T-and, T-true}
-use Rattle.digits.specs.Paper.Hex.{hexByte, hexWord, hexBytes, hexDigit}
-use Rattle.digits.specs.Paper.Decimal.{decimal}
-use Rattle.digits.specs.Paper.LowFirst.{lowFirst}
-use Rattle.digits.specs.Paper.Ascii.{ascii}
+use lib.ListN.{length, getD, drop, length-append, length-drop, List·getD-append}
+use borrow.Author.Tests.{le-leb}
 use Rattle.digits.proofs.Laws.Hex.{digit-upper}
-use Rattle.layouts.specs.Paper.Layout as layout
-use Rattle.layouts.specs.Paper.Chars.{oneOf, all}
-use Rattle.layouts.specs.Paper.Nikobus as N
-use Rattle.layouts.specs.Paper.Nest as nests
-use Rattle.layouts.specs.Paper.Nibe as nibes
-use Rattle.layouts.specs.Paper.Homiq as homiqs
-use Rattle.layouts.proofs.Laws.Heads.{Head, Right}
-use Rattle.layouts.proofs.Laws.ByteRuns.{one-of-all}
+use Rattle.digits.proofs.Laws.Parts.{part-rest}
+use Rattle.digits.proofs.Laws.Tests.{T-and, T-true}
+use Rattle.digits.specs.Paper.Ascii.{ascii}
+use Rattle.digits.specs.Paper.Bytes.{part}
+use Rattle.digits.specs.Paper.Decimal.{decimal}
+use Rattle.digits.specs.Paper.Hex.{hexByte, hexWord, hexBytes, hexDigit}
+use Rattle.digits.specs.Paper.LowFirst.{lowFirst}
+use Rattle.digits.specs.declared.refusal.Refusal.the-variants.{NoFrame}
 use Rattle.frames.specs.Paper.Kinds.{known, Frame, nikobus, command, response, nibe, homiq}
 use Rattle.frames.specs.Work.Frames.{frameLen, mayStart}
 use Rattle.frames.specs.Work.Seek.{seek}
 use Rattle.frames.specs.declared.Found.the-variants.{Refused}
-use Rattle.digits.specs.declared.refusal.Refusal.the-variants.{NoFrame}
+use Rattle.layouts.specs.Paper.Chars.{all}
 use Rattle.frames.proofs.Laws.Kinds.{kind-right}
-use Rattle.frames.proofs.Laws.Seek.{seek-miss, seek-end}
+use Rattle.frames.proofs.Laws.Seek.{seek-miss}
+use Rattle.layouts.proofs.Laws.ByteRuns.{one-of-all}
+use Rattle.layouts.specs.Paper.Layout as layout
+use Rattle.layouts.specs.Paper.Nikobus as N
+use Rattle.layouts.specs.Paper.Nibe as nibes
+use Rattle.layouts.specs.Paper.Homiq as homiqs
 
 -- how a frame begins
 record Begun (k : ℕ) (f : List ℕ) : Type 0 where

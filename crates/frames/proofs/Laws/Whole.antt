@@ -1,22 +1,22 @@
 -- One frame and no byte more.
 -- Assumes nothing.
-use mathlib.Core.Path.{_≡_, refl, sym, _∙_, ap, subst}
-use Prim.Native.Nat.{ℕ, zero, suc, _≤_, _<_}
 use mathlib.Core.Bool.{true, false}
-use mathlib.Core.List.{List, [], _++_, append-nil}
+use mathlib.Core.List.{List, [], append-nil}
+use mathlib.Core.Path.{_≡_, refl, sym, _∙_, ap, subst}
+use Prim.Native.Nat.{ℕ, zero, suc, _<_}
 use native.Mathlib.Omega.{arith}
 use lib.ListN.{length, take}
 use lib.Seq.{take-all}
 use Rattle.digits.specs.Paper.Refusals.{answers, refuses}
 use Rattle.digits.specs.declared.refusal.Refusal.the-variants.{Kind, Limits}
-use Rattle.layouts.proofs.Laws.Heads.{taken}
-use Rattle.frames.specs.Paper.Kinds.{known, Frame, payloadFrom, payloadTo}
-use Rattle.frames.specs.Paper.Whole.{Ends, TestsWhole}
+use Rattle.frames.specs.Paper.Kinds.{known, Frame}
+use Rattle.frames.specs.Paper.Whole.{TestsWhole}
 use Rattle.frames.specs.Work.Frames.{frameLen, fromOf, toOf, wherever, headFrom, headTo}
 use Rattle.frames.specs.declared.Whole.the-variants.{Is, Refused}
+use Rattle.frames.proofs.Laws.Causes.{whole-0, whole-2, whole-5}
 use Rattle.frames.proofs.Laws.Kinds.{kind-right, frame-known, begins, ends}
 use Rattle.frames.proofs.Laws.Places.{never-empty}
-use Rattle.frames.proofs.Laws.Causes.{whole-0, whole-2, whole-5}
+use Rattle.layouts.proofs.Laws.Heads.{taken}
 
 -- of a frame, all of it is found
 pub frame-all : {k : ℕ} {s : List ℕ} → Frame k s → frameLen k s ≡ length s

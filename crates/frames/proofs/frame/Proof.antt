@@ -1,52 +1,41 @@
+-- `frames::frame` meets its contract: the part that the search found.
+-- Assumes nothing.
 use mathlib.Core.Path.{refl}
 use native.Mathlib.Omega.{arith}
+use borrow.Author.Needs.{needs}
 use denote.Ref.{now}
 use Rattle.frames.specs.Paper.Search.{framePart}
 use Rattle.frames.proofs.Laws.Hands.{found-inside, hands-found, hands-nothing}
-use borrow.Author.Needs.{needs}
 use Rattle.frames.proofs.frame.Statement.{statement}
 use Rattle.frames.proofs.frame.Tie as tie
-use Rattle.frames.proofs.frame.Reads as reads
-use Rattle.frames.proofs.frame.Lts as lts
-use Rattle.frames.proofs.search.Reads as search-reads
 
--- src/lib.rt:45:11
 search-requires : tie.Need-search-requires
 search-requires c κs = search needs
 
--- src/lib.rt:47:13
 enum-known-start : tie.Need-enum-known-start
 enum-known-start c = search needs
 
--- src/lib.rt:51:29
 add-result : tie.Need-add-result
 add-result c = let s = c .before .before .before .before .before in omega (arith, found-inside (c .before .before .before .search .ensures) (c .before .start .given .1), s .good)
 
--- src/lib.rt:51:14
 sub-result : tie.Need-sub-result
 sub-result c = search needs
 
--- src/lib.rt:51:14
 part-result-start : tie.Need-part-result-start
 part-result-start c = search needs
 
--- src/lib.rt:51:14
 part-result-end : tie.Need-part-result-end
 part-result-end c = found-inside (c .before .before .before .search .ensures) (c .before .start .given .1)
 
--- src/lib.rt:52:24
 enum-known-why : tie.Need-enum-known-why
 enum-known-why c = search needs
 
--- src/lib.rt:52:32
 slice-aggregate-result : tie.Need-slice-aggregate-result
 slice-aggregate-result c = search needs
 
--- src/lib.rt:42:1
 returns : tie.Need-returns
 returns c = hands-found (c .before .before .before .before .search .ensures) (c .before .before .start .given .1) (framePart (now (c .before .before .before .before .before .before .args .buffer))) _ refl
 
--- src/lib.rt:42:1
 returns-2 : tie.Need-returns-2
 returns-2 c = hands-nothing (c .before .before .before .before .search .ensures) (c .before .before .why .given .1) (framePart (now (c .before .before .before .before .before .before .args .buffer)))
 

@@ -1,17 +1,17 @@
 -- 01, demand 3: the checked bytes of a frame and the check value that stands in it. "Demand 3's checked bytes are those the check
 -- covers (Nikobus: the payload's bytes, under CRC16)". Presses and tails carry no check value.
 -- Assumes nothing.
+use mathlib.Core.List.{List}
 use mathlib.Core.Path.{_≡_}
 use Prim.Native.Nat.{ℕ}
-use mathlib.Core.List.{List}
-use Rattle.checks.specs.Paper.Check.{Check}
 use Rattle.checks.specs.Paper.Buses.{nikobusCrc16, nestCrc, nibeXor, homiqCrc}
+use Rattle.checks.specs.Paper.Check.{Check}
 use Rattle.layouts.specs.Paper.Layout.{Frame}
+use Rattle.layouts.specs.declared.nest.Direction.the-variants.{Command, Response}
 use Rattle.layouts.specs.Paper.Nikobus as nikobuses
 use Rattle.layouts.specs.Paper.Nest as nests
 use Rattle.layouts.specs.Paper.Nibe as nibes
 use Rattle.layouts.specs.Paper.Homiq as homiqs
-use Rattle.layouts.specs.declared.nest.Direction.the-variants.{Command, Response}
 
 -- the frame f of kind k carries a value of the check, over the bytes
 pub data Carries : (k : ℕ) (f : List ℕ) (c : Check) (bytes : List ℕ) (value : ℕ) → Type 0 where

@@ -1,15 +1,15 @@
 -- 01, "Kinds and frames": "A kind is a bus and direction: 1 Nikobus, 2 Nest command, 3 Nest response, 4 Nibe, 5 Homiq."
 -- Assumes nothing.
-use Prim.Native.Nat.{ℕ}
 use mathlib.Core.Bool.{Bool, _&&_}
 use mathlib.Core.List.{List}
+use Prim.Native.Nat.{ℕ}
 use lib.Dec.{leb}
+use Rattle.layouts.specs.declared.nest.Direction.the-variants.{Command, Response}
 use Rattle.layouts.specs.Paper.Layout as layout
 use Rattle.layouts.specs.Paper.Nikobus as nikobuses
 use Rattle.layouts.specs.Paper.Nest as nests
 use Rattle.layouts.specs.Paper.Nibe as nibes
 use Rattle.layouts.specs.Paper.Homiq as homiqs
-use Rattle.layouts.specs.declared.nest.Direction.the-variants.{Command, Response}
 
 -- "kind not 1 to 5" is refused
 unfoldable pub known : ℕ → Bool

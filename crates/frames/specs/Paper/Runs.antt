@@ -1,12 +1,10 @@
 -- 01, Search: "the next search begins at that frame's end".
 -- Assumes nothing.
-use Prim.Native.Nat.{ℕ, _+_, _≤_, _<_}
-use mathlib.Core.Path.{_≡_}
 use mathlib.Core.List.{List, [], _∷_}
-use Rattle.frames.specs.Paper.Search.{FrameAt, Hit, Leftmost, Searches, foundHit}
-use Rattle.frames.specs.declared.Found.{Found}
-use Rattle.frames.specs.declared.Found.the-variants.{At, Refused}
+use Prim.Native.Nat.{ℕ, _+_, _≤_, _<_}
 use Rattle.digits.specs.declared.refusal.Refusal.the-variants.{NoFrame}
+use Rattle.frames.specs.Paper.Search.{FrameAt, Hit, Searches}
+use Rattle.frames.specs.declared.Found.the-variants.{At, Refused}
 
 -- what one search after the other finds from a place on, up to the one that finds no frame
 pub data Run (k : ℕ) (s : List ℕ) : ℕ → List Hit → Type 0 where

@@ -1,9 +1,9 @@
 -- 01, Search: "The decoder takes one frame and no byte more, .. else 5."
 -- Assumes nothing.
-use mathlib.Core.Path.{_≡_}
-use Prim.Native.Nat.{ℕ}
 use mathlib.Core.Bool.{false}
 use mathlib.Core.List.{List}
+use mathlib.Core.Path.{_≡_}
+use Prim.Native.Nat.{ℕ}
 use Rattle.digits.specs.Paper.Refusals.{refusalNumber, Answers}
 use Rattle.frames.specs.Paper.Kinds.{known, Frame, payloadFrom, payloadTo}
 use Rattle.frames.specs.declared.Whole.{Whole}

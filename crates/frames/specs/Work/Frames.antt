@@ -1,16 +1,15 @@
 -- The recognisers of the five kinds as one.
 -- Assumes nothing.
-use Prim.Native.Nat.{ℕ, zero, suc}
 use mathlib.Core.Bool.{Bool, _&&_, _||_, cond}
 use mathlib.Core.List.{List}
+use Prim.Native.Nat.{ℕ, zero, suc, _/_}
 use lib.Dec.{eqb, leb}
 use lib.ListN.{take}
-use Prim.Native.Nat.{_/_}
 use Rattle.layouts.specs.Paper.Nest.{preamble}
-use Rattle.layouts.specs.Work.Nikobus.{nikobusLen, nikobusFrom, nikobusTo}
+use Rattle.layouts.specs.Work.Homiq.{homiqLen, homiqFrom, homiqTo}
 use Rattle.layouts.specs.Work.Nest.{nestLen, nestFrom, nestTo}
 use Rattle.layouts.specs.Work.Nibe.{nibeLen, nibeFrom, nibeTo}
-use Rattle.layouts.specs.Work.Homiq.{homiqLen, homiqFrom, homiqTo}
+use Rattle.layouts.specs.Work.Nikobus.{nikobusLen, nikobusFrom, nikobusTo}
 use Rattle.layouts.specs.declared.nest.Direction.the-variants.{Command, Response}
 
 -- the one of five that is a kind's

@@ -1,8 +1,8 @@
 -- The search, computed.
 -- Assumes nothing.
-use Prim.Native.Nat.{ℕ, zero, suc, _+_}
 use mathlib.Core.Bool.{cond}
 use mathlib.Core.List.{List, [], _∷_}
+use Prim.Native.Nat.{ℕ, zero, suc, _+_}
 use lib.Dec.{leb}
 use lib.ListN.{length, drop}
 use Rattle.digits.specs.declared.refusal.Refusal.the-variants.{NoFrame, Kind, Place}

@@ -1,35 +1,27 @@
+-- `host::bolsterweft_one_frame` meets its contract: it is `frames::one_frame`, case by case.
+-- Assumes nothing.
 use mathlib.Core.Path.{subst}
+use borrow.Author.Needs.{needs}
 use denote.Ref.{now}
 use Rattle.frames.specs.Paper.Whole.{TestsWhole}
-use borrow.Author.Needs.{needs}
 use Rattle.host.proofs.bolsterweft_one_frame.Statement.{statement}
 use Rattle.host.proofs.bolsterweft_one_frame.Tie as tie
-use Rattle.host.proofs.bolsterweft_one_frame.Reads as reads
-use Rattle.host.proofs.bolsterweft_one_frame.Lts as lts
-use Rattle.frames.proofs.one_frame.Reads as one-frame-reads
-use Rattle.host.proofs.numbered.Reads as numbered-reads
 
--- src/lib.rt:87:11
 one-frame-requires : tie.Need-one-frame-requires
 one-frame-requires c κs = search needs
 
--- src/lib.rt:88:21
 enum-known-from : tie.Need-enum-known-from
 enum-known-from c = search needs
 
--- src/lib.rt:93:24
 enum-known-why : tie.Need-enum-known-why
 enum-known-why c = search needs
 
--- src/lib.rt:94:22
 numbered-requires : tie.Need-numbered-requires
 numbered-requires c κs = search needs
 
--- src/lib.rt:83:1
 returns : tie.Need-returns
 returns c = let s = c .before .before .before .before .before in subst (TestsWhole (s .args .kind) (now (s .args .s))) (c .before .from .given .1) (c .before .before .before .one-frame .ensures)
 
--- src/lib.rt:83:1
 returns-2 : tie.Need-returns-2
 returns-2 c = let s = c .before .before .before .before .before .before in rw (c .numbered .ensures) (subst (TestsWhole (s .args .kind) (now (s .args .s))) (c .before .before .why .given .1) (c .before .before .before .before .one-frame .ensures))
 

@@ -1,35 +1,27 @@
+-- `host::bolsterweft_search` meets its contract: it is `frames::search`, case by case.
+-- Assumes nothing.
 use mathlib.Core.Path.{subst}
+use borrow.Author.Needs.{needs}
 use denote.Ref.{now}
 use Rattle.frames.specs.Paper.Search.{Searches}
-use borrow.Author.Needs.{needs}
 use Rattle.host.proofs.bolsterweft_search.Statement.{statement}
 use Rattle.host.proofs.bolsterweft_search.Tie as tie
-use Rattle.host.proofs.bolsterweft_search.Reads as reads
-use Rattle.host.proofs.bolsterweft_search.Lts as lts
-use Rattle.frames.proofs.search.Reads as search-reads
-use Rattle.host.proofs.numbered.Reads as numbered-reads
 
--- src/lib.rt:49:11
 search-requires : tie.Need-search-requires
 search-requires c κs = search needs
 
--- src/lib.rt:51:13
 enum-known-start : tie.Need-enum-known-start
 enum-known-start c = search needs
 
--- src/lib.rt:62:24
 enum-known-why : tie.Need-enum-known-why
 enum-known-why c = search needs
 
--- src/lib.rt:63:22
 numbered-requires : tie.Need-numbered-requires
 numbered-requires c κs = search needs
 
--- src/lib.rt:45:1
 returns : tie.Need-returns
 returns c = let s = c .before .before .before .before .before in subst (Searches (s .args .kind) (now (s .args .buffer)) (s .args .place)) (c .before .start .given .1) (c .before .before .before .search .ensures)
 
--- src/lib.rt:45:1
 returns-2 : tie.Need-returns-2
 returns-2 c = let s = c .before .before .before .before .before .before in rw (c .numbered .ensures) (subst (Searches (s .args .kind) (now (s .args .buffer)) (s .args .place)) (c .before .before .why .given .1) (c .before .before .before .before .search .ensures))
 

@@ -1,18 +1,18 @@
 -- What a bus's recognisers have to be, and what follows for its frames, once for all buses.
 -- Assumes nothing.
-use mathlib.Core.Path.{_≡_, refl, sym, _∙_, ap, subst}
-use Prim.Native.Nat.{ℕ, zero, suc, _≤_, _<_}
 use mathlib.Core.Bool.{Bool, true, false}
 use mathlib.Core.List.{List}
+use mathlib.Core.Path.{_≡_, refl, sym, _∙_, ap, subst}
+use Prim.Native.Nat.{ℕ, zero, suc, _≤_, _<_}
 use native.Mathlib.Omega.{arith}
 use lib.Dec.{T}
 use lib.ListN.{length, take}
 use lib.Seq.{length-take-le}
-use Rattle.digits.specs.Paper.Bytes.{part}
 use Rattle.digits.proofs.Laws.Parts.{part-front}
+use Rattle.digits.specs.Paper.Bytes.{part}
 use Rattle.layouts.specs.Paper.Layout.{Layout, payloadFrom, payloadTo, Form, Frame, Leads, leads, none}
 use Rattle.layouts.specs.Work.Heads.{passing}
-use Rattle.layouts.proofs.Laws.Heads.{Right, Passed, passing-right, same-right, taken, inside, found, only-yes, only-no, only-zero}
+use Rattle.layouts.proofs.Laws.Heads.{Right, passing-right, same-right, taken, inside, found, only-yes, only-no, only-zero}
 
 -- `form` finds what is laid out so, `test` tells whether the check values are right, and the payload goes from `from` to `to`
 pub record Bus (l : Layout) (form : List ℕ → ℕ) (test : List ℕ → Bool) (from to : List ℕ → ℕ) : Type 0 where

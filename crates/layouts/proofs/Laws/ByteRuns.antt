@@ -1,16 +1,15 @@
 -- Runs of bytes: what the recognisers ask of each element is what it is to be a byte.
 -- Assumes nothing.
-use mathlib.Core.Path.{_≡_, refl, sym, _∙_, ap}
+use mathlib.Core.Bool.{Bool, true, false, _||_}
+use mathlib.Core.List.{List, [], _∷_}
+use mathlib.Core.Path.{_≡_, refl}
 use Prim.Native.Nat.{ℕ, _≤_, _<_}
-use mathlib.Core.Bool.{Bool, true, false, _&&_, _||_}
-use mathlib.Core.List.{List, [], _∷_, _++_}
-use native.Mathlib.Omega.{arith}
 use lib.Dec.{T, eqb, ltb→lt, eqb→eq}
 use lib.ListN.{length, take}
 use borrow.Author.Tests.{lt-ltb, le-leb, lt-leb}
-use Rattle.digits.specs.Paper.Bytes.{Bytes}
 use Rattle.digits.proofs.Laws.Bytes.{bytes-nil, bytes-cons, bytes-head, bytes-tail, bytes-take}
 use Rattle.digits.proofs.Laws.Tests.{T-and}
+use Rattle.digits.specs.Paper.Bytes.{Bytes}
 use Rattle.layouts.specs.Paper.Chars.{all, oneOf}
 use Rattle.layouts.specs.Work.Heads.{onlyIf, isByte, runLen, bytesLen}
 

@@ -1,18 +1,18 @@
 -- Recognisers that find the words of a language at the head of a list, and only those: one word, a run of elements, one word
 -- after another, one or another, those that pass a test.
 -- Assumes nothing.
+use mathlib.Core.Bool.{Bool, true, false}
+use mathlib.Core.List.{List, [], _∷_, _++_, append-assoc}
 use mathlib.Core.Path.{_≡_, refl, sym, _∙_, ap, ap₂, subst}
 use Prim.Native.Nat.{ℕ, zero, suc, _+_, _-_, _^_, _≤_, _<_}
-use mathlib.Core.List.{List, [], _∷_, _++_, append-assoc}
-use mathlib.Core.Bool.{Bool, true, false, _&&_}
 use native.Mathlib.Omega.{arith}
 use lib.Dec.{T, eqb, leb, eqb→eq, leb→le}
 use lib.ListN.{length, take, drop, length-append, length-drop, take-append-drop}
 use lib.Seq.{take-append-seam, drop-append-seam, length-take-le, take-at}
 use borrow.Author.Tests.{eq-eqb, le-leb}
-use Rattle.digits.specs.Paper.Bytes.{part}
 use Rattle.digits.proofs.Laws.Parts.{part-rest}
 use Rattle.digits.proofs.Laws.Tests.{T-and, T-true}
+use Rattle.digits.specs.Paper.Bytes.{part}
 use Rattle.layouts.specs.Paper.Chars.{all}
 use Rattle.layouts.specs.Work.Heads.{onlyIf, starts, wordLen, runLen, on, onward, andThen, orElse, passing}
 

@@ -1,27 +1,27 @@
 -- Hex digits: which characters are, and the bytes that they are, there and back.
 -- Assumes nothing.
+use mathlib.Core.Bool.{Bool, true, false, not, _&&_, _||_, cond}
+use mathlib.Core.List.{List, [], _∷_, _++_}
 use mathlib.Core.Path.{_≡_, refl, sym, _∙_, ap, ap₂, subst}
 use Prim.Native.Nat.{ℕ, zero, suc, _+_, _-_, _*_, _/_, _%_, _^_, _≤_, _<_}
-use mathlib.Core.List.{List, [], _∷_, _++_}
-use mathlib.Core.Bool.{Bool, true, false, not, _&&_, _||_, cond}
 use native.Mathlib.Omega.{arith}
 use lib.Dec.{T, eqb, leb, ltb, eqb→eq, leb→le}
 use lib.ListN.{length, getD, drop, length-drop}
 use borrow.Author.Tests.{lt-ltb, le-ltb, leb-true, leb-false, not-true, not-false}
-use Rattle.digits.specs.Paper.Ascii.{ascii}
-use Rattle.digits.specs.Paper.Bytes.{Bytes}
-use Rattle.digits.specs.Paper.Hex.{hexDigit, hexByte, hexWord, hexBytes}
-use Rattle.digits.specs.Paper.Answers.{ReadsByte}
-use Rattle.digits.specs.declared.hex.Byte.{Byte}
-use Rattle.digits.specs.declared.hex.Byte.the-variants.{Is, NoDigit}
-use Rattle.digits.specs.Work.Hex.{placeOf}
 use Rattle.digits.proofs.Laws.Bytes.{bytes-nil, bytes-cons, bytes-head, bytes-tail}
 use Rattle.digits.proofs.Laws.Hex.{place-digit, place-lt, digit-upper, byte-of, byte-parts}
 use Rattle.digits.proofs.Laws.Reads.{answered, refused}
 use Rattle.digits.proofs.Laws.Table.{at}
 use Rattle.digits.proofs.Laws.Tests.{T-and, T-true}
-use Rattle.checks.specs.Paper.Check.{Check, feed}
+use Rattle.digits.specs.Paper.Answers.{ReadsByte}
+use Rattle.digits.specs.Paper.Ascii.{ascii}
+use Rattle.digits.specs.Paper.Bytes.{Bytes}
+use Rattle.digits.specs.Paper.Hex.{hexDigit, hexByte, hexWord, hexBytes}
+use Rattle.digits.specs.Work.Hex.{placeOf}
+use Rattle.digits.specs.declared.hex.Byte.{Byte}
+use Rattle.digits.specs.declared.hex.Byte.the-variants.{Is, NoDigit}
 use Rattle.checks.proofs.Laws.Feed.{feed-append, feed-nil}
+use Rattle.checks.specs.Paper.Check.{Check, feed}
 use Rattle.layouts.specs.Paper.Chars.{oneOf, all, isHex}
 use Rattle.layouts.specs.Work.Nikobus.{hexPair, bytesOf}
 use Rattle.layouts.proofs.Laws.Runs.{next}

@@ -1,29 +1,29 @@
 -- `homiqFormLen` finds what is laid out as a Homiq frame, and only that; `homiqPasses` tells whether its CRC is right.
 -- Assumes nothing.
+use mathlib.Core.Bool.{Bool, true, false, _||_, cond}
+use mathlib.Core.List.{List, [], _∷_, _++_, append-assoc, append-nil}
 use mathlib.Core.Path.{_≡_, refl, sym, _∙_, ap, ap₂}
 use Prim.Native.Nat.{ℕ, _+_, _-_, _≤_, _<_}
-use mathlib.Core.List.{List, [], _∷_, _++_, append-assoc, append-nil}
-use mathlib.Core.Bool.{Bool, true, false, _||_, cond}
 use native.Mathlib.Omega.{arith}
 use lib.Dec.{T, eqb, eqb→eq}
 use lib.ListN.{length, getD, take, drop, length-append, drop-of-length-le}
 use lib.Seq.{drop-append-seam, take-at, append-snoc}
 use borrow.Author.Tests.{eq-eqb, eqb-true}
+use Rattle.digits.proofs.Laws.Tests.{T-and}
 use Rattle.digits.specs.Paper.Ascii.{ascii}
 use Rattle.digits.specs.Paper.Bytes.{part}
 use Rattle.digits.specs.Paper.Decimal.{decimal}
-use Rattle.digits.proofs.Laws.Tests.{T-and}
-use Rattle.checks.specs.Paper.Check.{feed, check}
-use Rattle.checks.specs.Paper.Buses.{homiqCrc}
 use Rattle.checks.proofs.Laws.Feed.{feed-lt, feed-append, feed-nil}
+use Rattle.checks.specs.Paper.Buses.{homiqCrc}
+use Rattle.checks.specs.Paper.Check.{feed, check}
 use Rattle.layouts.specs.Paper.Chars.{oneOf, all, CR, LF}
-use Rattle.layouts.specs.Paper.Layout.{bytesOf, Form}
 use Rattle.layouts.specs.Paper.Homiq.{Homiq, fieldChar, firstId, lastId, Limits, payload, joined, homiq}
+use Rattle.layouts.specs.Paper.Layout.{bytesOf, Form}
 use Rattle.layouts.specs.Work.Homiq.{numberIn, headLen, homiqFormLen, kept, homiqPasses, homiqFrom, homiqTo}
-use Rattle.layouts.proofs.Laws.Heads.{Right, Then, join, glue, word-right, then-right, same-right}
-use Rattle.layouts.proofs.Laws.Runs.{next}
 use Rattle.layouts.proofs.Laws.Buses.{Bus}
+use Rattle.layouts.proofs.Laws.Heads.{Right, Then, join, glue, word-right, then-right, same-right}
 use Rattle.layouts.proofs.Laws.HomiqFields.{Fielded, Numbered, Typed, field-right, number-right, type-right, number-read, char-bounds, decimal-chars}
+use Rattle.layouts.proofs.Laws.Runs.{next}
 
 -- ---- the head: `<;` and the six fields, each with its `;`
 

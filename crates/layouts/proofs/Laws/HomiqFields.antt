@@ -1,22 +1,22 @@
 -- The parts of a Homiq frame, each with the `;` behind it: a field, a number, TYPE.
 -- Assumes nothing.
+use mathlib.Core.Bool.{Bool, true, false, _||_, not, or-false}
+use mathlib.Core.List.{List, [], _∷_, _++_}
 use mathlib.Core.Path.{_≡_, refl, sym, _∙_, ap, ap₂}
 use Prim.Native.Nat.{ℕ, zero, suc, _+_, _*_, _/_, _%_, _^_, _≤_, _<_}
-use mathlib.Core.List.{List, [], _∷_, _++_}
-use mathlib.Core.Bool.{Bool, true, false, _||_, not, or-false}
-use native.Mathlib.Omega.{arith}
 use native.Mathlib.Nat.{pow-le-pow-right, zero-lt-suc}
+use native.Mathlib.Omega.{arith}
 use lib.Dec.{T, eqb, leb, ltb, eqb→eq, leb→le, ltb→lt}
 use lib.ListN.{length, getD, take, drop, length-append}
 use lib.Seq.{length-take-le, take-append-seam, getD-append-seam, getD-at, split-at, append-snoc}
 use borrow.Author.Tests.{eq-eqb, ne-eqb, le-leb, lt-ltb, eqb-true}
+use Rattle.digits.proofs.Laws.Decimal.{decimal-small, length-more, chars-digits, length-decimal, guess-decimal, Guessing, guessing-next}
+use Rattle.digits.proofs.Laws.Parts.{part-front}
+use Rattle.digits.proofs.Laws.Tests.{T-and}
 use Rattle.digits.specs.Paper.Ascii.{ascii}
 use Rattle.digits.specs.Paper.Bytes.{part}
 use Rattle.digits.specs.Paper.Decimal.{decimal}
 use Rattle.digits.specs.Work.Decimal.{guess}
-use Rattle.digits.proofs.Laws.Parts.{part-front}
-use Rattle.digits.proofs.Laws.Tests.{T-and}
-use Rattle.digits.proofs.Laws.Decimal.{decimal-small, length-more, chars-digits, length-decimal, guess-decimal, Guessing, guessing-next}
 use Rattle.layouts.specs.Paper.Chars.{oneOf, all}
 use Rattle.layouts.specs.Paper.Homiq.{fieldChar, Field}
 use Rattle.layouts.specs.Work.Heads.{onlyIf, starts, wordLen, leading}

@@ -1,30 +1,30 @@
 -- What the code of `frame` finds: the head, the CRC and the end, where they stand, and what its test of the CRC says.
 -- Assumes nothing.
+use mathlib.Core.Bool.{Bool, true, false}
+use mathlib.Core.List.{List, _++_, append-assoc}
 use mathlib.Core.Path.{_≡_, refl, sym, _∙_, ap, ap₂, subst}
 use Prim.Native.Nat.{ℕ, _+_, _-_, _≤_, _<_}
-use mathlib.Core.List.{List, _++_, append-assoc}
-use mathlib.Core.Bool.{Bool, true, false}
 use native.Mathlib.Omega.{arith}
 use lib.Dec.{T, eqb}
 use lib.ListN.{length, take, drop, take-append-drop}
 use lib.Seq.{take-append-seam}
 use borrow.Author.Tests.{eq-eqb, ne-eqb}
+use Rattle.digits.proofs.Laws.Decimal.{length-decimal, guess-decimal}
 use Rattle.digits.specs.Paper.Ascii.{ascii}
 use Rattle.digits.specs.Paper.Bytes.{part}
 use Rattle.digits.specs.Paper.Decimal.{decimal}
 use Rattle.digits.specs.Work.Decimal.{guess}
-use Rattle.digits.proofs.Laws.Decimal.{length-decimal, guess-decimal}
-use Rattle.checks.specs.Paper.Check.{check}
 use Rattle.checks.specs.Paper.Buses.{homiqCrc}
+use Rattle.checks.specs.Paper.Check.{check}
 use Rattle.layouts.specs.Paper.Chars.{all}
-use Rattle.layouts.specs.Paper.Layout.{Form, Leads}
 use Rattle.layouts.specs.Paper.Homiq.{joined, homiq}
+use Rattle.layouts.specs.Paper.Layout.{Form, Leads}
 use Rattle.layouts.specs.Work.Heads.{onlyIf, wordLen, on, onward, passing}
 use Rattle.layouts.specs.Work.Homiq.{fieldLen, isFigure, numberLen, typeLen, headLen, homiqFormLen, kept, homiqPasses, homiqTo}
-use Rattle.layouts.proofs.Laws.Heads.{taken, inside, only-yes, only-no, only-zero, back-of, on-both, ends-inside}
 use Rattle.layouts.proofs.Laws.Buses.{leads-at, leads-none}
-use Rattle.layouts.proofs.Laws.HomiqFields.{number-right, closed-length, decimal-figures}
+use Rattle.layouts.proofs.Laws.Heads.{taken, inside, only-yes, only-no, only-zero, back-of, on-both, ends-inside}
 use Rattle.layouts.proofs.Laws.Homiq.{frontOf, closing, form-right, form-laid, form-head, form-passes, front-length, front-covered, homiq-bus}
+use Rattle.layouts.proofs.Laws.HomiqFields.{number-right, closed-length, decimal-figures}
 
 -- the head, one part behind the other
 pub head-whole : (s : List ℕ) (a b c d e f r : ℕ) → a ≡ wordLen (ascii "<;") s → b ≡ onward (fieldLen 8) s a → c ≡ onward (fieldLen 16) s b

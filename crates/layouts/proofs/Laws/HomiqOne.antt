@@ -1,24 +1,24 @@
 -- No two fields of Homiq frames have the same bytes; and what the CRC covers are bytes.
 -- Assumes nothing.
+use mathlib.Core.List.{List, [], _∷_, _++_, append-assoc}
 use mathlib.Core.Path.{_≡_, refl, sym, _∙_, ap}
 use Prim.Native.Nat.{ℕ, _≤_, _<_}
-use mathlib.Core.List.{List, [], _∷_, _++_, append-assoc}
 use native.Mathlib.Omega.{arith}
 use lib.Dec.{T}
 use lib.ListN.{length, getD, drop}
 use lib.Seq.{drop-append-seam}
+use Rattle.digits.proofs.Laws.Bytes.{bytes-nil, bytes-cons, bytes-append}
+use Rattle.digits.proofs.Laws.Tests.{T-and}
 use Rattle.digits.specs.Paper.Ascii.{ascii}
 use Rattle.digits.specs.Paper.Bytes.{Bytes}
 use Rattle.digits.specs.Paper.Decimal.{decimal}
-use Rattle.digits.proofs.Laws.Bytes.{bytes-nil, bytes-cons, bytes-append}
-use Rattle.digits.proofs.Laws.Tests.{T-and}
 use Rattle.layouts.specs.Paper.Chars.{all}
-use Rattle.layouts.specs.Paper.Layout.{bytesOf}
 use Rattle.layouts.specs.Paper.Homiq.{Homiq, fieldChar, Field, firstId, lastId, Limits, joined, homiq}
+use Rattle.layouts.specs.Paper.Layout.{bytesOf}
 use Rattle.layouts.specs.Work.Homiq.{kept, numberIn}
 use Rattle.layouts.proofs.Laws.Heads.{Right, one-word}
-use Rattle.layouts.proofs.Laws.HomiqFields.{field-right, number-right, number-read, char-bounds, decimal-chars}
 use Rattle.layouts.proofs.Laws.Homiq.{frontOf, head-right, closing, front-homiq, kept-closed, type-chars}
+use Rattle.layouts.proofs.Laws.HomiqFields.{field-right, number-right, number-read, char-bounds, decimal-chars}
 
 -- ---- one reading
 

@@ -1,30 +1,28 @@
 -- The recognisers of Nest find its frames, and only those.
 -- Assumes nothing.
-use mathlib.Core.Path.{_≡_, refl, sym, _∙_, ap, ap₂, subst}
-use Prim.Native.Nat.{ℕ, zero, suc, _+_, _-_, _*_, _/_, _%_, _≤_, _<_}
-use mathlib.Core.Bool.{Bool, true, false, _&&_}
 use mathlib.Core.List.{List, [], _∷_, _++_, append-assoc, append-nil}
+use mathlib.Core.Path.{_≡_, refl, sym, _∙_, ap, ap₂, subst}
+use Prim.Native.Nat.{ℕ, _+_, _-_, _*_, _/_, _%_, _≤_, _<_}
 use native.Mathlib.Omega.{arith}
 use lib.Dec.{T, leb, leb→le}
 use lib.ListN.{length, getD, take, drop, length-append, length-drop, take-append-drop, List·getD-append}
 use lib.Seq.{take-append-seam, drop-append-seam, length-take-le}
 use borrow.Author.Tests.{le-leb, lt-leb}
+use Rattle.digits.proofs.Laws.Bytes.{bytes-tail, bytes-append, bytes-take, bytes-drop}
+use Rattle.digits.proofs.Laws.LowFirst.{length-low, bytes-low, low-inj, low-all}
+use Rattle.digits.proofs.Laws.Parts.{part-front, part-rest, front-rest}
 use Rattle.digits.specs.Paper.Bytes.{Bytes, part}
 use Rattle.digits.specs.Paper.LowFirst.{lowFirst}
-use Rattle.digits.proofs.Laws.Bytes.{bytes-tail, bytes-append, bytes-take, bytes-drop}
-use Rattle.digits.proofs.Laws.Parts.{part-front, part-rest, front-rest}
-use Rattle.digits.proofs.Laws.LowFirst.{length-low, bytes-low, low-inj, low-all}
-use Rattle.checks.specs.Paper.Check.{check}
-use Rattle.checks.specs.Paper.Buses.{nestCrc}
 use Rattle.checks.proofs.Laws.Feed.{check-lt}
-use Rattle.layouts.specs.Paper.Chars.{all}
+use Rattle.checks.specs.Paper.Buses.{nestCrc}
+use Rattle.checks.specs.Paper.Check.{check}
 use Rattle.layouts.specs.Paper.Layout.{bytesOf, payloadFrom, payloadTo, Form}
 use Rattle.layouts.specs.Paper.Nest.{Nest, covered, Limits, Passes, nestWith}
-use Rattle.layouts.specs.Work.Heads.{onlyIf, starts, wordLen, isByte, runLen, bytesLen, andThen}
+use Rattle.layouts.specs.Work.Heads.{starts, isByte, bytesLen}
 use Rattle.layouts.specs.Work.Nest.{payloadLen, bodyLen, nestFormLen, crcPasses, nestPasses, nestFrom, nestTo}
-use Rattle.layouts.proofs.Laws.Heads.{Head, Right, Then, Run, run-right, only-test, only-eq, only-yes, only-no, only-zero, inside, word-right, then-right, same-right, join, glue, starts-same, same-starts}
-use Rattle.layouts.proofs.Laws.ByteRuns.{all-bytes, bytes-all, bytes-short, bytes-there}
 use Rattle.layouts.proofs.Laws.Buses.{Bus, found-length}
+use Rattle.layouts.proofs.Laws.ByteRuns.{all-bytes, bytes-all, bytes-short, bytes-there}
+use Rattle.layouts.proofs.Laws.Heads.{Head, Right, Then, Run, run-right, only-test, only-eq, only-yes, only-no, only-zero, inside, word-right, then-right, same-right, join, glue, starts-same, same-starts}
 
 -- ---- id, length, payload and CRC
 

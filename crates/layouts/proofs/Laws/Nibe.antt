@@ -1,28 +1,28 @@
 -- The recognisers of Nibe find its frames, and only those.
 -- Assumes nothing.
+use mathlib.Core.Bool.{true, false}
+use mathlib.Core.List.{List, [], _∷_, _++_}
 use mathlib.Core.Path.{_≡_, refl, sym, _∙_, ap, ap₂, subst}
 use Prim.Native.Nat.{ℕ, suc, _+_, _-_, _≤_, _<_}
-use mathlib.Core.Bool.{Bool, true, false}
-use mathlib.Core.List.{List, [], _∷_, _++_}
 use native.Mathlib.Omega.{arith}
-use lib.Dec.{T, eqb, eqb→eq, leb→le}
-use lib.ListN.{length, getD, take, drop, length-append, length-drop, drop-of-length-le, List·getD-append}
-use lib.Seq.{length-take-le, getD-append-seam, getD-take, split-at}
-use borrow.Author.Tests.{eq-eqb, ne-eqb, lt-leb}
-use Rattle.digits.specs.Paper.Bytes.{Bytes, part}
-use Rattle.digits.proofs.Laws.Bytes.{bytes-nil, bytes-cons, bytes-head, bytes-tail, bytes-append, bytes-take}
+use lib.Dec.{T, eqb, eqb→eq}
+use lib.ListN.{length, getD, take, drop, length-append, drop-of-length-le, List·getD-append}
+use lib.Seq.{length-take-le, getD-append-seam, split-at}
+use borrow.Author.Tests.{eq-eqb, ne-eqb}
+use Rattle.digits.proofs.Laws.Bytes.{bytes-nil, bytes-cons, bytes-tail, bytes-append, bytes-take}
 use Rattle.digits.proofs.Laws.Parts.{part-middle}
 use Rattle.digits.proofs.Laws.Tests.{T-true}
-use Rattle.checks.specs.Paper.Check.{check}
+use Rattle.digits.specs.Paper.Bytes.{Bytes, part}
 use Rattle.checks.specs.Paper.Buses.{nibeXor}
+use Rattle.checks.specs.Paper.Check.{check}
 use Rattle.layouts.specs.Paper.Chars.{oneOf, all}
 use Rattle.layouts.specs.Paper.Layout.{bytesOf, payloadTo, Form}
 use Rattle.layouts.specs.Paper.Nibe.{Nibe, commands, covered, Limits, Passes, nibe}
-use Rattle.layouts.specs.Work.Heads.{onlyIf, isByte, runLen, bytesLen}
+use Rattle.layouts.specs.Work.Heads.{onlyIf, isByte, bytesLen}
 use Rattle.layouts.specs.Work.Nibe.{nibeFormLen, nibePasses, nibeFrom, nibeTo}
-use Rattle.layouts.proofs.Laws.Heads.{Head, Right, Run, run-right, only-test, only-eq, only-yes, only-no, only-zero}
-use Rattle.layouts.proofs.Laws.ByteRuns.{all-bytes, bytes-all, one-of-bytes, bytes-short, bytes-there}
 use Rattle.layouts.proofs.Laws.Buses.{Bus, found-length, found-part}
+use Rattle.layouts.proofs.Laws.ByteRuns.{all-bytes, bytes-all, one-of-bytes, bytes-short, bytes-there}
+use Rattle.layouts.proofs.Laws.Heads.{Head, Right, Run, run-right, only-test, only-eq, only-yes, only-no, only-zero}
 
 -- the last element of a list, and those before it
 last-split : (n : ℕ) (u : List ℕ) → length u ≡ n + 1 → u ≡ take n u ++ (getD u n 0 ∷ [])

@@ -1,34 +1,33 @@
 -- Nikobus: its recogniser finds what is laid out as a link, a press or a tail, and only that; its tests tell whether a link's check
 -- values are right; no two fields have the same bytes; and what the code finds on its way is that.
 -- Assumes nothing.
+use mathlib.Core.Bool.{Bool, true, _&&_}
+use mathlib.Core.List.{List, [], _∷_, _++_, append-assoc}
 use mathlib.Core.Path.{_≡_, refl, sym, _∙_, ap, ap₂, subst}
 use Prim.Native.Nat.{ℕ, zero, suc, _+_, _-_, _*_, _/_, _%_, _≤_, _<_}
-use mathlib.Core.List.{List, [], _∷_, _++_, append-assoc}
-use mathlib.Core.Bool.{Bool, true, _&&_}
 use native.Mathlib.Omega.{arith}
 use lib.Dec.{T, ltb, eqb→eq, leb→le}
 use lib.ListN.{length, getD, take, drop, length-append, length-drop, take-append-drop}
 use lib.Seq.{take-all, take-at, drop-at, length-take-le}
 use borrow.Author.Tests.{eq-eqb, ne-eqb, le-leb, lt-ltb, ltb-true}
-use Rattle.digits.specs.Paper.Ascii.{ascii}
-use Rattle.digits.specs.Paper.Bytes.{Bytes, part}
-use Rattle.digits.specs.Paper.Hex.{hexDigit, hexByte, hexBytes, hexWord}
 use Rattle.digits.proofs.Laws.Bytes.{bytes-take, bytes-drop, bytes-append, bytes-cons, bytes-nil}
 use Rattle.digits.proofs.Laws.Hex.{length-hex, hex-inj, byte-inj, word-inj, word-of}
 use Rattle.digits.proofs.Laws.Parts.{part-front, part-middle, take-ats}
 use Rattle.digits.proofs.Laws.Tests.{T-and, T-true}
-use Rattle.checks.specs.Paper.Check.{check}
-use Rattle.checks.specs.Paper.Buses.{nikobusCrc16, nikobusCrc8}
+use Rattle.digits.specs.Paper.Ascii.{ascii}
+use Rattle.digits.specs.Paper.Bytes.{Bytes, part}
+use Rattle.digits.specs.Paper.Hex.{hexDigit, hexByte, hexBytes, hexWord}
 use Rattle.checks.proofs.Laws.Feed.{check-lt}
+use Rattle.checks.specs.Paper.Buses.{nikobusCrc16, nikobusCrc8}
+use Rattle.checks.specs.Paper.Check.{check}
 use Rattle.layouts.specs.Paper.Chars.{all, isHex, CR}
 use Rattle.layouts.specs.Paper.Layout.{bytesOf, payloadFrom, payloadTo, Form, Leads}
 use Rattle.layouts.specs.Paper.Nikobus.{Nikobus, link, press, tail, Limits, link-limits, press-limits, tail-limits, linkChecked, Passes, link-passes, press-passes, tail-passes, nikobus}
 use Rattle.layouts.specs.Work.Heads.{onlyIf, starts, wordLen, runLen, on, onward, orElse, passing}
-use Rattle.layouts.specs.Work.Nikobus.{hexPair, digitsLen, llOf, linkHeadLen, linkFormLen, pressLen, tailLen, nikobusFormLen, passes16, passes8, linkLen, nikobusPasses, nikobusFrom, nikobusTo}
-use Rattle.layouts.specs.Work.Nikobus.{bytesOf as bytesIn}
+use Rattle.layouts.specs.Work.Nikobus.{hexPair, digitsLen, llOf, linkHeadLen, linkFormLen, pressLen, tailLen, nikobusFormLen, passes16, passes8, linkLen, nikobusPasses, nikobusFrom, nikobusTo, bytesOf as bytesIn}
+use Rattle.layouts.proofs.Laws.Buses.{Bus, frame-right, leads-at, leads-none}
 use Rattle.layouts.proofs.Laws.Heads.{Head, Right, Then, Or, left, right, Run, join, glue, only-test, only-eq, only-yes, only-zero, starts-splits, starts-append, starts-same, same-starts, word-right, run-right, then-right, or-right, same-right, word-inside, run-inside, onward-inside, or-first, or-second, taken, inside}
 use Rattle.layouts.proofs.Laws.HexDigits.{digit-hex, length-byte, length-word, pair-byte, pair-lt, byte-pair, hex-append, bytes-hex, hex-all, hex-bytes, length-bytes, bytes-bytes}
-use Rattle.layouts.proofs.Laws.Buses.{Bus, frame-right, leads-at, leads-none}
 
 -- ---- `$`, LL
 

@@ -1,15 +1,15 @@
 -- 01, Homiq: "`<;CMD;VAL;SRC;DST;ID;TYPE;CRC;>` CR LF."
 -- Assumes nothing.
-use mathlib.Core.Path.{_≡_}
-use Prim.Native.Nat.{ℕ, _≤_}
 use mathlib.Core.Bool.{Bool, _&&_, not}
 use mathlib.Core.List.{List, [], _∷_, _++_}
+use mathlib.Core.Path.{_≡_}
+use Prim.Native.Nat.{ℕ, _≤_}
 use lib.Dec.{T, leb}
 use lib.ListN.{length}
 use Rattle.digits.specs.Paper.Ascii.{ascii}
 use Rattle.digits.specs.Paper.Decimal.{decimal}
-use Rattle.checks.specs.Paper.Check.{check}
 use Rattle.checks.specs.Paper.Buses.{homiqCrc}
+use Rattle.checks.specs.Paper.Check.{check}
 use Rattle.layouts.specs.Paper.Chars.{oneOf, all, CR, LF}
 use Rattle.layouts.specs.Paper.Layout.{Layout}
 

@@ -1,8 +1,8 @@
 -- 01, "Kinds and frames": what a layout is, and what it is for bytes to be a frame.
 -- Assumes nothing.
+use mathlib.Core.List.{List, _++_}
 use mathlib.Core.Path.{_≡_}
 use Prim.Native.Nat.{ℕ, _+_, _≤_}
-use mathlib.Core.List.{List, _++_}
 use lib.ListN.{length, take}
 
 -- A layout: the fields of a frame, among them the check values that stand in it; their limits; the bytes that they make, before

@@ -1,14 +1,14 @@
 -- 01, Nest: "Preamble D5 AA 96 (kind 2) or D5 D5 AA 96 (kind 3); id and length, 16 bits each, low byte first; payload 0 to 1,024
 -- bytes; CRC, low byte first, over id, length and payload".
 -- Assumes nothing.
+use mathlib.Core.List.{List, [], _∷_, _++_}
 use mathlib.Core.Path.{_≡_}
 use Prim.Native.Nat.{ℕ, _≤_, _<_}
-use mathlib.Core.List.{List, [], _∷_, _++_}
 use lib.ListN.{length}
 use Rattle.digits.specs.Paper.Bytes.{Bytes}
 use Rattle.digits.specs.Paper.LowFirst.{lowFirst}
-use Rattle.checks.specs.Paper.Check.{check}
 use Rattle.checks.specs.Paper.Buses.{nestCrc}
+use Rattle.checks.specs.Paper.Check.{check}
 use Rattle.layouts.specs.Paper.Layout.{Layout}
 use Rattle.layouts.specs.declared.nest.Direction.{Direction}
 use Rattle.layouts.specs.declared.nest.Direction.the-variants.{Command, Response}

@@ -1,16 +1,16 @@
 -- Recognisers of Homiq frames.
 -- Assumes nothing.
-use Prim.Native.Nat.{ℕ, _+_, _-_}
 use mathlib.Core.Bool.{Bool, _&&_, cond}
 use mathlib.Core.List.{List, [], _∷_, _++_}
+use Prim.Native.Nat.{ℕ, _+_, _-_}
 use lib.Dec.{eqb, leb, ltb}
-use lib.ListN.{length, getD, take, drop}
+use lib.ListN.{getD, take, drop}
 use Rattle.digits.specs.Paper.Ascii.{ascii}
 use Rattle.digits.specs.Paper.Bytes.{part}
 use Rattle.digits.specs.Paper.Decimal.{decimal}
 use Rattle.digits.specs.Work.Decimal.{guess}
-use Rattle.checks.specs.Paper.Check.{check}
 use Rattle.checks.specs.Paper.Buses.{homiqCrc}
+use Rattle.checks.specs.Paper.Check.{check}
 use Rattle.layouts.specs.Paper.Chars.{CR, LF}
 use Rattle.layouts.specs.Paper.Homiq.{fieldChar, firstId, lastId}
 use Rattle.layouts.specs.Work.Heads.{onlyIf, wordLen, leading, andThen, orElse, passing}

@@ -1,13 +1,13 @@
 -- Recognisers of Nest frames.
 -- Assumes nothing.
-use Prim.Native.Nat.{ℕ, _+_, _-_, _*_}
 use mathlib.Core.Bool.{Bool}
 use mathlib.Core.List.{List}
+use Prim.Native.Nat.{ℕ, _+_, _-_, _*_}
 use lib.Dec.{leb}
 use lib.ListN.{length, getD, take, drop}
 use Rattle.digits.specs.Paper.LowFirst.{lowFirst}
-use Rattle.checks.specs.Paper.Check.{check}
 use Rattle.checks.specs.Paper.Buses.{nestCrc}
+use Rattle.checks.specs.Paper.Check.{check}
 use Rattle.layouts.specs.Work.Heads.{onlyIf, starts, wordLen, bytesLen, andThen, passing}
 
 -- the payload's length, behind the preamble

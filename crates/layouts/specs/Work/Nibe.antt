@@ -1,14 +1,14 @@
 -- Recognisers of Nibe frames.
 -- Assumes nothing.
-use Prim.Native.Nat.{ℕ, _+_, _-_}
 use mathlib.Core.Bool.{Bool}
 use mathlib.Core.List.{List}
-use lib.Dec.{eqb, leb}
-use lib.ListN.{length, getD, take}
+use Prim.Native.Nat.{ℕ, _+_, _-_}
+use lib.Dec.{eqb}
+use lib.ListN.{length, getD}
 use Rattle.digits.specs.Paper.Bytes.{part}
-use Rattle.checks.specs.Paper.Check.{check}
 use Rattle.checks.specs.Paper.Buses.{nibeXor}
-use Rattle.layouts.specs.Paper.Chars.{oneOf, all}
+use Rattle.checks.specs.Paper.Check.{check}
+use Rattle.layouts.specs.Paper.Chars.{oneOf}
 use Rattle.layouts.specs.Paper.Nibe.{commands}
 use Rattle.layouts.specs.Work.Heads.{onlyIf, bytesLen, passing}
 

@@ -1,16 +1,16 @@
 -- Recognisers of Nikobus frames.
 -- Assumes nothing.
-use Prim.Native.Nat.{ℕ, _+_, _-_, _*_, _%_}
 use mathlib.Core.Bool.{Bool, true, _&&_, cond}
 use mathlib.Core.List.{List, [], _∷_, _++_}
+use Prim.Native.Nat.{ℕ, _+_, _-_, _*_, _%_}
 use lib.Dec.{eqb, leb, ltb}
 use lib.ListN.{length, getD, take, drop}
 use Rattle.digits.specs.Paper.Ascii.{ascii}
 use Rattle.digits.specs.Paper.Bytes.{part}
 use Rattle.digits.specs.Paper.Hex.{hexByte, hexWord}
 use Rattle.digits.specs.Work.Hex.{placeOf}
-use Rattle.checks.specs.Paper.Check.{check}
 use Rattle.checks.specs.Paper.Buses.{nikobusCrc16, nikobusCrc8}
+use Rattle.checks.specs.Paper.Check.{check}
 use Rattle.layouts.specs.Paper.Chars.{isHex, CR}
 use Rattle.layouts.specs.Work.Heads.{onlyIf, starts, wordLen, runLen, andThen, orElse, passing}
 

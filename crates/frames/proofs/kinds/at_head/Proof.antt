@@ -1,51 +1,37 @@
-use Rattle.frames.proofs.Laws.Kinds.{last-kind, nikobus-spot, command-spot, response-spot, nibe-spot, homiq-spot}
+-- `frames::kinds::at_head` meets its contract: each kind's layout answers for it.
+-- Assumes nothing.
 use borrow.Author.Needs.{needs}
+use Rattle.frames.proofs.Laws.Kinds.{last-kind, nikobus-spot, command-spot, response-spot, nibe-spot, homiq-spot}
 use Rattle.frames.proofs.kinds.at_head.Statement.{statement}
 use Rattle.frames.proofs.kinds.at_head.Tie as tie
-use Rattle.frames.proofs.kinds.at_head.Reads as reads
-use Rattle.frames.proofs.kinds.at_head.Lts as lts
-use Rattle.layouts.proofs.homiq.frame.Reads as homiq-frame-reads
-use Rattle.layouts.proofs.nest.frame.Reads as nest-frame-reads
-use Rattle.layouts.proofs.nibe.frame.Reads as nibe-frame-reads
-use Rattle.layouts.proofs.nikobus.frame.Reads as nikobus-frame-reads
 
--- src/kinds.rt:32:9
 frame-requires : tie.Need-frame-requires
 frame-requires c κs = search needs
 
--- src/kinds.rt:32:9
 returns : tie.Need-returns
 returns c = rw (c .before .if1 .taken) (nikobus-spot (c .frame .ensures))
 
--- src/kinds.rt:35:9
 frame-requires-2 : tie.Need-frame-requires-2
 frame-requires-2 c κs = search needs
 
--- src/kinds.rt:35:9
 returns-2 : tie.Need-returns-2
 returns-2 c = rw (c .before .if2 .taken) (command-spot (c .frame2 .ensures))
 
--- src/kinds.rt:38:9
 frame-requires-3 : tie.Need-frame-requires-3
 frame-requires-3 c κs = search needs
 
--- src/kinds.rt:38:9
 returns-3 : tie.Need-returns-3
 returns-3 c = rw (c .before .if3 .taken) (response-spot (c .frame3 .ensures))
 
--- src/kinds.rt:41:9
 frame-requires-4 : tie.Need-frame-requires-4
 frame-requires-4 c κs = search needs
 
--- src/kinds.rt:41:9
 returns-4 : tie.Need-returns-4
 returns-4 c = rw (c .before .if4 .taken) (nibe-spot (c .frame4 .ensures))
 
--- src/kinds.rt:43:5
 frame-requires-5 : tie.Need-frame-requires-5
 frame-requires-5 c κs = search needs
 
--- src/kinds.rt:25:1
 returns-5 : tie.Need-returns-5
 returns-5 c = rw (last-kind _ (c .before .before .before .before .before .before .pre) (c .before .before .before .before .if1 .left) (c .before .before .before .if2 .left) (c .before .before .if3 .left) (c .before .if4 .left)) (homiq-spot (c .frame5 .ensures))
 

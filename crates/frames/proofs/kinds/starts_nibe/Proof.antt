@@ -1,23 +1,19 @@
-use borrow.Author.Tests.{eq-eqb, ne-eqb}
+-- `frames::kinds::starts_nibe` meets its contract: by its tests.
+-- Assumes nothing.
 use borrow.Author.Needs.{needs}
+use borrow.Author.Tests.{eq-eqb, ne-eqb}
 use Rattle.frames.proofs.kinds.starts_nibe.Statement.{statement}
 use Rattle.frames.proofs.kinds.starts_nibe.Tie as tie
-use Rattle.frames.proofs.kinds.starts_nibe.Reads as reads
-use Rattle.frames.proofs.kinds.starts_nibe.Lts as lts
 
--- src/kinds.rt:100:8
 shared-slice-read-if1 : tie.Need-shared-slice-read-if1
 shared-slice-read-if1 c = search needs
 
--- src/kinds.rt:101:16
 shared-slice-read-result : tie.Need-shared-slice-read-result
 shared-slice-read-result c = search needs
 
--- src/kinds.rt:101:9
 returns : tie.Need-returns
 returns c = simp (eq-eqb _ _ (c .before .if1 .taken))
 
--- src/kinds.rt:96:1
 returns-2 : tie.Need-returns-2
 returns-2 c = simp (ne-eqb _ _ (c .if1 .left))
 

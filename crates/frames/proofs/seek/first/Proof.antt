@@ -1,63 +1,46 @@
+-- `frames::seek::first` meets its contract: one kind after the other; fewer than four bytes hold no frame.
+-- Assumes nothing.
 use native.Mathlib.Omega.{arith}
+use borrow.Author.Needs.{needs}
 use denote.Ref.{now}
 use Rattle.frames.proofs.Laws.Kinds.{last-kind}
 use Rattle.frames.proofs.Laws.Starts.{seek-left}
-use borrow.Author.Needs.{needs}
 use Rattle.frames.proofs.seek.first.Statement.{statement}
 use Rattle.frames.proofs.seek.first.Tie as tie
-use Rattle.frames.proofs.seek.first.Reads as reads
-use Rattle.frames.proofs.seek.first.Lts as lts
-use Rattle.frames.proofs.seek.first_command.Reads as first-command-reads
-use Rattle.frames.proofs.seek.first_homiq.Reads as first-homiq-reads
-use Rattle.frames.proofs.seek.first_nibe.Reads as first-nibe-reads
-use Rattle.frames.proofs.seek.first_nikobus.Reads as first-nikobus-reads
-use Rattle.frames.proofs.seek.first_response.Reads as first-response-reads
 
--- src/seek.rt:27:9
 returns : tie.Need-returns
 returns c = let s = c .before .before in seek-left (s .args .kind) (s .pre .0) (now (s .args .buffer)) (s .args .place) (omega (arith, c .if1 .taken))
 
--- src/seek.rt:29:15
 sub-end : tie.Need-sub-end
 sub-end c = search needs
 
--- src/seek.rt:31:9
 first-nikobus-requires : tie.Need-first-nikobus-requires
 first-nikobus-requires c κs = let s = c .before .before .before in (omega (arith, c .before .if1 .left), s .pre .1)
 
--- src/seek.rt:31:9
 returns-2 : tie.Need-returns-2
 returns-2 c = rw (c .before .if2 .taken) (c .first-nikobus .ensures)
 
--- src/seek.rt:34:9
 first-command-requires : tie.Need-first-command-requires
 first-command-requires c κs = let s = c .before .before .before .before in (omega (arith, c .before .before .if1 .left), s .pre .1)
 
--- src/seek.rt:34:9
 returns-3 : tie.Need-returns-3
 returns-3 c = rw (c .before .if3 .taken) (c .first-command .ensures)
 
--- src/seek.rt:37:9
 first-response-requires : tie.Need-first-response-requires
 first-response-requires c κs = let s = c .before .before .before .before .before in (omega (arith, c .before .before .before .if1 .left), s .pre .1)
 
--- src/seek.rt:37:9
 returns-4 : tie.Need-returns-4
 returns-4 c = rw (c .before .if4 .taken) (c .first-response .ensures)
 
--- src/seek.rt:40:9
 first-nibe-requires : tie.Need-first-nibe-requires
 first-nibe-requires c κs = let s = c .before .before .before .before .before .before in (omega (arith, c .before .before .before .before .if1 .left), s .pre .1)
 
--- src/seek.rt:40:9
 returns-5 : tie.Need-returns-5
 returns-5 c = rw (c .before .if5 .taken) (c .first-nibe .ensures)
 
--- src/seek.rt:42:5
 first-homiq-requires : tie.Need-first-homiq-requires
 first-homiq-requires c κs = let s = c .before .before .before .before .before .before in (omega (arith, c .before .before .before .before .if1 .left), s .pre .1)
 
--- src/seek.rt:20:1
 returns-6 : tie.Need-returns-6
 returns-6 c = rw (last-kind _ (c .before .before .before .before .before .before .before .pre .0) (c .before .before .before .before .if2 .left) (c .before .before .before .if3 .left) (c .before .before .if4 .left) (c .before .if5 .left)) (c .first-homiq .ensures)
 

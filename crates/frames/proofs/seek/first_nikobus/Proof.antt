@@ -1,18 +1,15 @@
+-- `frames::seek::first_nikobus` meets its contract: the search's loop, at kind 1.
+-- Assumes nothing.
 use mathlib.Core.Path.{refl, _∙_}
 use Prim.Native.Nat.{_-_}
-use lib.ListN.{length}
 use native.Mathlib.Omega.{arith}
+use lib.ListN.{length}
 use borrow.Author.Needs.{needs}
 use Rattle.frames.specs.Paper.Kinds.{known}
 use Rattle.frames.proofs.Laws.Kinds.{nikobus-spot}
 use Rattle.frames.proofs.Laws.Loops.{Seeking, hit-fits, hit-found, miss-next, none-left}
 use Rattle.frames.proofs.seek.first_nikobus.Statement.{statement}
 use Rattle.frames.proofs.seek.first_nikobus.Tie as tie
-use Rattle.frames.proofs.seek.first_nikobus.Reads as reads
-use Rattle.frames.proofs.seek.first_nikobus.Lts as lts
-use Rattle.frames.proofs.seek.found.Reads as found-reads
-use Rattle.frames.proofs.seek.skip.Reads as skip-reads
-use Rattle.layouts.proofs.nikobus.frame.Reads as frame-reads
 
 abbrev Inv-loop : tie.InvT-loop
 Inv-loop buffer place end at₀ at = Seeking 1 buffer place at
@@ -20,55 +17,43 @@ Inv-loop buffer place end at₀ at = Seeking 1 buffer place at
 abbrev μ-loop : tie.MeasureT-loop
 μ-loop buffer place end at₀ at = length buffer - at
 
--- src/seek.rt:51:5
 loop-holds : tie.Need-loop-holds Inv-loop μ-loop
 loop-holds c = record { within = c .before .pre .1; same = refl }
 
--- src/seek.rt:52:35
 sub-frame : tie.Need-sub-frame Inv-loop μ-loop
 sub-frame c = c .before .loop .inv .within
 
--- src/seek.rt:52:35
 part-frame-start : tie.Need-part-frame-start Inv-loop μ-loop
 part-frame-start c = c .before .loop .inv .within
 
--- src/seek.rt:52:35
 part-frame-end : tie.Need-part-frame-end Inv-loop μ-loop
 part-frame-end c = search needs
 
--- src/seek.rt:52:13
 frame-requires : tie.Need-frame-requires Inv-loop μ-loop
 frame-requires c κs = search needs
 
--- src/seek.rt:54:13
 found-requires : tie.Need-found-requires Inv-loop μ-loop
 unfolding known
 found-requires c κs = let s = c .before .before .before .before .before .before .before in hit-fits refl (c .before .before .before .before .before .loop .inv) (omega (arith, s .pre .0, c .before .before .before .before .loop-test .taken)) (nikobus-spot (c .before .before .frame .ensures)) (omega (arith, s .good))
 
--- src/seek.rt:54:13
 returns : tie.Need-returns Inv-loop μ-loop
 unfolding known
 returns c = let s = c .before .before .before .before .before .before .before .before in c .found .ensures ∙ hit-found refl (c .before .before .before .before .before .before .loop .inv) (omega (arith, s .pre .0, c .before .before .before .before .before .loop-test .taken)) (nikobus-spot (c .before .before .before .frame .ensures)) (c .before .if1 .taken)
 
--- src/seek.rt:56:30
 add-skip : tie.Need-add-skip Inv-loop μ-loop
 add-skip c = let s = c .before .before .before .before .before .before .before in omega (arith, s .pre .0, s .good, c .before .before .before .before .loop-test .taken)
 
--- src/seek.rt:56:9
 skip-requires : tie.Need-skip-requires Inv-loop μ-loop
 unfolding known
 skip-requires c κs = let s = c .before .before .before .before .before .before .before in (refl, (s .pre .0, omega (arith, s .pre .0, c .before .before .before .before .loop-test .taken)))
 
--- src/seek.rt:51:5
 loop-less : tie.Need-loop-less Inv-loop μ-loop
 loop-less c = let s = c .before .before .before .before .before .before .before .before in omega (arith, c .skip .ensures .0, s .pre .0, c .before .before .before .before .before .loop-test .taken)
 
--- src/seek.rt:51:5
 loop-again : tie.Need-loop-again Inv-loop μ-loop
 unfolding known
 loop-again c = let s = c .before .before .before .before .before .before .before .before in miss-next refl (c .before .before .before .before .before .before .loop .inv) (omega (arith, s .pre .0, c .before .before .before .before .before .loop-test .taken)) (nikobus-spot (c .before .before .before .frame .ensures)) (c .before .if1 .left) (c .skip .ensures .1 .0) (c .skip .ensures .1 .1)
 
--- src/seek.rt:45:1
 returns-2 : tie.Need-returns-2 Inv-loop μ-loop
 unfolding known
 returns-2 c = let s = c .before .before .before in none-left refl (c .before .loop .inv) (omega (arith, s .pre .0, c .loop-test .left))

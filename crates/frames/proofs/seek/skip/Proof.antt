@@ -1,17 +1,16 @@
+-- `frames::seek::skip` meets its contract: a place where no frame can begin changes nothing of what is found.
+-- Assumes nothing.
 use mathlib.Core.Path.{_≡_, refl, sym, _∙_}
 use Prim.Native.Nat.{_≤_, _-_}
-use lib.ListN.{length, drop}
-use denote.Ref.{now}
-use borrow.Author.Needs.{needs}
 use native.Mathlib.Omega.{arith}
+use lib.ListN.{length, drop}
+use borrow.Author.Needs.{needs}
+use denote.Ref.{now}
 use Rattle.digits.proofs.Laws.Parts.{length-part}
 use Rattle.frames.specs.Work.Seek.{seek}
 use Rattle.frames.proofs.Laws.Starts.{seek-pass}
 use Rattle.frames.proofs.seek.skip.Statement.{statement}
 use Rattle.frames.proofs.seek.skip.Tie as tie
-use Rattle.frames.proofs.seek.skip.Reads as reads
-use Rattle.frames.proofs.seek.skip.Lts as lts
-use Rattle.frames.proofs.kinds.may_start.Reads as may-start-reads
 
 abbrev Inv-loop : tie.InvT-loop
 Inv-loop kind buffer place end at₀ at = (place ≤ at) × ((at ≤ length buffer) × (seek kind (drop at buffer) at ≡ seek kind (drop place buffer) place))
@@ -19,43 +18,33 @@ Inv-loop kind buffer place end at₀ at = (place ≤ at) × ((at ≤ length buff
 abbrev μ-loop : tie.MeasureT-loop
 μ-loop kind buffer place end at₀ at = end - at
 
--- src/seek.rt:135:5
 loop-holds : tie.Need-loop-holds Inv-loop μ-loop
 loop-holds c = (omega arith, (c .before .pre .1 .1, refl))
 
--- src/seek.rt:136:35
 sub-may-start : tie.Need-sub-may-start Inv-loop μ-loop
 sub-may-start c = c .before .loop .inv .1 .0
 
--- src/seek.rt:136:35
 part-may-start-start : tie.Need-part-may-start-start Inv-loop μ-loop
 part-may-start-start c = c .before .loop .inv .1 .0
 
--- src/seek.rt:136:35
 part-may-start-end : tie.Need-part-may-start-end Inv-loop μ-loop
 part-may-start-end c = search needs
 
--- src/seek.rt:136:12
 may-start-requires : tie.Need-may-start-requires Inv-loop μ-loop
 may-start-requires c κs = let s = c .before .before .before .before in let b = now (s .args .buffer) in omega (arith, length-part (c .before .before .loop .at) (length b) b (c .before .before .loop .inv .1 .0) (omega arith), s .pre .1 .0, c .before .loop-test .taken)
 
--- src/seek.rt:137:13
 returns : tie.Need-returns Inv-loop μ-loop
 returns c = c .before .before .before .before .loop .inv
 
--- src/seek.rt:139:9
 add-at : tie.Need-add-at Inv-loop μ-loop
 add-at c = let s = c .before .before .before .before .before .before in omega (arith, s .pre .1 .0, s .good, c .before .before .before .loop-test .taken)
 
--- src/seek.rt:135:5
 loop-less : tie.Need-loop-less Inv-loop μ-loop
 loop-less c = search needs
 
--- src/seek.rt:135:5
 loop-again : tie.Need-loop-again Inv-loop μ-loop
 loop-again c = let s = c .before .before .before .before .before .before in let i = c .before .before .before .before .loop .inv in (omega (arith, i .0), (omega (arith, s .pre .1 .0, c .before .before .before .loop-test .taken), seek-pass _ (s .pre .0) (now (s .args .buffer)) _ (omega (arith, s .pre .1 .0, c .before .before .before .loop-test .taken)) _ refl (sym (c .before .may-start .ensures) ∙ c .if1 .left) ∙ i .1 .1))
 
--- src/seek.rt:126:1
 returns-2 : tie.Need-returns-2 Inv-loop μ-loop
 returns-2 c = c .before .loop .inv
 

@@ -1,60 +1,46 @@
+-- `layouts::nibe::form` meets its contract: the tests are the definition's, in its order; what is read are bytes.
+-- Assumes nothing.
 use mathlib.Core.Path.{sym, _∙_}
 use native.Mathlib.Omega.{arith}
-use borrow.Author.Tests.{not-true, not-false}
-use denote.Ref.{now}
-use Rattle.layouts.proofs.Laws.Nibe.{form-mark, form-command, form-short, form-there}
 use borrow.Author.Needs.{needs}
+use borrow.Author.Tests.{not-true, not-false}
+use Rattle.layouts.proofs.Laws.Nibe.{form-mark, form-command, form-short, form-there}
 use Rattle.layouts.proofs.nibe.form.Statement.{statement}
 use Rattle.layouts.proofs.nibe.form.Tie as tie
-use Rattle.layouts.proofs.nibe.form.Reads as reads
-use Rattle.layouts.proofs.nibe.form.Lts as lts
-use Rattle.layouts.proofs.words.one_of.Reads as one-of-reads
 
--- src/nibe.rt:36:9
 returns : tie.Need-returns
 returns c = form-short _ (omega (arith, c .if1 .taken))
 
--- src/nibe.rt:38:8
 shared-slice-read-if2 : tie.Need-shared-slice-read-if2
 shared-slice-read-if2 c = search needs
 
--- src/nibe.rt:39:9
 returns-2 : tie.Need-returns-2
 returns-2 c = form-mark _ (c .if2 .taken)
 
--- src/nibe.rt:41:23
 slice-aggregate-one-of : tie.Need-slice-aggregate-one-of
 slice-aggregate-one-of c = search needs
 
--- src/nibe.rt:41:56
 shared-slice-read-one-of : tie.Need-shared-slice-read-one-of
 shared-slice-read-one-of c = search needs
 
--- src/nibe.rt:41:9
 one-of-requires : tie.Need-one-of-requires
 one-of-requires c κs = search needs
 
--- src/nibe.rt:42:9
 returns-3 : tie.Need-returns-3
 returns-3 c = form-command _ (sym (c .before .one-of .ensures) ∙ not-true _ (c .if3 .taken))
 
--- src/nibe.rt:44:13
 shared-slice-read-n : tie.Need-shared-slice-read-n
 shared-slice-read-n c = search needs
 
--- src/nibe.rt:44:13
 cast-n : tie.Need-cast-n
 cast-n c = omega (arith, c .shared-slice-known4 .given 2)
 
--- src/nibe.rt:44:13
 add-n : tie.Need-add-n
 add-n c = omega (arith, c .shared-slice-known4 .given 2)
 
--- src/nibe.rt:46:9
 returns-4 : tie.Need-returns-4
 returns-4 c = form-short _ (c .if4 .taken)
 
--- src/nibe.rt:32:1
 returns-5 : tie.Need-returns-5
 returns-5 c = form-there _ (record { each = λ i. c .before .shared-slice-known4 .given i .fits }) (c .before .before .before .before .before .before .if2 .left) (sym (c .before .before .before .one-of .ensures) ∙ not-false _ (c .before .before .if3 .left)) (c .if4 .left)
 

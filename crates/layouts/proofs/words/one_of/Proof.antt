@@ -1,14 +1,13 @@
-use mathlib.Core.Path.{_≡_, refl, sym, _∙_}
+-- `layouts::words::one_of` meets its contract: what is left of the list is searched.
+-- Assumes nothing.
+use mathlib.Core.Path.{_≡_, refl, _∙_}
 use Prim.Native.Nat.{_≤_, _-_}
-use native.Mathlib.Omega.{arith}
 use lib.ListN.{length, drop}
 use borrow.Author.Needs.{needs}
 use Rattle.layouts.specs.Paper.Chars.{oneOf}
 use Rattle.layouts.proofs.Laws.Runs.{one-hit, one-miss, one-end}
 use Rattle.layouts.proofs.words.one_of.Statement.{statement}
 use Rattle.layouts.proofs.words.one_of.Tie as tie
-use Rattle.layouts.proofs.words.one_of.Reads as reads
-use Rattle.layouts.proofs.words.one_of.Lts as lts
 
 abbrev Inv-loop : tie.InvT-loop
 Inv-loop l x i₀ i = (i ≤ length l) × (oneOf (drop i l) x ≡ oneOf l x)
@@ -16,31 +15,24 @@ Inv-loop l x i₀ i = (i ≤ length l) × (oneOf (drop i l) x ≡ oneOf l x)
 abbrev μ-loop : tie.MeasureT-loop
 μ-loop l x i₀ i = length l - i
 
--- src/words.rt:77:5
 loop-holds : tie.Need-loop-holds Inv-loop μ-loop
 loop-holds c = (search needs, refl)
 
--- src/words.rt:78:17
 shared-slice-read-if1 : tie.Need-shared-slice-read-if1 Inv-loop μ-loop
 shared-slice-read-if1 c = search needs
 
--- src/words.rt:79:13
 returns : tie.Need-returns Inv-loop μ-loop
 returns c = let l = c .before .before .before in one-hit _ _ _ (c .before .before .loop-test .taken) (c .if1 .taken) ∙ c .before .before .before .loop .inv .1
 
--- src/words.rt:81:9
 add-i : tie.Need-add-i Inv-loop μ-loop
 add-i c = search needs
 
--- src/words.rt:77:5
 loop-less : tie.Need-loop-less Inv-loop μ-loop
 loop-less c = search needs
 
--- src/words.rt:77:5
 loop-again : tie.Need-loop-again Inv-loop μ-loop
 loop-again c = (search needs, one-miss _ _ _ (c .before .before .loop-test .taken) (c .if1 .left) ∙ c .before .before .before .loop .inv .1)
 
--- src/words.rt:73:1
 returns-2 : tie.Need-returns-2 Inv-loop μ-loop
 returns-2 c = one-end _ _ _ (c .loop-test .left) ∙ c .before .loop .inv .1
 

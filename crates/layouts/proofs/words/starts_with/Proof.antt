@@ -1,3 +1,5 @@
+-- `layouts::words::starts_with` meets its contract: the test of what is left of both is the test of both.
+-- Assumes nothing.
 use mathlib.Core.Path.{_≡_, refl, sym, _∙_}
 use Prim.Native.Nat.{_≤_, _-_}
 use native.Mathlib.Omega.{arith}
@@ -7,8 +9,6 @@ use Rattle.layouts.specs.Work.Heads.{starts}
 use Rattle.layouts.proofs.Laws.Runs.{starts-hit, starts-miss, starts-end, starts-short}
 use Rattle.layouts.proofs.words.starts_with.Statement.{statement}
 use Rattle.layouts.proofs.words.starts_with.Tie as tie
-use Rattle.layouts.proofs.words.starts_with.Reads as reads
-use Rattle.layouts.proofs.words.starts_with.Lts as lts
 
 abbrev Inv-loop : tie.InvT-loop
 Inv-loop s p i₀ i = (i ≤ length p) × (starts (drop i p) (drop i s) ≡ starts p s)
@@ -16,39 +16,30 @@ Inv-loop s p i₀ i = (i ≤ length p) × (starts (drop i p) (drop i s) ≡ star
 abbrev μ-loop : tie.MeasureT-loop
 μ-loop s p i₀ i = length p - i
 
--- src/words.rt:14:9
 returns : tie.Need-returns Inv-loop μ-loop
 returns c = sym (starts-short _ _ (c .if1 .taken))
 
--- src/words.rt:17:5
 loop-holds : tie.Need-loop-holds Inv-loop μ-loop
 loop-holds c = (search needs, refl)
 
--- src/words.rt:18:12
 shared-slice-read-if2 : tie.Need-shared-slice-read-if2 Inv-loop μ-loop
 shared-slice-read-if2 c = search needs
 
--- src/words.rt:18:20
 shared-slice-read-if2-2 : tie.Need-shared-slice-read-if2-2 Inv-loop μ-loop
 shared-slice-read-if2-2 c = search needs
 
--- src/words.rt:19:13
 returns-2 : tie.Need-returns-2 Inv-loop μ-loop
 returns-2 c = let l = c .before .before .before in starts-miss _ _ _ (l .loop-test .taken) (omega arith) (c .if2 .taken) ∙ l .before .loop .inv .1
 
--- src/words.rt:21:9
 add-i : tie.Need-add-i Inv-loop μ-loop
 add-i c = search needs
 
--- src/words.rt:17:5
 loop-less : tie.Need-loop-less Inv-loop μ-loop
 loop-less c = search needs
 
--- src/words.rt:17:5
 loop-again : tie.Need-loop-again Inv-loop μ-loop
 loop-again c = let l = c .before .before .before in (search needs, starts-hit _ _ _ (l .loop-test .taken) (omega arith) (c .if2 .left) ∙ l .before .loop .inv .1)
 
--- src/words.rt:10:1
 returns-3 : tie.Need-returns-3 Inv-loop μ-loop
 returns-3 c = starts-end _ _ _ (c .loop-test .left) ∙ c .before .loop .inv .1
 
