@@ -8,7 +8,7 @@ use Prim.Native.Nat.{ℕ, zero, suc, _+_, _-_, _^_, _≤_, _<_}
 use native.Mathlib.Omega.{arith}
 use lib.Dec.{T, eqb, leb, eqb→eq, leb→le}
 use lib.ListN.{length, take, drop, length-append, length-drop, take-append-drop}
-use lib.Seq.{take-append-seam, drop-append-seam, length-take-le, take-at}
+use lib.Seq.{take-append-seam, drop-append-seam, length-take-le, take-at, drop-at}
 use borrow.Author.Tests.{eq-eqb, le-leb}
 use Rattle.digits.proofs.Laws.Parts.{part-rest}
 use Rattle.digits.proofs.Laws.Tests.{T-and, T-true}
@@ -167,6 +167,13 @@ run-inside f k s = go (leb k (length s)) refl
     go : (b : Bool) → leb k (length s) ≡ b → onlyIf b (onlyIf (all f (take k s)) k) ≤ length s
     go true e = inner (all f (take k s)) (leb→le k (length s) (rw e tt))
     go false e = omega arith
+
+-- two lists, each of two parts of which the first are equally long: the parts are the same
+pub cut-same : (a b c d : List ℕ) → length a ≡ length b → a ++ c ≡ b ++ d → (a ≡ b) × (c ≡ d)
+cut-same a b c d l e = (
+  sym (take-append-seam a c) ∙ ap (take (length a)) e ∙ take-at b d (length a) (sym l),
+  sym (drop-append-seam a c) ∙ ap (drop (length a)) e ∙ drop-at b d (length a) (sym l),
+)
 
 -- ---- one after another
 

@@ -22,7 +22,7 @@ use Rattle.layouts.specs.Work.Heads.{starts, isByte, bytesLen}
 use Rattle.layouts.specs.Work.Nest.{payloadLen, bodyLen, nestFormLen, crcPasses, nestPasses, nestFrom, nestTo}
 use Rattle.layouts.proofs.Laws.Buses.{Bus, found-length}
 use Rattle.layouts.proofs.Laws.ByteRuns.{all-bytes, bytes-all, bytes-short, bytes-there}
-use Rattle.layouts.proofs.Laws.Heads.{Head, Right, Then, Run, run-right, only-test, only-eq, only-yes, only-no, only-zero, inside, word-right, then-right, same-right, join, glue, starts-same, same-starts}
+use Rattle.layouts.proofs.Laws.Heads.{Head, Right, Then, Run, run-right, only-test, only-eq, only-yes, only-no, only-zero, inside, word-right, then-right, same-right, join, glue, starts-same, same-starts, cut-same}
 
 -- ---- id, length, payload and CRC
 
@@ -197,6 +197,23 @@ module _ (mark : List ℕ) (some : 0 < length mark) where
   -- NEST: its recognisers find its frames, and only those
   pub nest-bus : Bus (nestWith mark) (nestFormLen mark) (nestPasses mark) (nestFrom mark) (nestTo mark)
   nest-bus = record { forms = forms; passed = passed; passes = passes; begins = begins; ends = ends }
+
+-- no two frames' fields have the same bytes
+pub nest-one : (mark : List ℕ) → 0 < length mark → (m n : Nest) → Limits m → Limits n → bytesOf (nestWith mark) m ≡ bytesOf (nestWith mark) n → m ≡ n
+unfolding lowFirst
+nest-one mark some m n lm ln e =
+    let h : covered (m .id) (m .payload) ++ lowFirst 2 (m .crc) ≡ covered (n .id) (n .payload) ++ lowFirst 2 (n .crc) =
+    sym (behind-mark mark some m) ∙ ap (drop (length mark)) e ∙ behind-mark mark some n in
+    let short = lm .short in
+    let short′ = ln .short in
+    let i : m .id ≡ n .id = low-inj 2 (m .id) (n .id) (lm .id) (ln .id) (ap (take 2) h) in
+    let l : length (m .payload) ≡ length (n .payload) = low-inj 2 (length (m .payload)) (length (n .payload)) (omega arith) (omega arith) (ap (λ (s : List ℕ). take 2 (drop 2 s)) h) in
+    let q = cut-same (m .payload) (n .payload) (lowFirst 2 (m .crc)) (lowFirst 2 (n .crc)) l (ap (drop 4) h) in
+    same (m .id) (n .id) (m .payload) (n .payload) (m .crc) (n .crc) i (q .0) (low-inj 2 (m .crc) (n .crc) (lm .crc) (ln .crc) (q .1))
+  where
+    same : (a b : ℕ) (c d : List ℕ) (x y : ℕ) → a ≡ b → c ≡ d → x ≡ y
+        → _≡_ {A = Nest} (record { id = a; payload = c; crc = x }) (record { id = b; payload = d; crc = y })
+    same a b c d x y p q r = rw (p, q, r)
 
 -- ---- what the code answers
 

@@ -22,7 +22,7 @@ use Rattle.layouts.specs.Work.Heads.{onlyIf, isByte, bytesLen}
 use Rattle.layouts.specs.Work.Nibe.{nibeFormLen, nibePasses, nibeFrom, nibeTo}
 use Rattle.layouts.proofs.Laws.Buses.{Bus, found-length, found-part}
 use Rattle.layouts.proofs.Laws.ByteRuns.{all-bytes, bytes-all, one-of-bytes, bytes-short, bytes-there}
-use Rattle.layouts.proofs.Laws.Heads.{Head, Right, Run, run-right, only-test, only-eq, only-yes, only-no, only-zero}
+use Rattle.layouts.proofs.Laws.Heads.{Head, Right, Run, run-right, only-test, only-eq, only-yes, only-no, only-zero, cut-same}
 
 -- the last element of a list, and those before it
 last-split : (n : ℕ) (u : List ℕ) → length u ≡ n + 1 → u ≡ take n u ++ (getD u n 0 ∷ [])
@@ -129,6 +129,17 @@ ends w r = let m = r .fields in rw (r .laid) (omega (arith, length-append (m .co
 -- NIBE: its recognisers find its frames, and only those
 pub nibe-bus : Bus nibe nibeFormLen nibePasses nibeFrom nibeTo
 nibe-bus = record { forms = forms; passed = passed; passes = passes; begins = λ w r. refl; ends = ends }
+
+-- no two frames' fields have the same bytes
+pub nibe-one : (m n : Nibe) → bytesOf nibe m ≡ bytesOf nibe n → m ≡ n
+nibe-one m n e =
+    let l : length (m .content) ≡ length (n .content) = ap (λ (s : List ℕ). getD s 2 0) e in
+    let q = cut-same (m .content) (n .content) (m .xor ∷ []) (n .xor ∷ []) l (ap (drop 3) e) in
+    same (m .command) (n .command) (m .content) (n .content) (m .xor) (n .xor) (ap (λ (s : List ℕ). getD s 1 0) e) (q .0) (ap (λ (s : List ℕ). getD s 0 0) (q .1))
+  where
+    same : (a b : ℕ) (c d : List ℕ) (x y : ℕ) → a ≡ b → c ≡ d → x ≡ y
+        → _≡_ {A = Nibe} (record { command = a; content = c; xor = x }) (record { command = b; content = d; xor = y })
+    same a b c d x y p q r = rw (p, q, r)
 
 -- ---- what the code answers
 
