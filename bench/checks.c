@@ -1,20 +1,9 @@
 /* The time of the proved engines over 64 KiB, as a ratio to the same loop in C, compiled by the same compiler, in the same run.
    The two take turns, so that what else the machine does falls on both; the least time of each counts. */
 #include "../tests/probe.h"
+#include "clock.h"
 
 enum { SIZE = 65536, TURNS = 300 };
-
-struct timespec {
-    long seconds;
-    long nanoseconds;
-};
-int clock_gettime(int clock, struct timespec *now);
-
-static double now(void) {
-    struct timespec t;
-    clock_gettime(1, &t); /* CLOCK_MONOTONIC */
-    return (double)t.seconds * 1e6 + (double)t.nanoseconds / 1e3;
-}
 
 /* The same loops, bit by bit, as one would write them in C. */
 static u16 high16(u16 v, const u8 *s, usize n) {

@@ -3,20 +3,9 @@
 #include "../include/bolsterweft.h"
 #include "../tests/frames_in_c.h"
 #include "../tests/frames_made.h"
+#include "clock.h"
 
 enum { SIZE = 65536 };
-
-struct timespec {
-    long seconds;
-    long nanoseconds;
-};
-int clock_gettime(int clock, struct timespec *now);
-
-static double now(void) {
-    struct timespec t;
-    clock_gettime(1, &t); /* CLOCK_MONOTONIC */
-    return (double)t.seconds * 1e6 + (double)t.nanoseconds / 1e3;
-}
 
 static u8 b[SIZE];
 
