@@ -17,9 +17,9 @@ use Rattle.frames.specs.Work.Frames.{frameLen, fromOf, toOf, headFrom, h
 use Rattle.frames.specs.Work.Seek.{seek, searched}
 use Rattle.frames.specs.declared.Found.the-variants.{At, Refused}
 use Rattle.layouts.specs.Paper.Chars.{oneOf, all, isHex, CR, LF}
-use Rattle.layouts.specs.Paper.Homiq.{fieldChar}
+use Rattle.layouts.specs.Paper.Homiq.{fieldChar, kept}
 use Rattle.layouts.specs.Work.Heads.{onlyIf, starts, wordLen, runLen, isByte, leading, on}
-use Rattle.layouts.specs.Work.Homiq.{fieldLen, isFigure, numberIn, numberLen, typeLen, headLen, homiqFormLen, kept, homiqPasses, homiqLen, homiqTo}
+use Rattle.layouts.specs.Work.Homiq.{fieldLen, isFigure, numberIn, numberLen, typeLen, headLen, homiqFormLen, homiqPasses, homiqLen, homiqTo}
 use Rattle.layouts.specs.Work.Nest.{bodyLen, nestFormLen, crcPasses, nestPasses, nestLen}
 use Rattle.layouts.specs.Work.Nibe.{nibeFormLen, nibePasses, nibeLen}
 use Rattle.layouts.specs.Work.Nikobus.{bytesOf, llOf, linkHeadLen, linkFormLen, pressLen, tailLen, nikobusFormLen, passes16, passes8, nikobusPasses, nikobusLen, nikobusFrom, nikobusTo}

@@ -13,7 +13,8 @@ ghost use lib.ListN.{length, getD};
 ghost use Rattle.frames.specs.Paper.Kinds as paper;
 ghost use Rattle.frames.specs.Work.Frames.{frameLen, headFrom, headTo, mayStart};
 
-pub(crate) fn known(kind: u8) -> bool
+// Whether a kind is one of those.
+pub fn known(kind: u8) -> bool
     ensures { λ r. ⌜ r ≡ paper.known kind ⌝ }
 {
     if kind < 1 {

@@ -1,5 +1,5 @@
 // Frames of the five kinds in a buffer: the search, and the parts that it hands back.
-mod kinds;
+pub mod kinds;
 mod seek;
 
 use digits::refusal::Refusal;

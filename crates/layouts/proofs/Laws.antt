@@ -10,3 +10,4 @@ pub mod HomiqOne
 pub mod HomiqFrame
 pub mod HexDigits
 pub mod Nikobus
+pub mod Made

@@ -2,10 +2,12 @@
 -- Assumes nothing.
 use mathlib.Core.Bool.{Bool}
 use mathlib.Core.List.{List}
-use mathlib.Core.Path.{_≡_}
+use mathlib.Core.Path.{_≡_, sym, _∙_}
 use Prim.Native.Nat.{ℕ, suc, _<_}
 use native.Mathlib.Omega.{arith}
-use Rattle.layouts.specs.Paper.Homiq.{homiq}
+use Rattle.checks.specs.Paper.Buses.{homiqCrc}
+use Rattle.checks.specs.Paper.Check.{check}
+use Rattle.layouts.specs.Paper.Homiq.{homiq, kept}
 use Rattle.layouts.specs.Paper.Layout.{Layout, Leads}
 use Rattle.layouts.specs.Paper.Nest.{preamble, nest}
 use Rattle.layouts.specs.Paper.Nibe.{nibe}
@@ -49,3 +51,7 @@ nibe-frame = one-spot nibe-bus
 -- homiq::frame
 pub homiq-frame : {s : List ℕ} (r q : Spot) → Answered homiq s r → Answered homiq s q → r ≡ q
 homiq-frame = one-spot homiq-bus
+
+-- homiq::crc: the promise is an equation
+pub homiq-crc : (s : List ℕ) {r q : ℕ} → r ≡ check homiqCrc (kept s) → q ≡ check homiqCrc (kept s) → r ≡ q
+homiq-crc s e f = e ∙ sym f

@@ -4,3 +4,4 @@ pub mod Nikobus
 pub mod Nest
 pub mod Nibe
 pub mod Homiq
+pub mod Made

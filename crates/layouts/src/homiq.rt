@@ -14,9 +14,9 @@ ghost use Rattle.checks.specs.Paper.Check.{feed, check};
 ghost use Rattle.checks.specs.Paper.Buses.{homiqCrc};
 ghost use Rattle.layouts.specs.Paper.Chars.{all};
 ghost use Rattle.layouts.specs.Paper.Layout.{Leads};
-ghost use Rattle.layouts.specs.Paper.Homiq.{homiq, fieldChar};
+ghost use Rattle.layouts.specs.Paper.Homiq.{homiq, fieldChar, kept};
 ghost use Rattle.layouts.specs.Work.Heads.{leading, onward};
-ghost use Rattle.layouts.specs.Work.Homiq.{fieldLen, isFigure, numberLen, typeLen, headLen, kept};
+ghost use Rattle.layouts.specs.Work.Homiq.{fieldLen, isFigure, numberLen, typeLen, headLen};
 
 // The frame at the head of s; its payload is CMD to TYPE.
 pub fn frame(s: &[u8]) -> Spot
@@ -28,7 +28,7 @@ pub fn frame(s: &[u8]) -> Spot
     if n == 0 {
         return nothing();
     }
-    if crc_of(&s[2..before]) as u16 != value(&s[before..behind - 1]) {
+    if crc(&s[2..before]) as u16 != value(&s[before..behind - 1]) {
         return nothing();
     }
     Spot {
@@ -36,6 +36,19 @@ pub fn frame(s: &[u8]) -> Spot
         from: 2,
         to: before - 1,
     }
+}
+
+// The CRC that closes a payload, CMD to TYPE: over its characters without the separators.
+pub fn crc(s: &[u8]) -> u8
+    ensures { λ r. ⌜ r ≡ check homiqCrc (kept (now (s .entry))) ⌝ }
+{
+    let mut sum = Crc::new();
+    let mut i = 0;
+    while i < s.len() {
+        sum = crc_on(sum, s[i]);
+        i += 1;
+    }
+    sum.value
 }
 
 // The end of `<;` and six fields, each with its `;`.
@@ -225,25 +238,12 @@ fn type_of(s: &[u8]) -> usize
     words::word(s, b"a;")
 }
 
-// The CRC of s, `;` left out.
-fn crc_of(s: &[u8]) -> u8
-    ensures { λ r. ⌜ r ≡ check homiqCrc (kept (now (s .entry))) ⌝ }
-{
-    let mut crc = Crc::new();
-    let mut i = 0;
-    while i < s.len() {
-        crc = crc_on(crc, s[i]);
-        i += 1;
-    }
-    crc.value
-}
-
 // The CRC after a character, where that is not `;`.
 fn crc_on(crc: Crc, c: u8) -> Crc
     ensures { λ r. ⌜ r .value ≡ feed homiqCrc (crc .value) (kept (c ∷ [])) ⌝ }
 {
-    if c == b';' {
-        return crc;
+    if c != b';' {
+        return crc.byte(c);
     }
-    crc.byte(c)
+    crc
 }

@@ -20,7 +20,7 @@ written-cases : (P : Written → Type 0) → ((n : ℕ) → P (Bytes n)) → ((w
 written-cases P f g (Bytes n) = f n
 written-cases P f g (Refused why) = g why
 
-written-answer : (r q : Written) → writtenRefusal r ≡ writtenRefusal q → writtenCount r ≡ writtenCount q → r ≡ q
+pub written-answer : (r q : Written) → writtenRefusal r ≡ writtenRefusal q → writtenCount r ≡ writtenCount q → r ≡ q
 written-answer = same-answer Bytes Refused writtenRefusal writtenCount (λ n. refl) (λ why. refl) (λ n. refl) written-cases
 
 -- every call that writes into a lent room

@@ -17,9 +17,9 @@ use Rattle.checks.proofs.Laws.Feed.{feed-lt, feed-append, feed-nil}
 use Rattle.checks.specs.Paper.Buses.{homiqCrc}
 use Rattle.checks.specs.Paper.Check.{feed, check}
 use Rattle.layouts.specs.Paper.Chars.{oneOf, all, CR, LF}
-use Rattle.layouts.specs.Paper.Homiq.{Homiq, fieldChar, firstId, lastId, Limits, payload, joined, homiq}
+use Rattle.layouts.specs.Paper.Homiq.{Homiq, fieldChar, firstId, lastId, Limits, payload, joined, homiq, kept}
 use Rattle.layouts.specs.Paper.Layout.{bytesOf, Form}
-use Rattle.layouts.specs.Work.Homiq.{numberIn, headLen, homiqFormLen, kept, homiqPasses, homiqFrom, homiqTo}
+use Rattle.layouts.specs.Work.Homiq.{numberIn, headLen, homiqFormLen, homiqPasses, homiqFrom, homiqTo}
 use Rattle.layouts.proofs.Laws.Buses.{Bus}
 use Rattle.layouts.proofs.Laws.Heads.{Right, Then, join, glue, word-right, then-right, same-right}
 use Rattle.layouts.proofs.Laws.HomiqFields.{Fielded, Numbered, Typed, field-right, number-right, type-right, number-read, char-bounds, decimal-chars}
@@ -248,6 +248,12 @@ front-kept m l =
       kept-closed (decimal (m .id)) (decimal-chars (m .id)),
       kept-closed (m .type ∷ []) (type-chars (m .type) (l .type)),
     )
+
+-- the payload too, whose last field has no separator behind it
+pub payload-kept : (m : Homiq) → Limits m → kept (payload m) ≡ joined m
+unfolding kept
+payload-kept m l =
+    sym (append-nil (kept (payload m))) ∙ sym (kept-append (payload m) (ascii ";")) ∙ ap (λ (u : List ℕ). kept (drop 2 u)) (sym (front-payload m)) ∙ front-kept m l
 
 -- ---- what stands where in a list that starts with a frame's bytes
 

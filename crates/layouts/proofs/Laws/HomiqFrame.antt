@@ -17,10 +17,10 @@ use Rattle.digits.specs.Work.Decimal.{guess}
 use Rattle.checks.specs.Paper.Buses.{homiqCrc}
 use Rattle.checks.specs.Paper.Check.{check}
 use Rattle.layouts.specs.Paper.Chars.{all}
-use Rattle.layouts.specs.Paper.Homiq.{joined, homiq}
+use Rattle.layouts.specs.Paper.Homiq.{joined, homiq, kept}
 use Rattle.layouts.specs.Paper.Layout.{Form, Leads}
 use Rattle.layouts.specs.Work.Heads.{onlyIf, wordLen, on, onward, passing}
-use Rattle.layouts.specs.Work.Homiq.{fieldLen, isFigure, numberLen, typeLen, headLen, homiqFormLen, kept, homiqPasses, homiqTo}
+use Rattle.layouts.specs.Work.Homiq.{fieldLen, isFigure, numberLen, typeLen, headLen, homiqFormLen, homiqPasses, homiqTo}
 use Rattle.layouts.proofs.Laws.Buses.{leads-at, leads-none}
 use Rattle.layouts.proofs.Laws.Heads.{taken, inside, only-yes, only-no, only-zero, back-of, on-both, ends-inside}
 use Rattle.layouts.proofs.Laws.Homiq.{frontOf, closing, form-right, form-laid, form-head, form-passes, front-length, front-covered, homiq-bus}

@@ -13,9 +13,9 @@ use Rattle.digits.specs.Paper.Ascii.{ascii}
 use Rattle.digits.specs.Paper.Bytes.{Bytes}
 use Rattle.digits.specs.Paper.Decimal.{decimal}
 use Rattle.layouts.specs.Paper.Chars.{all}
-use Rattle.layouts.specs.Paper.Homiq.{Homiq, fieldChar, Field, firstId, lastId, Limits, joined, homiq}
+use Rattle.layouts.specs.Paper.Homiq.{Homiq, fieldChar, Field, firstId, lastId, Limits, joined, homiq, kept}
 use Rattle.layouts.specs.Paper.Layout.{bytesOf}
-use Rattle.layouts.specs.Work.Homiq.{kept, numberIn}
+use Rattle.layouts.specs.Work.Homiq.{numberIn}
 use Rattle.layouts.proofs.Laws.Heads.{Right, one-word}
 use Rattle.layouts.proofs.Laws.Homiq.{frontOf, head-right, closing, front-homiq, kept-closed, type-chars}
 use Rattle.layouts.proofs.Laws.HomiqFields.{field-right, number-right, number-read, char-bounds, decimal-chars}

@@ -1,10 +1,10 @@
 -- 01, Homiq: "`<;CMD;VAL;SRC;DST;ID;TYPE;CRC;>` CR LF."
 -- Assumes nothing.
-use mathlib.Core.Bool.{Bool, _&&_, not}
+use mathlib.Core.Bool.{Bool, _&&_, cond, not}
 use mathlib.Core.List.{List, [], _∷_, _++_}
 use mathlib.Core.Path.{_≡_}
 use Prim.Native.Nat.{ℕ, _≤_}
-use lib.Dec.{T, leb}
+use lib.Dec.{T, eqb, leb}
 use lib.ListN.{length}
 use Rattle.digits.specs.Paper.Ascii.{ascii}
 use Rattle.digits.specs.Paper.Decimal.{decimal}
@@ -66,6 +66,11 @@ behind m = ascii ";" ++ decimal (m .crc) ++ ascii ";>" ++ (CR ∷ LF ∷ [])
 -- "the six fields joined without separators"
 abbrev pub joined : Homiq → List ℕ
 joined m = m .cmd ++ m .val ++ m .src ++ m .dst ++ decimal (m .id) ++ (m .type ∷ [])
+
+-- the payload's characters without its separators: all but `;`
+unfoldable pub kept : List ℕ → List ℕ
+kept [] = []
+kept (x ∷ s) = cond (eqb x 59) (kept s) (x ∷ kept s)
 
 -- "The CRC covers the six fields joined without separators"
 abbrev pub Passes : Homiq → Type 0

@@ -1,6 +1,6 @@
 -- Recognisers of Homiq frames.
 -- Assumes nothing.
-use mathlib.Core.Bool.{Bool, _&&_, cond}
+use mathlib.Core.Bool.{Bool, _&&_}
 use mathlib.Core.List.{List, [], _∷_, _++_}
 use Prim.Native.Nat.{ℕ, _+_, _-_}
 use lib.Dec.{eqb, leb, ltb}
@@ -12,7 +12,7 @@ use Rattle.digits.specs.Work.Decimal.{guess}
 use Rattle.checks.specs.Paper.Buses.{homiqCrc}
 use Rattle.checks.specs.Paper.Check.{check}
 use Rattle.layouts.specs.Paper.Chars.{CR, LF}
-use Rattle.layouts.specs.Paper.Homiq.{fieldChar, firstId, lastId}
+use Rattle.layouts.specs.Paper.Homiq.{fieldChar, firstId, lastId, kept}
 use Rattle.layouts.specs.Work.Heads.{onlyIf, wordLen, leading, andThen, orElse, passing}
 
 -- a field of at most so many characters, and `;`
@@ -48,11 +48,6 @@ headLen =
 -- .. CRC `;` `>` CR LF
 unfoldable pub homiqFormLen : List ℕ → ℕ
 homiqFormLen = andThen (andThen headLen (λ _. numberLen 0 255)) (λ _. wordLen (ascii ">" ++ (CR ∷ LF ∷ [])))
-
--- all but `;`
-unfoldable pub kept : List ℕ → List ℕ
-kept [] = []
-kept (x ∷ s) = cond (eqb x 59) (kept s) (x ∷ kept s)
 
 -- the number behind TYPE is the CRC of what stands from CMD to there, the separators left out
 unfoldable pub homiqPasses : List ℕ → Bool

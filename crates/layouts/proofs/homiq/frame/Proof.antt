@@ -12,7 +12,7 @@ use Rattle.layouts.proofs.homiq.frame.Statement.{statement}
 use Rattle.layouts.proofs.homiq.frame.Tie as tie
 use Rattle.layouts.proofs.homiq.frame.Reads as reads
 use Rattle.layouts.proofs.homiq.frame.Lts as lts
-use Rattle.layouts.proofs.homiq.crc_of.Reads as crc-of-reads
+use Rattle.layouts.proofs.homiq.crc.Reads as crc-reads
 use Rattle.layouts.proofs.homiq.head.Reads as head-reads
 use Rattle.layouts.proofs.homiq.number_at.Reads as number-at-reads
 use Rattle.layouts.proofs.homiq.value.Reads as value-reads
@@ -49,8 +49,8 @@ Behind =
       word-at-reads.Learnt,
       nothing-reads.Asked,
       nothing-reads.Learnt,
-      crc-of-reads.Asked,
-      crc-of-reads.Learnt,
+      crc-reads.Asked,
+      crc-reads.Learnt,
       value-reads.Asked,
       value-reads.Learnt,
     )
@@ -63,17 +63,17 @@ found c =
     let w = c .before in
     frame-found _ _ _ _ (w .before .before .before .head .ensures) (w .before .before .number-at .ensures) (w .word-at .ensures) (c .if1 .left)
 
-sub-crc-of : tie.Need-sub-crc-of
-sub-crc-of c = found c .two
+sub-crc : tie.Need-sub-crc
+sub-crc c = found c .two
 
-part-crc-of-start : tie.Need-part-crc-of-start
-part-crc-of-start c = found c .two
+part-crc-start : tie.Need-part-crc-start
+part-crc-start c = found c .two
 
-part-crc-of-end : tie.Need-part-crc-of-end
-part-crc-of-end c = let f = found c in omega (arith, f .crosses, f .inner)
+part-crc-end : tie.Need-part-crc-end
+part-crc-end c = let f = found c in omega (arith, f .crosses, f .inner)
 
-crc-of-requires : tie.Need-crc-of-requires
-crc-of-requires c κs = search needs
+crc-requires : tie.Need-crc-requires
+crc-requires c κs = search needs
 
 cast-if2 : tie.Need-cast-if2
 cast-if2 c = search needs
@@ -97,13 +97,13 @@ nothing-requires-2 : tie.Need-nothing-requires-2
 nothing-requires-2 c κs = search needs
 
 returns-2 : tie.Need-returns-2
-returns-2 c = let v = c .before .before in rw (c .nothing2 .ensures .0, c .nothing2 .ensures .1 .0, c .nothing2 .ensures .1 .1) (frame-other (found (c .before .before .before .before .before .before)) _ _ (v .before .before .crc-of .ensures) (v .value .ensures) (c .before .if2 .taken))
+returns-2 c = let v = c .before .before in rw (c .nothing2 .ensures .0, c .nothing2 .ensures .1 .0, c .nothing2 .ensures .1 .1) (frame-other (found (c .before .before .before .before .before .before)) _ _ (v .before .before .crc .ensures) (v .value .ensures) (c .before .if2 .taken))
 
 sub-t11 : tie.Need-sub-t11
 sub-t11 c = let f = found (c .before .before .before .before .before) in omega (arith, f .two)
 
 returns-3 : tie.Need-returns-3
-returns-3 c = frame-same (found (c .before .before .before .before .before)) _ _ (c .before .before .before .crc-of .ensures) (c .before .value .ensures) (c .if2 .left)
+returns-3 c = frame-same (found (c .before .before .before .before .before)) _ _ (c .before .before .before .crc .ensures) (c .before .value .ensures) (c .if2 .left)
 
 pub frame-spec : {M : Type 1} → statement M
 frame-spec =
@@ -115,10 +115,10 @@ frame-spec =
     word-at-requires
     nothing-requires
     returns
-    sub-crc-of
-    part-crc-of-start
-    part-crc-of-end
-    crc-of-requires
+    sub-crc
+    part-crc-start
+    part-crc-end
+    crc-requires
     cast-if2
     sub-value
     sub-value-2

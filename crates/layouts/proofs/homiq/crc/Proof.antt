@@ -1,17 +1,17 @@
--- `layouts::homiq::crc_of` meets its contract: what is left from the index on completes the CRC.
+-- `layouts::homiq::crc` meets its contract: what is left from the index on completes the CRC.
 -- Assumes nothing.
 use Prim.Native.Nat.{_-_}
 use lib.ListN.{length}
 use borrow.Author.Needs.{needs}
 use Rattle.layouts.proofs.Laws.Homiq.{Summing, summing-start, summing-next, summing-end}
-use Rattle.layouts.proofs.homiq.crc_of.Statement.{statement}
-use Rattle.layouts.proofs.homiq.crc_of.Tie as tie
+use Rattle.layouts.proofs.homiq.crc.Statement.{statement}
+use Rattle.layouts.proofs.homiq.crc.Tie as tie
 
 abbrev Inv-loop : tie.InvT-loop
-Inv-loop s crc₀ i₀ crc i = Summing s (crc .value) i
+Inv-loop s sum₀ i₀ sum i = Summing s (sum .value) i
 
 abbrev μ-loop : tie.MeasureT-loop
-μ-loop s crc₀ i₀ crc i = length s - i
+μ-loop s sum₀ i₀ sum i = length s - i
 
 new-requires : tie.Need-new-requires Inv-loop μ-loop
 new-requires c κs = search needs
@@ -37,8 +37,8 @@ loop-again c = summing-next _ (c .before .before .before .loop .inv) (c .before 
 returns : tie.Need-returns Inv-loop μ-loop
 returns c = summing-end (c .before .loop .inv) (c .loop-test .left)
 
-pub crc-of-spec : {M : Type 1} → statement M
-crc-of-spec =
+pub crc-spec : {M : Type 1} → statement M
+crc-spec =
     tie.close
     (tie.spec
     Inv-loop
