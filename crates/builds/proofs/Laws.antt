@@ -1,0 +1,4 @@
+pub mod Wrote
+pub mod Built
+pub mod Bytes
+pub mod Homiq
