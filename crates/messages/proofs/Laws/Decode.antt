@@ -1,0 +1,153 @@
+-- What the decoder answers, and the part of a frame that it hands back.
+-- Assumes nothing.
+use mathlib.Core.Path.{_≡_, refl, sym, _∙_, ap, subst}
+use mathlib.Core.List.{List, [], _∷_, append-assoc}
+use Prim.Native.Nat.{ℕ, _≤_}
+use native.Mathlib.Omega.{arith}
+use lib.ListN.{length}
+use Rattle.digits.specs.Paper.Bytes.{part}
+use Rattle.digits.specs.Paper.Refusals.{refusalNumber, order, First, clear, here, after, answers, refuses}
+use Rattle.digits.specs.declared.refusal.Refusal.{Refusal}
+use Rattle.digits.proofs.Laws.Parts.{part-middle}
+use Rattle.digits.proofs.Laws.Refusals.{answered, cause-of, some-number}
+use Rattle.layouts.specs.Paper.Layout.{Layout, bytesOf}
+use Rattle.layouts.specs.Paper.Layout as layout
+use Rattle.layouts.specs.Paper.Homiq as homiqs
+use Rattle.layouts.specs.Paper.Nest as nests
+use Rattle.layouts.specs.Paper.Nibe as nibes
+use Rattle.layouts.specs.Paper.Nikobus as nikobuses
+use Rattle.layouts.specs.declared.nest.Direction.the-variants.{Command, Response}
+use Rattle.frames.specs.Paper.Kinds.{Frame}
+use Rattle.frames.specs.Paper.Whole as whole
+use Rattle.frames.specs.Paper.Whole.{WholeCause, TestsWhole}
+use Rattle.frames.specs.declared.Whole.{Whole}
+use Rattle.frames.specs.declared.Whole.the-variants.{Is as WholeIs, Refused as WholeRefused}
+use Rattle.frames.proofs.Laws.Kinds.{payload-inside}
+use Rattle.messages.specs.Paper.Answers.{Stands, DecodeCause, no-kind, no-message, Said, is, refused, Contents}
+use Rattle.messages.specs.Paper.Fields.{Fields, onNikobus, asCommand, asResponse, onNibe, onHomiq, kindOf, laid, payloadIn, payloadFrom, payloadTo, Fit}
+use Rattle.messages.specs.Paper.Message.{Message}
+use Rattle.messages.specs.Paper.Says.{Says}
+use Rattle.messages.specs.Paper.Table.{fields}
+use Rattle.messages.specs.Work.Answers.{Payloaded}
+use Rattle.messages.specs.Work.Look.{look}
+use Rattle.messages.specs.declared.Message.{Message as Coded}
+use Rattle.messages.proofs.Laws.Frames.{fields-in, from-in, to-in, frame-of}
+use Rattle.messages.proofs.Laws.Table.{reads, fit, good}
+
+-- ---- the first cause
+
+-- causes that apply together have the same first one
+pub first-same : {A B : ℕ → Type 0} → ((no : ℕ) → A no → B no) → ((no : ℕ) → B no → A no) → (l : List ℕ) (no : ℕ) → First A l no → First B l no
+first-same to back [] i clear = clear
+first-same to back (k ∷ l) i (here c) = here (to k c)
+first-same to back (k ∷ l) i (after n f) = after (λ c. n (back k c)) (first-same to back l i f)
+
+-- ---- a frame and its message
+
+-- COVERAGE: what is found for a frame's fields stands in the table, and the frame is its bytes
+pub stands : (x : Fields) → Fit x → Stands (kindOf x) (laid x) (look x)
+stands x f = let e = reads x f .same in record { good = good x f; kind = ap kindOf e; frame = ap laid e }
+
+-- and the bytes of a message of the table are a frame
+pub is-frame : {k : ℕ} {f : List ℕ} {m : Message} → Stands k f m → Frame k f
+is-frame {k} {f} {m} s =
+    let r : Frame (kindOf (fields m)) (laid (fields m)) = frame-of (fields m) (fit m (s .good .limits)) in
+    subst (λ (i : ℕ). Frame i f) (s .kind) (subst (Frame (kindOf (fields m))) (s .frame) r)
+
+-- so a frame has a message
+pub message-of : {k : ℕ} {f : List ℕ} → Frame k f → (m : Message) × Stands k f m
+message-of {k} {f} r =
+    let x = fields-in r in
+    (look (x .fields), subst (λ (i : ℕ). Stands i f (look (x .fields))) (x .kind) (subst (λ (g : List ℕ). Stands (kindOf (x .fields)) g (look (x .fields))) (x .same) (stands (x .fields) (x .fit))))
+
+module _ {k : ℕ} {f : List ℕ} where
+  to-decode : (no : ℕ) → WholeCause k f no → DecodeCause k f no
+  to-decode i (whole.no-kind h) = no-kind h
+  to-decode i (whole.no-frame h) = no-message (λ m s. h (is-frame s))
+
+  to-whole : (no : ℕ) → DecodeCause k f no → WholeCause k f no
+  to-whole i (no-kind h) = whole.no-kind h
+  to-whole i (no-message h) = whole.no-frame (λ r. let q = message-of r in h (q .0) (q .1))
+
+  pub first-decode : {no : ℕ} → First (WholeCause k f) order no → First (DecodeCause k f) order no
+  first-decode {no = i} c = first-same to-decode to-whole order i c
+
+  -- ---- the payload
+
+  pub inside : {from to : ℕ} → Payloaded k f from to → (from ≤ to) × (to ≤ length f)
+  inside o = let h = payload-inside (o .frame) in (omega (arith, h, o .from-is, o .to-is), omega (arith, h, o .from-is, o .to-is))
+
+part-of : (l : Layout) (m : l .Fields) → part (layout.payloadFrom l m) (layout.payloadTo l m) (bytesOf l m) ≡ l .payload m
+part-of l m =
+    ap (part (layout.payloadFrom l m) (layout.payloadTo l m)) (append-assoc (l .before m) (l .payload m) (l .behind m))
+    ∙ part-middle (l .before m) (l .payload m) (l .behind m) (layout.payloadFrom l m) (layout.payloadTo l m) refl refl
+
+pub payload-part : (x : Fields) → part (payloadFrom x) (payloadTo x) (laid x) ≡ payloadIn x
+payload-part (onNikobus m) = part-of nikobuses.nikobus m
+payload-part (asCommand m) = part-of (nests.nest Command) m
+payload-part (asResponse m) = part-of (nests.nest Response) m
+payload-part (onNibe m) = part-of nibes.nibe m
+payload-part (onHomiq m) = part-of homiqs.homiq m
+
+-- ---- the answers
+
+module _ {k : ℕ} {f : List ℕ} where
+  module _ {from to : ℕ} (o : Payloaded k f from to) where
+    abbrev its : Fields
+    its = fields-in (o .frame) .fields
+
+    its-fit : Fit its
+    its-fit = fields-in (o .frame) .fit
+
+    starts-at : from ≡ payloadFrom its
+    starts-at = o .from-is ∙ from-in (o .frame)
+
+    ends-at : to ≡ payloadTo its
+    ends-at = o .to-is ∙ to-in (o .frame)
+
+    pub the-part : part from to f ≡ payloadIn its
+    the-part =
+        ap (λ (i : ℕ). part i to f) starts-at ∙ ap (λ (i : ℕ). part (payloadFrom its) i f) ends-at
+        ∙ ap (part (payloadFrom its) (payloadTo its)) (sym (fields-in (o .frame) .same)) ∙ payload-part its
+
+    pub stands-there : Stands k f (look its)
+    stands-there =
+        let x = fields-in (o .frame) in
+        subst (λ (i : ℕ). Stands i f (look its)) (x .kind) (subst (λ (g : List ℕ). Stands (kindOf its) g (look its)) (x .same) (stands its its-fit))
+
+    -- the message that the code says with the payload beside it
+    pub said-of : {e : Coded} → Says e (part from to f) (look its) → Said k f e from to
+    said-of {e} s =
+        let same : fields (look its) ≡ its = reads its its-fit .same in
+        record {
+          message = look its;
+          stands = stands-there;
+          says = subst (λ (p : List ℕ). Says e p (look its)) (the-part ∙ sym (ap payloadIn same)) s;
+          from-is = starts-at ∙ sym (ap payloadFrom same);
+          to-is = ends-at ∙ sym (ap payloadTo same);
+        }
+
+    -- content: that part
+    pub contents-part : First (WholeCause k f) order 0 → Contents k f (part from to f)
+    contents-part c =
+        let same : fields (look its) ≡ its = reads its its-fit .same in
+        record { number = 0; answer = answers (first-decode c) (look its, stands-there, the-part ∙ sym (ap payloadIn same)) }
+
+  -- refused
+  pub contents-nothing : (why : Refusal) → First (WholeCause k f) order (refusalNumber why) → Contents k f []
+  contents-nothing why c = record { number = refusalNumber why; answer = refuses (some-number why) (first-decode c) }
+
+-- what is tested of the whole, case by case
+module _ {k : ℕ} {f : List ℕ} {r : Whole} (a : TestsWhole k f r) where
+  module _ {from to : ℕ} (e : r ≡ WholeIs from to) where
+    tested : TestsWhole k f (WholeIs from to)
+    tested = subst (TestsWhole k f) e a
+
+    pub one-frame : Payloaded k f from to
+    one-frame = answered tested refl
+
+    pub no-first : First (WholeCause k f) order 0
+    no-first = cause-of tested
+
+  pub first-of : {why : Refusal} → r ≡ WholeRefused why → First (WholeCause k f) order (refusalNumber why)
+  first-of e = cause-of (subst (TestsWhole k f) e a)

@@ -1,0 +1,174 @@
+-- What the reader of Homiq's messages answers: fields found in a payload, commands and values tested.
+-- Assumes nothing.
+use mathlib.Core.Bool.{Bool, true, false, cond, _&&_}
+use mathlib.Core.List.{List, [], _∷_, _++_}
+use mathlib.Core.Path.{_≡_, refl, sym, _∙_, ap, subst}
+use Prim.Native.Nat.{ℕ, zero, suc, _+_, _-_, _≤_, _<_}
+use native.Mathlib.Omega.{arith}
+use borrow.Author.Tests.{eq-eqb, ne-eqb}
+use lib.Dec.{eqb}
+use lib.ListN.{length, getD, take, drop, drop-of-length-le, length-append, take-append-drop}
+use lib.Seq.{take-append-seam, drop-append-seam, drop-drop}
+use Rattle.digits.proofs.Laws.Decimal.{decimal-inj}
+use Rattle.digits.proofs.Laws.Parts.{part-front, part-rest}
+use Rattle.digits.specs.Paper.Ascii.{ascii}
+use Rattle.digits.specs.Paper.Bytes.{part}
+use Rattle.digits.specs.Paper.Decimal.{decimal}
+use Rattle.digits.specs.Paper.Read.{Tells, holds, fails}
+use Rattle.layouts.proofs.Laws.Runs.{next}
+use Rattle.layouts.specs.Paper.Chars.{oneOf}
+use Rattle.messages.specs.Paper.Homiq.{upTo, past, fieldAt}
+use Rattle.messages.specs.Paper.Table.{Numbered, Letter}
+use Rattle.messages.specs.Work.Homiq.{same, isNumbered, isLetter, whichOf}
+use Rattle.messages.specs.declared.homiq.Homiq.the-variants.{Output, Input, Shutter, Beat, Homiq as Rest}
+use Rattle.messages.proofs.Laws.HomiqTests.{same-tells, numbered-tells, letter-tells}
+use Rattle.messages.proofs.Laws.Telling.{one-answer, both-tell}
+
+-- ---- where a field ends
+
+module _ (s : List ℕ) (i : ℕ) where
+  pub end-stop : i < length s → getD s i 0 ≡ 59 → i ≡ i + length (upTo (drop i s))
+  unfolding upTo
+  end-stop h e = rw (next s i, eq-eqb _ _ e) (omega arith)
+
+  pub end-step : i < length s → (getD s i 0 ≡ 59 → ⊥) → i + 1 + length (upTo (drop (i + 1) s)) ≡ i + length (upTo (drop i s))
+  unfolding upTo
+  end-step h e = rw (next s i, ne-eqb _ _ e) (omega arith)
+
+  pub end-last : length s ≤ i → i ≡ i + length (upTo (drop i s))
+  unfolding upTo
+  end-last h = rw (drop-of-length-le s h) (omega arith)
+
+-- ---- a field, and what is behind it
+
+field-front : (s : List ℕ) → take (length (upTo s)) s ≡ upTo s
+unfolding upTo
+field-front [] = refl
+field-front (x ∷ s) = go (eqb x 59) (field-front s)
+  where
+    go : (b : Bool) → take (length (upTo s)) s ≡ upTo s → take (length (cond b [] (x ∷ upTo s))) (x ∷ s) ≡ cond b [] (x ∷ upTo s)
+    go true e = refl
+    go false e = ap (λ (l : List ℕ). x ∷ l) e
+
+past-field : (s : List ℕ) → past s ≡ drop (suc (length (upTo s))) s
+unfolding past upTo
+past-field [] = refl
+past-field (x ∷ s) = go (eqb x 59) (past-field s)
+  where
+    go : (b : Bool) → past s ≡ drop (suc (length (upTo s))) s → cond b s (past s) ≡ drop (suc (length (cond b [] (x ∷ upTo s)))) (x ∷ s)
+    go true e = refl
+    go false e = e
+
+-- there is none behind the last
+field-none : (n : ℕ) → fieldAt n [] ≡ []
+unfolding fieldAt upTo past
+field-none zero = refl
+field-none (suc n) = field-none n
+
+-- the loop over the fields: one begins at a place and ends at another, and so many are to be passed
+module _ (s : List ℕ) (from end left : ℕ) (is : end ≡ from + length (upTo (drop from s))) where
+  pub field-next : 0 < left → fieldAt (left - 1) (drop (end + 1) s) ≡ fieldAt left (drop from s)
+  unfolding fieldAt
+  field-next h = go left h
+    where
+      go : (n : ℕ) → 0 < n → fieldAt (n - 1) (drop (end + 1) s) ≡ fieldAt n (drop from s)
+      go zero h = absurd (omega arith)
+      go (suc n) h =
+          let k : suc n - 1 ≡ n = omega arith in
+          let e : end + 1 ≡ from + suc (length (upTo (drop from s))) = omega arith in
+          rw k
+          (ap (fieldAt n)
+          (ap (λ (i : ℕ). drop i s) e ∙ sym (drop-drop (suc (length (upTo (drop from s)))) from s) ∙ sym (past-field (drop from s))))
+
+  -- it ends where the list does: the next would be empty
+  pub field-out : 0 < left → length s ≤ end → part end end s ≡ fieldAt left (drop from s)
+  field-out h k =
+      let z : end - end ≡ 0 = omega arith in
+      let l : length s ≤ end + 1 = omega arith in
+      ap (λ (n : ℕ). take n (drop end s)) z ∙ sym (field-none (left - 1)) ∙ ap (fieldAt (left - 1)) (sym (drop-of-length-le s l)) ∙ field-next h
+
+  -- none is to be passed
+  pub field-is : left ≤ 0 → part from end s ≡ fieldAt left (drop from s)
+  unfolding fieldAt
+  field-is h =
+      let z : left ≡ 0 = omega arith in
+      let e : end - from ≡ length (upTo (drop from s)) = omega arith in
+      rw (z, e) (field-front (drop from s))
+
+-- ---- a mark and a number
+
+module _ {mark : List ℕ} {most : ℕ} {cmd : List ℕ} (q : Numbered mark most cmd) where
+  pub numbered-long : length mark ≤ length cmd
+  numbered-long = omega (arith, ap length (q .is), length-append mark (decimal (q .number)))
+
+  pub numbered-mark : mark ≡ part 0 (length mark) cmd
+  numbered-mark = sym (part-front (length mark) cmd ∙ ap (take (length mark)) (q .is) ∙ take-append-seam mark (decimal (q .number)))
+
+  pub numbered-digits : decimal (q .number) ≡ part (length mark) (length cmd) cmd
+  numbered-digits = sym (part-rest (length mark) cmd ∙ ap (drop (length mark)) (q .is) ∙ drop-append-seam mark (decimal (q .number)))
+
+-- a command that begins with the mark, and behind it the digits of n
+pub numbered-by : {mark : List ℕ} {most n : ℕ} {cmd : List ℕ} {b : Bool} → mark ≡ part 0 (length mark) cmd → decimal n ≡ part (length mark) (length cmd) cmd
+    → Tells (n ≤ most) b → Tells (Numbered mark most cmd) b
+numbered-by {mark} {most} {n} {cmd} m d (holds h) =
+    holds
+    (record {
+      number = n;
+      few = h;
+      is =
+          sym (take-append-drop (length mark) cmd)
+          ∙ ap (λ (l : List ℕ). l ++ drop (length mark) cmd) (sym (m ∙ part-front (length mark) cmd))
+          ∙ ap (λ (l : List ℕ). mark ++ l) (sym (d ∙ part-rest (length mark) cmd));
+    })
+numbered-by {mark} {most} {n} {cmd} m d (fails f) =
+    fails (λ q. f (subst (λ (k : ℕ). k ≤ most) (decimal-inj (q .number) n (numbered-digits q ∙ sym d)) (q .few)))
+
+-- ---- one character
+
+pub letter-one : {letters val : List ℕ} → Letter letters val → length val ≡ 1
+letter-one r = ap length (r .is)
+
+pub letter-by : (letters val : List ℕ) {b : Bool} → length val ≡ 1 → b ≡ oneOf letters (getD val 0 0) → Tells (Letter letters val) b
+unfolding isLetter
+letter-by letters val {b} l e =
+    let t : isLetter letters val ≡ b = rw (eq-eqb (length val) 1 l) (sym e) in
+    subst (Tells (Letter letters val)) t (letter-tells letters val)
+
+-- ---- the message of a command and a value, from the answers of the four tests
+
+module _ (cmd val : List ℕ) where
+  output-test : {a : Bool} → Tells (Numbered (ascii "O.") 9 cmd × Letter (ascii "01") val) a → (isNumbered (ascii "O.") 9 cmd && isLetter (ascii "01") val) ≡ a
+  output-test t = one-answer (both-tell (numbered-tells (ascii "O.") 9 cmd) (letter-tells (ascii "01") val)) t
+
+  input-test : {a : Bool} → Tells (Numbered (ascii "I.") 15 cmd × Letter (ascii "01") val) a → (isNumbered (ascii "I.") 15 cmd && isLetter (ascii "01") val) ≡ a
+  input-test t = one-answer (both-tell (numbered-tells (ascii "I.") 15 cmd) (letter-tells (ascii "01") val)) t
+
+  shutter-test : {a : Bool} → Tells ((cmd ≡ ascii "UD") × Letter (ascii "uds") val) a → (same (ascii "UD") cmd && isLetter (ascii "uds") val) ≡ a
+  shutter-test t = one-answer (both-tell (same-tells (ascii "UD") cmd) (letter-tells (ascii "uds") val)) t
+
+  beat-test : {a : Bool} → Tells ((cmd ≡ ascii "HB") × Letter (ascii "1") val) a → (same (ascii "HB") cmd && isLetter (ascii "1") val) ≡ a
+  beat-test t = one-answer (both-tell (same-tells (ascii "HB") cmd) (letter-tells (ascii "1") val)) t
+
+  module _ {a : Bool} (p : Tells (Numbered (ascii "O.") 9 cmd × Letter (ascii "01") val) a) where
+    pub look-output : a ≡ true → Output ≡ whichOf cmd val
+    unfolding whichOf
+    look-output e = rw (output-test p, e)
+
+    module _ {b : Bool} (q : Tells (Numbered (ascii "I.") 15 cmd × Letter (ascii "01") val) b) (e : a ≡ false) where
+      pub look-input : b ≡ true → Input ≡ whichOf cmd val
+      unfolding whichOf
+      look-input f = rw (output-test p, input-test q, e, f)
+
+      module _ {c : Bool} (r : Tells ((cmd ≡ ascii "UD") × Letter (ascii "uds") val) c) (f : b ≡ false) where
+        pub look-shutter : c ≡ true → Shutter ≡ whichOf cmd val
+        unfolding whichOf
+        look-shutter g = rw (output-test p, input-test q, shutter-test r, e, f, g)
+
+        module _ {d : Bool} (s : Tells ((cmd ≡ ascii "HB") × Letter (ascii "1") val) d) (g : c ≡ false) where
+          pub look-beat : d ≡ true → Beat ≡ whichOf cmd val
+          unfolding whichOf
+          look-beat h = rw (output-test p, input-test q, shutter-test r, beat-test s, e, f, g, h)
+
+          pub look-rest : d ≡ false → Rest ≡ whichOf cmd val
+          unfolding whichOf
+          look-rest h = rw (output-test p, input-test q, shutter-test r, beat-test s, e, f, g, h)

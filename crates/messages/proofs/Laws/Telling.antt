@@ -1,0 +1,31 @@
+-- Tests that tell whether a statement holds, and two of them one after the other.
+-- Assumes nothing.
+use mathlib.Core.Bool.{Bool, true, false, _&&_, false≢true}
+use mathlib.Core.Path.{_≡_, refl}
+use Rattle.digits.specs.Paper.Read.{Tells, holds, fails}
+use Rattle.digits.proofs.Laws.Tests.{told, untold}
+
+-- a test that is true where A holds, and only there
+pub tells : {A : Type 0} (t : Bool) → (t ≡ true → A) → (A → t ≡ true) → Tells A t
+tells true f g = holds (f refl)
+tells false f g = fails (λ a. false≢true (g a))
+
+-- two tests of one statement answer the same
+pub one-answer : {A : Type 0} {a b : Bool} → Tells A a → Tells A b → a ≡ b
+one-answer (holds x) (holds y) = refl
+one-answer (holds x) (fails g) = absurd (g x)
+one-answer (fails f) (holds y) = absurd (f y)
+one-answer (fails f) (fails g) = refl
+
+-- one test and then another
+pub both-tell : {A B : Type 0} {a b : Bool} → Tells A a → Tells B b → Tells (A × B) (a && b)
+both-tell (holds x) (holds y) = holds (x, y)
+both-tell (holds x) (fails g) = fails (λ p. g (p .1))
+both-tell (fails f) q = fails (λ p. f (p .0))
+
+pub first-fails : {A B : Type 0} {a : Bool} → Tells A a → a ≡ false → Tells (A × B) false
+first-fails t e = fails (λ p. untold t e (p .0))
+
+pub second-tells : {A B : Type 0} {a b : Bool} → Tells A a → a ≡ true → Tells B b → Tells (A × B) b
+second-tells t e (holds y) = holds (told t e, y)
+second-tells t e (fails g) = fails (λ p. g (p .1))

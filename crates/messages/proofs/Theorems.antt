@@ -1,0 +1,75 @@
+-- What the table comes to, for a reader: demand 2's messages.
+-- Assumes nothing.
+use mathlib.Core.List.{List, [], _∷_}
+use mathlib.Core.Path.{_≡_, refl, sym, _∙_, ap}
+use Prim.Native.Nat.{ℕ}
+use lib.Dec.{T}
+use Rattle.digits.specs.Paper.Bytes.{part}
+use Rattle.frames.specs.Paper.Kinds.{Frame}
+use Rattle.messages.specs.Paper.Answers.{Stands, Said}
+use Rattle.messages.specs.Paper.Fields.{kindOf, payloadIn, payloadFrom, payloadTo}
+use Rattle.messages.specs.Paper.Message.{Message, read, set, answer, press, tail, link, command, climate, state, break, end, text, response, ask, reply, put, done, nibe, output, input, shutter, beat, homiq, row}
+use Rattle.layouts.specs.Paper.Chars.{oneOf}
+use Rattle.messages.specs.Paper.Table.{fields, bytes, Limits, Above, Good}
+use Rattle.messages.specs.Work.Look.{look}
+use Rattle.messages.specs.declared.Message.{Message as Coded}
+use Rattle.messages.proofs.Laws.Decode as decoding
+use Rattle.messages.proofs.Laws.Frames.{one-fields, frame-of}
+use Rattle.messages.proofs.Laws.HomiqRows.{output-found, input-found, shutter-found, beat-found}
+use Rattle.messages.proofs.Laws.NestRows.{climate-found, state-found, break-found, end-found}
+use Rattle.messages.proofs.Laws.NibeRows.{ask-found, reply-found, put-found, done-found}
+use Rattle.messages.proofs.Laws.NikobusRows.{read-found, set-found, answer-found}
+use Rattle.messages.proofs.Laws.Table.{fit, free, one-message}
+
+-- COVERAGE: every frame of a kind is the bytes of a message of the table
+pub has-message : {k : ℕ} {f : List ℕ} → Frame k f → (m : Message) × Stands k f m
+has-message = decoding.message-of
+
+-- UNIQUENESS: and of no other
+pub one-message-of : {k : ℕ} {f : List ℕ} (m n : Message) → Stands k f m → Stands k f n → m ≡ n
+one-message-of m n s t =
+    let e = one-fields (fields m) (fields n) (fit m (s .good .limits)) (fit n (t .good .limits)) (s .kind ∙ sym (t .kind)) (s .frame ∙ sym (t .frame)) in
+    one-message m n (s .good) (t .good) e
+
+-- THE BYTES OF EVERY MESSAGE within its limits are a frame, whether a message above has its content or not
+pub bytes-frame : (m : Message) → Limits m → Frame (kindOf (fields m)) (bytes m)
+bytes-frame m l = frame-of (fields m) (fit m l)
+
+-- so a message of the table is the message of its own bytes
+pub own-bytes : (m : Message) → Good m → Stands (kindOf (fields m)) (bytes m) m
+own-bytes m g = record { good = g; kind = refl; frame = refl }
+
+-- and what a frame is decoded to has the frame's payload beside it
+pub beside : {k : ℕ} {f : List ℕ} {e : Coded} {from to : ℕ} (said : Said k f e from to) → part from to f ≡ payloadIn (fields (said .message))
+beside {f = f} {from = from} {to = to} said =
+    let x = fields (said .message) in
+    ap (λ (i : ℕ). part i to f) (said .from-is) ∙ ap (λ (i : ℕ). part (payloadFrom x) i f) (said .to-is)
+    ∙ ap (part (payloadFrom x) (payloadTo x)) (sym (said .stands .frame)) ∙ decoding.payload-part x
+
+-- "Link, text, response, nibe and homiq": of the messages within their limits only these, the rows
+-- 6, 12, 13, 18 and 23, can have the content of one above
+pub only-these : (m : Message) → Limits m → Above m → T (oneOf (6 ∷ 12 ∷ 13 ∷ 18 ∷ 23 ∷ []) (row m))
+unfolding look fields oneOf
+only-these (read g a) l x = absurd (free (read g a) (read-found g a l) x)
+only-these (set g a out) l x = absurd (free (set g a out) (set-found g a out l) x)
+only-these (answer a third out) l x = absurd (free (answer a third out) (answer-found a third out l) x)
+only-these (press d) l x = absurd (free (press d) refl x)
+only-these tail l x = absurd (free tail refl x)
+only-these (link p) l x = tt
+only-these (command i p) l x = absurd (free (command i p) refl x)
+only-these (climate t h) l x = absurd (free (climate t h) (climate-found t h l) x)
+only-these (state p) l x = absurd (free (state p) (state-found p l) x)
+only-these break l x = absurd (free break break-found x)
+only-these end l x = absurd (free end end-found x)
+only-these (text i p) l x = tt
+only-these (response i p) l x = tt
+only-these (ask r) l x = absurd (free (ask r) (ask-found r l) x)
+only-these (reply r w v) l x = absurd (free (reply r w v) (reply-found r w v l) x)
+only-these (put r w v) l x = absurd (free (put r w v) (put-found r w v l) x)
+only-these (done ok) l x = absurd (free (done ok) (done-found ok) x)
+only-these (nibe c d) l x = tt
+only-these (output w) l x = absurd (free (output w) (output-found w l) x)
+only-these (input w) l x = absurd (free (input w) (input-found w l) x)
+only-these (shutter w) l x = absurd (free (shutter w) (shutter-found w l) x)
+only-these (beat w) l x = absurd (free (beat w) (beat-found w l) x)
+only-these (homiq w) l x = tt

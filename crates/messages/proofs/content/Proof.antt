@@ -1,0 +1,50 @@
+-- `messages::content` meets its contract: where the whole is one frame, the part is its payload.
+-- Assumes nothing.
+use borrow.Author.Needs.{needs}
+use Rattle.messages.proofs.Laws.Decode.{inside, contents-part, contents-nothing, one-frame, no-first, first-of}
+use Rattle.messages.proofs.content.Statement.{statement}
+use Rattle.messages.proofs.content.Tie as tie
+
+one-frame-requires : tie.Need-one-frame-requires
+one-frame-requires c κs = search needs
+
+enum-known-from : tie.Need-enum-known-from
+enum-known-from c = search needs
+
+sub-result : tie.Need-sub-result
+sub-result c = inside (one-frame (c .before .before .before .one-frame .ensures) (c .before .from .given .1)) .0
+
+part-result-start : tie.Need-part-result-start
+part-result-start c = inside (one-frame (c .before .before .before .one-frame .ensures) (c .before .from .given .1)) .0
+
+part-result-end : tie.Need-part-result-end
+part-result-end c = inside (one-frame (c .before .before .before .one-frame .ensures) (c .before .from .given .1)) .1
+
+enum-known-why : tie.Need-enum-known-why
+enum-known-why c = search needs
+
+slice-aggregate-result : tie.Need-slice-aggregate-result
+slice-aggregate-result c = search needs
+
+returns : tie.Need-returns
+returns c =
+    let a = c .before .before .before .before .one-frame .ensures in
+    let e = c .before .before .from .given .1 in
+    contents-part (one-frame a e) (no-first a e)
+
+returns-2 : tie.Need-returns-2
+returns-2 c = contents-nothing (c .before .before .why .given .0 .0) (first-of (c .before .before .before .before .one-frame .ensures) (c .before .before .why .given .1))
+
+pub content-spec : {M : Type 1} → statement M
+content-spec =
+    tie.close
+    (tie.spec
+    one-frame-requires
+    enum-known-from
+    sub-result
+    part-result-start
+    part-result-end
+    enum-known-why
+    slice-aggregate-result
+    returns
+    returns-2)

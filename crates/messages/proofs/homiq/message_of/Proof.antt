@@ -1,0 +1,22 @@
+-- `messages::homiq::message_of` meets its contract: by the first two fields.
+-- Assumes nothing.
+use mathlib.Core.Path.{_∙_, ap₂}
+use borrow.Author.Needs.{needs}
+use Rattle.messages.specs.Work.Homiq.{whichOf}
+use Rattle.messages.proofs.homiq.message_of.Statement.{statement}
+use Rattle.messages.proofs.homiq.message_of.Tie as tie
+
+field-requires : tie.Need-field-requires
+field-requires c κs = search needs
+
+field-requires-2 : tie.Need-field-requires-2
+field-requires-2 c κs = search needs
+
+which-requires : tie.Need-which-requires
+which-requires c κs = search needs
+
+returns : tie.Need-returns
+returns c = c .which .ensures ∙ ap₂ whichOf (c .before .before .field .ensures) (c .before .field2 .ensures)
+
+pub message-of-spec : {M : Type 1} → statement M
+message-of-spec = tie.close (tie.spec field-requires field-requires-2 which-requires returns)

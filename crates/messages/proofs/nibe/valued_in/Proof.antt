@@ -1,0 +1,51 @@
+-- `messages::nibe::valued_in` meets its contract: two bytes, and what stands behind them.
+-- Assumes nothing.
+use mathlib.Core.Path.{refl, ap, _∙_}
+use native.Mathlib.Omega.{arith}
+use borrow.Author.Needs.{needs}
+use denote.Ref.{now}
+use Rattle.digits.proofs.Laws.Parts.{part-rest}
+use Rattle.digits.specs.Work.LowFirst.{lowValue}
+use Rattle.messages.proofs.Laws.NibeLook.{behind-two}
+use Rattle.messages.proofs.Laws.NibeRows.{at-most-four}
+use Rattle.messages.proofs.nibe.valued_in.Statement.{statement}
+use Rattle.messages.proofs.nibe.valued_in.Tie as tie
+
+word-requires : tie.Need-word-requires
+word-requires c κs = search needs
+
+sub-t4 : tie.Need-sub-t4
+sub-t4 c = search needs
+
+cast-t5 : tie.Need-cast-t5
+cast-t5 c = omega (arith, at-most-four (c .before .before .pre .1))
+
+sub-value-of : tie.Need-sub-value-of
+sub-value-of c = search needs
+
+part-value-of-start : tie.Need-part-value-of-start
+part-value-of-start c = search needs
+
+part-value-of-end : tie.Need-part-value-of-end
+part-value-of-end c = search needs
+
+value-of-requires : tie.Need-value-of-requires
+value-of-requires c κs = behind-two (now (c .before .before .before .args .content)) (c .before .before .before .pre)
+
+returns : tie.Need-returns
+returns c =
+    let s = now (c .before .before .before .before .args .content) in
+    record { register = c .before .before .word .ensures; width = refl; value = c .value-of .ensures ∙ ap lowValue (part-rest 2 s) }
+
+pub valued-in-spec : {M : Type 1} → statement M
+valued-in-spec =
+    tie.close
+    (tie.spec
+    word-requires
+    sub-t4
+    cast-t5
+    sub-value-of
+    part-value-of-start
+    part-value-of-end
+    value-of-requires
+    returns)

@@ -1,0 +1,20 @@
+-- 01, Homiq: the fields of a payload "CMD;VAL;SRC;DST;ID;TYPE".
+-- Assumes nothing.
+use mathlib.Core.Bool.{cond}
+use mathlib.Core.List.{List, [], _∷_}
+use Prim.Native.Nat.{ℕ, zero, suc}
+use lib.Dec.{eqb}
+
+-- the characters up to the first `;`, and those behind it
+unfoldable pub upTo : List ℕ → List ℕ
+upTo [] = []
+upTo (c ∷ s) = cond (eqb c 59) [] (c ∷ upTo s)
+
+unfoldable pub past : List ℕ → List ℕ
+past [] = []
+past (c ∷ s) = cond (eqb c 59) s (past s)
+
+-- the field with this number, from 0: CMD, VAL, SRC, DST, ID, TYPE
+unfoldable pub fieldAt : ℕ → List ℕ → List ℕ
+fieldAt zero s = upTo s
+fieldAt (suc i) s = fieldAt i (past s)

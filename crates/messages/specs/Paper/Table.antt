@@ -1,0 +1,154 @@
+-- 01, "Search, messages, commands": the table. A message's line gives the fields of its frame; its bytes are those of the layout.
+-- Assumes nothing.
+use mathlib.Core.Bool.{true, cond}
+use mathlib.Core.List.{List, [], _∷_, _++_}
+use mathlib.Core.Logic.{_⊎_}
+use mathlib.Core.Path.{_≡_}
+use Prim.Native.Nat.{ℕ, _+_, _*_, _≤_, _<_}
+use lib.Dec.{T, eqb}
+use lib.ListN.{length, getD}
+use Rattle.digits.specs.Paper.Ascii.{ascii}
+use Rattle.digits.specs.Paper.Bytes.{Bytes}
+use Rattle.digits.specs.Paper.Decimal.{decimal}
+use Rattle.digits.specs.Paper.LowFirst.{Held, lowFirst}
+use Rattle.numbers.specs.Paper.ByteValues.{Holds, valueBytes}
+use Rattle.layouts.specs.Paper.Chars.{all, isHex, oneOf}
+use Rattle.layouts.specs.Paper.Homiq as homiqs
+use Rattle.layouts.specs.Paper.Made.{linkOf, nestOf, nibeOf, Wire, homiqOf}
+use Rattle.layouts.specs.Paper.Nibe.{commands}
+use Rattle.layouts.specs.Paper.Nikobus as nikobuses
+use Rattle.messages.specs.Paper.Fields.{Fields, onNikobus, asCommand, asResponse, onNibe, onHomiq, laid}
+use Rattle.messages.specs.Paper.Message.{Message, read, set, answer, press, tail, link, command, climate, state, break, end, text, response, ask, reply, put, done, nibe, output, input, shutter, beat, homiq, row}
+
+-- "payload 12 or 17 (group 1, 2)", "15 or 16 (group 1, 2)": the code of a group
+abbrev pub codeOf : ℕ → ℕ → ℕ → ℕ
+codeOf first second group = cond (eqb group 1) first second
+
+-- "Addresses and numbers are low byte first"; a value of 1, 2 or 4 bytes behind its register
+abbrev pub valued : ℕ → ℕ → ℕ → List ℕ
+valued register width value = lowFirst 2 register ++ lowFirst width value
+
+-- the fields of a message's frame, a line for each row
+unfoldable pub fields : Message → Fields
+fields (read g a) = onNikobus (linkOf (codeOf 0x12 0x17 g ∷ lowFirst 2 a))
+fields (set g a out) = onNikobus (linkOf (codeOf 0x15 0x16 g ∷ (lowFirst 2 a ++ out ++ (0xFF ∷ []))))
+fields (answer a third out) = onNikobus (linkOf (lowFirst 2 a ++ (third ∷ out)))
+fields (press d) = onNikobus (nikobuses.press d)
+fields tail = onNikobus nikobuses.tail
+fields (link p) = onNikobus (linkOf p)
+fields (command i p) = asCommand (nestOf i p)
+fields (climate t h) = asResponse (nestOf 0x0002 (valueBytes 2 t ++ lowFirst 2 h))
+fields (state p) = asResponse (nestOf 0x000B p)
+fields break = asResponse (nestOf 0x0001 (ascii "BRK"))
+fields end = asResponse (nestOf 0x002F [])
+fields (text i p) = asResponse (nestOf i p)
+fields (response i p) = asResponse (nestOf i p)
+fields (ask r) = onNibe (nibeOf 0x69 (lowFirst 2 r))
+fields (reply r w v) = onNibe (nibeOf 0x6A (valued r w v))
+fields (put r w v) = onNibe (nibeOf 0x6B (valued r w v))
+fields (done ok) = onNibe (nibeOf 0x6C (cond ok 0x01 0x00 ∷ []))
+fields (nibe c d) = onNibe (nibeOf c d)
+fields (output w) = onHomiq (homiqOf w)
+fields (input w) = onHomiq (homiqOf w)
+fields (shutter w) = onHomiq (homiqOf w)
+fields (beat w) = onHomiq (homiqOf w)
+fields (homiq w) = onHomiq (homiqOf w)
+
+-- the bytes of a message's frame
+abbrev pub bytes : Message → List ℕ
+bytes m = laid (fields m)
+
+-- ---- the limits of the fields
+
+-- "group 1, 2"
+abbrev pub Group : ℕ → Type 0
+Group g = (g ≡ 1) ⊎ (g ≡ 2)
+
+-- "six values"
+pub record SixBytes (out : List ℕ) : Type 0 where
+  pub six : length out ≡ 6
+  pub bytes : Bytes out
+
+-- "1 to 122 bytes"; "payload 0 to 1,024 bytes"; the length of Nibe's data is one byte
+pub record Sized (least most : ℕ) (p : List ℕ) : Type 0 where
+  pub enough : least ≤ length p
+  pub short : length p ≤ most
+  pub bytes : Bytes p
+
+-- "id 0001, 0018 or 0019"
+abbrev pub textIds : List ℕ
+textIds = 0x0001 ∷ 0x0018 ∷ 0x0019 ∷ []
+
+-- "O.0 to O.9", "I.0 to I.15": a text and behind it a number, at most so large
+pub record Numbered (mark : List ℕ) (most : ℕ) (cmd : List ℕ) : Type 0 where
+  pub number : ℕ
+  pub few : number ≤ most
+  pub is : cmd ≡ mark ++ decimal number
+
+-- "with 0/1", "with u/d/s", "with 1": one character, one of these
+pub record Letter (letters val : List ℕ) : Type 0 where
+  pub letter : ℕ
+  pub one : T (oneOf letters letter)
+  pub is : val ≡ letter ∷ []
+
+-- a command and a value, in fields within Homiq's limits
+pub record Sends (Cmd Val : List ℕ → Type 0) (w : Wire) : Type 0 where
+  pub limits : homiqs.Limits (homiqOf w)
+  pub cmd : Cmd (w .cmd)
+  pub val : Val (w .val)
+
+-- each message's limits
+abbrev pub Limits : Message → Type 0
+Limits (read g a) = Group g × (a < 65536)
+Limits (set g a out) = Group g × (a < 65536) × SixBytes out
+Limits (answer a third out) = (a < 65536) × (third < 256) × SixBytes out
+Limits (press d) = (length d ≡ 6) × T (all isHex d)
+Limits tail = Unit
+Limits (link p) = Sized 1 122 p
+Limits (command i p) = (i < 65536) × Sized 0 1024 p
+Limits (climate t h) = Holds 2 true t × (h < 65536)
+Limits (state p) = Sized 16 1024 p
+Limits break = Unit
+Limits end = Unit
+Limits (text i p) = T (oneOf textIds i) × Sized 0 1024 p
+Limits (response i p) = (i < 65536) × Sized 0 1024 p
+Limits (ask r) = r < 65536
+Limits (reply r w v) = (r < 65536) × Held w v
+Limits (put r w v) = (r < 65536) × Held w v
+Limits (done ok) = Unit
+Limits (nibe c d) = T (oneOf commands c) × Sized 0 255 d
+Limits (output w) = Sends (Numbered (ascii "O.") 9) (Letter (ascii "01")) w
+Limits (input w) = Sends (Numbered (ascii "I.") 15) (Letter (ascii "01")) w
+Limits (shutter w) = Sends (λ cmd. cmd ≡ ascii "UD") (Letter (ascii "uds")) w
+Limits (beat w) = Sends (λ cmd. cmd ≡ ascii "HB") (Letter (ascii "1")) w
+Limits (homiq w) = homiqs.Limits (homiqOf w)
+
+-- "a value of 1, 2 or 4 bytes": the message has a value of this width
+pub data HasWidth (m : Message) (w : ℕ) : Type 0 where
+  in-reply : {r v : ℕ} → m ≡ reply r w v → HasWidth m w
+  in-put : {r v : ℕ} → m ≡ put r w v → HasWidth m w
+
+-- "a content that a message above them in the table has"
+pub record Above (m : Message) : Type 0 where
+  pub other : Message
+  pub above : row other < row m
+  pub limits : Limits other
+  pub same : fields other ≡ fields m
+
+-- what stands in the table: within its limits, and no message above has its content
+pub record Good (m : Message) : Type 0 where
+  pub limits : Limits m
+  pub free : Above m → ⊥
+
+-- "State's voltages are read from its payload": "Vin at 8 (hundredths), Vop at 10, Vbat at 12 (thousandths), u16", low byte first
+abbrev pub u16At : ℕ → List ℕ → ℕ
+u16At i p = getD p i 0 + 256 * getD p (i + 1) 0
+
+abbrev pub vIn : List ℕ → ℕ
+vIn p = u16At 8 p
+
+abbrev pub vOp : List ℕ → ℕ
+vOp p = u16At 10 p
+
+abbrev pub vBat : List ℕ → ℕ
+vBat p = u16At 12 p

@@ -1,0 +1,4 @@
+pub mod Homiq
+pub mod Look
+pub mod Answers
+pub mod Nikobus

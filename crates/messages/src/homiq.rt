@@ -1,0 +1,159 @@
+// Homiq: the messages of a payload CMD to TYPE, and its fields.
+use digits::decimal;
+use digits::decimal::Whole;
+use digits::slices;
+ghost use mathlib.Core.Path.{_≡_};
+ghost use Prim.Native.Nat.{_+_, _≤_};
+ghost use lib.ListN.{length, drop};
+ghost use Rattle.digits.specs.Paper.Ascii.{ascii};
+ghost use Rattle.digits.specs.Paper.Read.{Tells};
+ghost use Rattle.messages.specs.Paper.Homiq.{upTo, fieldAt};
+ghost use Rattle.messages.specs.Paper.Table.{Numbered, Letter};
+ghost use Rattle.messages.specs.Work.Homiq.{whichOf};
+
+// Beside each stands CMD to TYPE.
+pub enum Homiq {
+    Output,
+    Input,
+    Shutter,
+    Beat,
+    Homiq,
+}
+
+// A field of CMD to TYPE, by its number from 0, as a part of them; empty where there is none.
+pub fn field(content: &[u8], number: usize) -> &[u8]
+    ensures { λ r. ⌜ now r ≡ fieldAt number (now (content .entry)) ⌝ }
+{
+    let mut from = 0;
+    let mut left = number;
+    while 0 < left {
+        let end = field_end(content, from);
+        if end == content.len() {
+            return &content[end..end];
+        }
+        from = end + 1;
+        left -= 1;
+    }
+    &content[from..field_end(content, from)]
+}
+
+// Where the field that begins at a place ends: at the next `;`, or at the end.
+fn field_end(s: &[u8], from: usize) -> usize
+    requires { ⌜ from ≤ length (now s) ⌝ }
+    ensures { λ r. ⌜ (r ≡ from + length (upTo (drop from (now (s .entry))))) × (r ≤ length (now (s .entry))) ⌝ }
+{
+    let mut i = from;
+    while i < s.len() {
+        if s[i] == b';' {
+            return i;
+        }
+        i += 1;
+    }
+    i
+}
+
+// The message of a frame with this payload.
+pub(crate) fn message_of(payload: &[u8]) -> Homiq
+    ensures { λ r. ⌜ r ≡ whichOf (fieldAt 0 (now (payload .entry))) (fieldAt 1 (now (payload .entry))) ⌝ }
+{
+    which(field(payload, 0), field(payload, 1))
+}
+
+// The message with this command and value.
+fn which(cmd: &[u8], val: &[u8]) -> Homiq
+    ensures { λ r. ⌜ r ≡ whichOf (now (cmd .entry)) (now (val .entry)) ⌝ }
+{
+    if is_output(cmd, val) {
+        return Homiq::Output;
+    }
+    if is_input(cmd, val) {
+        return Homiq::Input;
+    }
+    if is_shutter(cmd, val) {
+        return Homiq::Shutter;
+    }
+    if is_beat(cmd, val) {
+        return Homiq::Beat;
+    }
+    Homiq::Homiq
+}
+
+fn is_output(cmd: &[u8], val: &[u8]) -> bool
+    ensures { λ r. ⌜ Tells (Numbered (ascii "O.") 9 (now (cmd .entry)) × Letter (ascii "01") (now (val .entry))) r ⌝ }
+{
+    if !is_numbered(b"O.", 9, cmd) {
+        return false;
+    }
+    is_letter(b"01", val)
+}
+
+fn is_input(cmd: &[u8], val: &[u8]) -> bool
+    ensures { λ r. ⌜ Tells (Numbered (ascii "I.") 15 (now (cmd .entry)) × Letter (ascii "01") (now (val .entry))) r ⌝ }
+{
+    if !is_numbered(b"I.", 15, cmd) {
+        return false;
+    }
+    is_letter(b"01", val)
+}
+
+fn is_shutter(cmd: &[u8], val: &[u8]) -> bool
+    ensures { λ r. ⌜ Tells ((now (cmd .entry) ≡ ascii "UD") × Letter (ascii "uds") (now (val .entry))) r ⌝ }
+{
+    if !slices::same(cmd, b"UD") {
+        return false;
+    }
+    is_letter(b"uds", val)
+}
+
+fn is_beat(cmd: &[u8], val: &[u8]) -> bool
+    ensures { λ r. ⌜ Tells ((now (cmd .entry) ≡ ascii "HB") × Letter (ascii "1") (now (val .entry))) r ⌝ }
+{
+    if !slices::same(cmd, b"HB") {
+        return false;
+    }
+    is_letter(b"1", val)
+}
+
+// Whether a command is a text and a number behind it, at most so large.
+fn is_numbered(mark: &[u8], most: u32, cmd: &[u8]) -> bool
+    ensures { λ r. ⌜ Tells (Numbered (now (mark .entry)) most (now (cmd .entry))) r ⌝ }
+{
+    let k = mark.len();
+    if cmd.len() < k {
+        return false;
+    }
+    if !slices::same(mark, &cmd[0..k]) {
+        return false;
+    }
+    match decimal::number_of(&cmd[k..]) {
+        Whole::Is(n) => at_most(n, most),
+        Whole::NoNumber => false,
+    }
+}
+
+fn at_most(n: u32, most: u32) -> bool
+    ensures { λ r. ⌜ Tells (n ≤ most) r ⌝ }
+{
+    if n <= most {
+        return true;
+    }
+    false
+}
+
+// Whether a value is one character, one of these.
+fn is_letter(letters: &[u8], val: &[u8]) -> bool
+    ensures { λ r. ⌜ Tells (Letter (now (letters .entry)) (now (val .entry))) r ⌝ }
+{
+    if val.len() != 1 {
+        return false;
+    }
+    let c = val[0];
+    let mut i = 0;
+    while i < letters.len() {
+        if c == letters[i] {
+            return true;
+        }
+        i += 1;
+    }
+    false
+}
