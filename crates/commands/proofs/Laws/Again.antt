@@ -1,0 +1,136 @@
+-- A frame read again: the row of what it is decoded to says whether a message above has its content.
+-- Assumes nothing.
+use mathlib.Core.Path.{_≡_, refl, sym, _∙_, ap, subst}
+use mathlib.Core.Bool.{true, false, true≢false}
+use mathlib.Core.List.{List, []}
+use mathlib.Core.Logic.{_⊎_, ⊎-elim}
+use Prim.Native.Nat.{ℕ, _≤_, _<_}
+use native.Mathlib.Omega.{arith}
+use Rattle.digits.proofs.Laws.Refusals.{some-number}
+use Rattle.layouts.specs.Paper.Made.{Wire}
+use Rattle.frames.specs.Paper.Kinds.{Frame, known}
+use Rattle.messages.specs.Paper.Answers.{Stands, DecodeCause, no-kind, no-message, Decodes, is, refused}
+use Rattle.messages.specs.Paper.Fields.{Fields, onNikobus, asCommand, asResponse, onNibe, onHomiq, kindOf}
+use Rattle.messages.specs.Paper.Message.{Message, row}
+use Rattle.messages.specs.Paper.Says.{ofNikobus, ofResponse, ofNibe, ofHomiq, SaysNikobus, digits, fixed, Says}
+use Rattle.messages.specs.Paper.Table.{fields, bytes, Limits, Above}
+use Rattle.messages.specs.Work.Look.{look}
+use Rattle.messages.specs.declared.Decoded.{Decoded}
+use Rattle.messages.specs.declared.Message.{Message as Coded}
+use Rattle.messages.specs.declared.Message.the-variants.{Nikobus as OnNikobus, Command, Response as AsResponse, Nibe as OnNibe, Homiq as OnHomiq}
+use Rattle.messages.specs.declared.nikobus.Nikobus.{Nikobus}
+use Rattle.messages.specs.declared.nikobus.Nikobus.the-variants.{Read, Set, Answer, Press, Tail, Link}
+use Rattle.messages.specs.declared.nest.Response.{Response}
+use Rattle.messages.specs.declared.nest.Response.the-variants.{Climate, State, Break, End, Text, Response as Other}
+use Rattle.messages.specs.declared.nibe.Nibe.{Nibe}
+use Rattle.messages.specs.declared.nibe.Nibe.the-variants.{Ask, Reply, Put, Done, Nibe as Plain}
+use Rattle.messages.specs.declared.homiq.Homiq.{Homiq}
+use Rattle.messages.specs.declared.homiq.Homiq.the-variants.{Output, Input, Shutter, Beat, Homiq as Rest}
+use Rattle.messages.proofs.Laws.Frames.{one-fields}
+use Rattle.messages.proofs.Laws.Table.{found, fit, only}
+use Rattle.messages.proofs.Theorems.{has-message, bytes-frame}
+use Rattle.puts.specs.Paper.Wrote.{RoomCause, Writes}
+use Rattle.puts.specs.declared.Written.{Written}
+use Rattle.puts.specs.declared.Written.the-variants.{Refused as NotWritten}
+use Rattle.digits.specs.declared.refusal.Refusal.the-variants.{Above as TakenAbove}
+use lib.ListN.{length}
+use Rattle.commands.specs.Work.Answers.{WritesFront}
+use Rattle.commands.specs.Work.Places.{nikobusRow, responseRow, nibeRow, homiqRow, rowIn, rowOf}
+use Rattle.commands.proofs.Laws.Written.{cause-at, has-above, fronted, the-only}
+
+-- ---- the row of what the code says is the message's
+
+nikobus-row : (e : Nikobus) (p : List ℕ) → row (ofNikobus e p) ≡ nikobusRow e
+nikobus-row (Read g a) p = refl
+nikobus-row (Set g a out) p = refl
+nikobus-row (Answer a third out) p = refl
+nikobus-row (Press d) p = refl
+nikobus-row Tail p = refl
+nikobus-row Link p = refl
+
+response-row : (e : Response) (p : List ℕ) → row (ofResponse e p) ≡ responseRow e
+response-row (Climate t h) p = refl
+response-row State p = refl
+response-row Break p = refl
+response-row End p = refl
+response-row (Text i) p = refl
+response-row (Other i) p = refl
+
+nibe-row : (e : Nibe) (d : List ℕ) → row (ofNibe e d) ≡ nibeRow e
+nibe-row (Ask r) d = refl
+nibe-row (Reply v) d = refl
+nibe-row (Put v) d = refl
+nibe-row (Done ok) d = refl
+nibe-row (Plain c) d = refl
+
+pub homiq-row : (e : Homiq) (w : Wire) → row (ofHomiq e w) ≡ homiqRow e
+homiq-row Output w = refl
+homiq-row Input w = refl
+homiq-row Shutter w = refl
+homiq-row Beat w = refl
+homiq-row Rest w = refl
+
+said-nikobus : (e : Nikobus) (s : List ℕ) (m : Message) → SaysNikobus e s m → row m ≡ nikobusRow e
+said-nikobus e s m (digits h b d i) = ap row i ∙ ap nikobusRow (sym h)
+said-nikobus e s m (fixed h i) = ap row i ∙ nikobus-row e []
+
+pub said-row : (e : Coded) (s : List ℕ) (m : Message) → Says e s m → row m ≡ rowIn e
+said-row (OnNikobus e) s m a = said-nikobus e s m a
+said-row (Command i) s m a = ap row a
+said-row (AsResponse e) s m a = ap row a ∙ response-row e s
+said-row (OnNibe e) s m a = ap row a ∙ nibe-row e s
+said-row (OnHomiq e) s m a = ap row (a .is) ∙ homiq-row e (a .wire)
+
+-- ---- the frame of a message within its limits
+
+known-kind : (x : Fields) → known (kindOf x) ≡ true
+unfolding known
+known-kind (onNikobus m) = refl
+known-kind (asCommand m) = refl
+known-kind (asResponse m) = refl
+known-kind (onNibe m) = refl
+known-kind (onHomiq m) = refl
+
+module _ {k : ℕ} {whole : List ℕ} (m : Message) (l : Limits m) (kind : kindOf (fields m) ≡ k) (same : whole ≡ bytes m) where
+  frame : Frame k whole
+  frame = subst (λ (i : ℕ). Frame i whole) kind (subst (Frame (kindOf (fields m))) (sym same) (bytes-frame m l))
+
+  -- it is decoded
+  pub never-refused : {no : ℕ} → DecodeCause k whole no → ⊥
+  never-refused (no-kind h) = true≢false (sym (ap known (sym kind) ∙ known-kind (fields m)) ∙ h)
+  never-refused (no-message h) = let q = has-message frame in h (q .0) (q .1)
+
+  -- to a message with its fields
+  pub same-fields : (n : Message) → Stands k whole n → fields n ≡ fields m
+  same-fields n s = one-fields (fields n) (fields m) (fit n (s .good .limits)) (fit m l) (s .kind ∙ sym kind) (s .frame ∙ same)
+
+  pub above-of : (n : Message) → Stands k whole n → row n < row m → Above m
+  above-of n s h = record { other = n; above = h; limits = s .good .limits; same = same-fields n s }
+
+  -- which is the message itself, where it stands no higher
+  pub itself : (n : Message) → Stands k whole n → (row n < row m → ⊥) → n ≡ m
+  itself n s h =
+      let e : look (fields m) ≡ n = ap look (sym (same-fields n s)) ∙ only n (s .good) in
+      ⊎-elim {C = n ≡ m} (λ (g : look (fields m) ≡ m). sym e ∙ g) (λ (g : row (look (fields m)) < row m). absurd (h (subst (λ (x : Message). row x < row m) e g)))
+      (found m l)
+
+  pub is-above : {r : Decoded} → Decodes k whole r → rowOf r < row m → Above m
+  is-above (is {e = e} c s) h =
+      above-of (s .message) (s .stands) (subst (λ (i : ℕ). i < row m) (sym (said-row e _ (s .message) (s .says))) h)
+  is-above (refused {why = why} c) h = absurd (never-refused (cause-at c (some-number why)))
+
+  pub is-free : {r : Decoded} → Decodes k whole r → (rowOf r < row m → ⊥) → Above m → ⊥
+  is-free (is {e = e} c s) h a =
+      let q = itself (s .message) (s .stands) (λ g. h (subst (λ (i : ℕ). i < row m) (said-row e _ (s .message) (s .says)) g)) in
+      s .stands .good .free (subst Above (sym q) a)
+  is-free (refused {why = why} c) h a = never-refused (cause-at c (some-number why))
+
+-- ---- what is answered after reading it again
+
+module _ {k i n : ℕ} {whole room : List ℕ} {r : Decoded} (d : Decodes k whole r) (e : n ≡ rowOf r) where
+  pub refused-again : n < i → WritesFront k i whole room (NotWritten TakenAbove) room
+  refused-again h m l kind place same = has-above room m refl (the-only m) l (is-above m l kind same d (omega (arith, e, h, place)))
+
+  pub written-again : {later : List ℕ} (q : Written) → i ≤ n → Writes (RoomCause (length room) (length whole)) whole room q later → WritesFront k i whole room q later
+  written-again q h w m l kind place same =
+      fronted room m refl (the-only m) q l (is-free m l kind same d (λ g. omega (arith, e, h, place))) same w

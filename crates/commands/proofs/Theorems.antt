@@ -1,0 +1,125 @@
+-- What decoding and encoding come to, for a reader: demand 2's round trips, and the acknowledgement.
+-- Assumes nothing.
+use mathlib.Core.Path.{_≡_, refl, sym, _∙_, ap, subst}
+use mathlib.Core.List.{List, _++_}
+use Prim.Native.Nat.{ℕ, _≤_}
+use native.Mathlib.Omega.{arith}
+use lib.ListN.{length, drop}
+use Rattle.digits.specs.Paper.Bytes.{part}
+use Rattle.digits.specs.Paper.LowFirst.{Width}
+use Rattle.digits.proofs.Laws.Refusals.{some-number}
+use Rattle.puts.specs.declared.Written.{Written}
+use Rattle.puts.specs.Paper.Wrote.{writtenRefusal, writtenCount}
+use Rattle.builds.specs.Paper.Wrote.{WroteRight, wrote, refused}
+use Rattle.layouts.specs.Paper.Chars.{oneOf}
+use Rattle.layouts.specs.Paper.Made.{Wire, homiqOf}
+use Rattle.layouts.proofs.Laws.Made.{homiq-fit}
+use Rattle.frames.specs.Paper.Kinds.{known}
+use Rattle.messages.specs.Paper.Answers.{Stands, Said, Decodes, is}
+use Rattle.messages.specs.Paper.Answers as decodes
+use Rattle.messages.specs.Paper.Fields.{onHomiq, kindOf, payloadIn}
+use Rattle.messages.specs.Paper.Message.{Message}
+use Rattle.messages.specs.Paper.Says.{Says, ofHomiq}
+use Rattle.messages.specs.Paper.Table.{fields, bytes, HasWidth, in-reply, in-put, Limits, Above, Good}
+use Rattle.messages.specs.Work.Homiq.{whichOf}
+use Rattle.messages.specs.Work.Look.{look}
+use Rattle.messages.specs.declared.Decoded.{Decoded}
+use Rattle.messages.specs.declared.Decoded.the-variants.{Is, Refused}
+use Rattle.messages.specs.declared.Message.{Message as Coded}
+use Rattle.messages.proofs.Laws.Decode.{stands}
+use Rattle.messages.proofs.Laws.Says.{one-said, one-case}
+use Rattle.messages.proofs.Theorems.{one-message-of, beside}
+use Rattle.commands.specs.Paper.Acknowledge.{FrameOf, acknowledged, acknowledgement}
+use Rattle.commands.specs.Paper.Answers.{MessageCause, outside, taken, short, EncodeCause, no-kind, no-width, other-kind, by-message, MeantBytes, Encodes}
+use Rattle.commands.proofs.Laws.Again.{never-refused}
+use Rattle.commands.proofs.Laws.Kinds.{said-kind}
+use Rattle.commands.proofs.Laws.Written.{cause-at}
+
+-- ---- a message of the table that is said is encoded, where the room is long enough
+
+width-there : (m : Message) (w : ℕ) → Limits m → HasWidth m w → Width w
+width-there m w l (in-reply {r = r} {v = v} e) = subst Limits e l .1 .known
+width-there m w l (in-put {r = r} {v = v} e) = subst Limits e l .1 .known
+
+module _ {k : ℕ} (e : Coded) (s room : List ℕ) (m : Message) (good : Good m) (kind : kindOf (fields m) ≡ k) (says : Says e s m)
+    (enough : length (bytes m) ≤ length room) where
+  not-by-message : {no : ℕ} → MessageCause (Says e s) (length room) no → ⊥
+  not-by-message (outside f) = f m says (good .limits)
+  not-by-message (taken {m = n} a h) = good .free (subst Above (one-said e s n m a says) h)
+  not-by-message (short {m = n} a h) = let q : length (bytes n) ≡ length (bytes m) = ap (λ (x : Message). length (bytes x)) (one-said e s n m a says) in omega (arith, q, h, enough)
+
+  no-cause : {no : ℕ} → EncodeCause k e s (length room) no → ⊥
+  no-cause (no-kind h) = never-refused m (good .limits) kind refl (decodes.no-kind h)
+  no-cause (no-width {m = n} {w = w} a h f) = f (width-there m w (good .limits) (subst (λ (x : Message). HasWidth x w) (one-said e s n m a says) h))
+  no-cause (other-kind h) = h (sym (said-kind e s m says) ∙ kind)
+  no-cause (by-message c) = not-by-message c
+
+  pub encoded : {no count : ℕ} {later : List ℕ} → WroteRight (EncodeCause k e s (length room)) (MeantBytes (Says e s)) room no count later
+      → (no ≡ 0) × (count ≡ length (bytes m)) × (later ≡ bytes m ++ drop (length (bytes m)) room)
+  encoded (wrote f b) =
+      let q = b .is ∙ ap bytes (one-said e s (b .message) m (b .meant) says) in
+      (refl, ap length q, ap (λ (x : List ℕ). x ++ drop (length x) room) q)
+  encoded (refused p f) = absurd (no-cause (cause-at f p))
+
+-- A FRAME, DECODED AND ENCODED, HAS THE SAME BYTES. Its payload stands beside what it is decoded to.
+pub same-bytes : {k : ℕ} {f : List ℕ} {e : Coded} {from to : ℕ} (said : Said k f e from to) (room later : List ℕ) (r : Written) → length f ≤ length room
+    → Encodes k e (part from to f) room r later → (writtenRefusal r ≡ 0) × (writtenCount r ≡ length f) × (later ≡ f ++ drop (length f) room)
+same-bytes {k} {f} {e} {from} {to} said room later r h w =
+    let t = said .stands in
+    let s : Says e (part from to f) (said .message) = subst (λ (p : List ℕ). Says e p (said .message)) (sym (beside said)) (said .says) in
+    let enough : length (bytes (said .message)) ≤ length room = subst (λ (x : List ℕ). length x ≤ length room) (sym (t .frame)) h in
+    let q = encoded e (part from to f) room (said .message) (t .good) (t .kind) s enough w in
+    (q .0, q .1 ∙ ap length (t .frame), q .2 ∙ ap (λ (x : List ℕ). x ++ drop (length x) room) (t .frame))
+
+-- AN ENCODED MESSAGE DECODES TO ITSELF: the decoder answers the case that was encoded, and its message is the one
+pub same-message : {k : ℕ} (e : Coded) (s : List ℕ) (m : Message) → Good m → kindOf (fields m) ≡ k → Says e s m → (r : Decoded) → Decodes k (bytes m) r
+    → (from : ℕ) × (to : ℕ) × (r ≡ Is e from to) × (said : Said k (bytes m) e from to) × (said .message ≡ m)
+same-message {k} e s m g kind says (Is d from to) (is c said) =
+    let n = said .message in
+    let t : Stands k (bytes m) m = record { good = g; kind = kind; frame = refl } in
+    let q : n ≡ m = one-message-of n m (said .stands) t in
+    let same : d ≡ e = one-case d e (payloadIn (fields n)) s m (subst (Says d (payloadIn (fields n))) q (said .says)) says in
+    let back : Said k (bytes m) e from to = record {
+      message = n;
+      stands = said .stands;
+      says = subst (λ (x : Coded). Says x (payloadIn (fields n)) n) same (said .says);
+      from-is = said .from-is;
+      to-is = said .to-is;
+    } in
+    (from, to, ap (λ (x : Coded). Is x from to) same, back, q)
+same-message e s m g kind says (Refused why) (decodes.refused c) = absurd (never-refused m (g .limits) kind refl (cause-at c (some-number why)))
+
+-- ---- THE ACKNOWLEDGEMENT of a frame
+
+-- is itself a frame
+pub acknowledgement-frame : {f : List ℕ} {w : Wire} → FrameOf f w → FrameOf (acknowledgement w) (acknowledged w)
+unfolding oneOf
+acknowledgement-frame {w = w} o =
+    let l = o .limits in
+    record {
+      limits = homiq-fit (acknowledged w) 0 (record {
+        cmd = l .cmd;
+        val = l .val;
+        src = l .dst;
+        dst = l .src;
+        low = l .low;
+        high = l .high;
+        type = tt;
+        crc = omega arith;
+      });
+      frame = refl;
+    }
+
+-- and decodes to the exchanged message: the same one, with SRC and DST exchanged and the type `a`
+pub homiq-message : {f : List ℕ} {w : Wire} → FrameOf f w → Stands 5 f (ofHomiq (whichOf (w .cmd) (w .val)) w)
+unfolding look
+homiq-message {f} {w} o =
+    subst (λ (g : List ℕ). Stands 5 g (ofHomiq (whichOf (w .cmd) (w .val)) w)) (sym (o .frame))
+    (stands (onHomiq (homiqOf w)) (record { limits = o .limits; passes = refl }))
+
+pub exchanged-message : {f : List ℕ} {w : Wire} → FrameOf f w → Stands 5 (acknowledgement w) (ofHomiq (whichOf (w .cmd) (w .val)) (acknowledged w))
+exchanged-message o = homiq-message (acknowledgement-frame o)
+
+-- and is refused, being of type `a`
+pub of-type-a : (w : Wire) → acknowledged w .type ≡ 97
+of-type-a w = refl

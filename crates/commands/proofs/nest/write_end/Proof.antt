@@ -1,0 +1,21 @@
+-- `commands::nest::write_end` meets its contract: its frame is that of the row.
+-- Assumes nothing.
+use Rattle.commands.proofs.Laws.NestWrites.{end-written}
+use borrow.Author.Needs.{needs}
+use Rattle.commands.proofs.nest.write_end.Statement.{statement}
+use Rattle.commands.proofs.nest.write_end.Tie as tie
+
+slice-aggregate-frame : tie.Need-slice-aggregate-frame
+slice-aggregate-frame c = search needs
+
+frame-requires : tie.Need-frame-requires
+frame-requires c κs = search needs
+
+same-length : tie.Need-same-length
+same-length c = search needs
+
+returns : tie.Need-returns
+returns c = let s = c .before .before .before .before .before .before in end-written (s .args .room .now) (c .before .before .frame .result) (c .before .before .frame .ensures)
+
+pub write-end-spec : {M : Type 1} → statement M
+write-end-spec = tie.close (tie.spec slice-aggregate-frame frame-requires same-length returns)

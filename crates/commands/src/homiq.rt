@@ -1,0 +1,94 @@
+// Homiq: messages into frames, and the acknowledgement.
+use super::again;
+use builds::homiq;
+use digits::refusal::Refusal;
+use frames::Whole;
+use messages::homiq::Homiq;
+use messages::homiq::field;
+use puts::Written;
+ghost use mathlib.Core.List.{_++_};
+ghost use Rattle.digits.specs.Paper.Ascii.{ascii};
+ghost use Rattle.builds.specs.Paper.Builds.{HomiqBytes};
+ghost use Rattle.puts.specs.Paper.Put.{Put};
+ghost use Rattle.messages.specs.Paper.Homiq.{fieldAt};
+ghost use Rattle.messages.specs.Paper.Says.{SaysHomiq};
+ghost use Rattle.commands.specs.Paper.Acknowledge.{Acknowledges};
+ghost use Rattle.commands.specs.Paper.Answers.{WritesMessage};
+ghost use Rattle.commands.specs.Work.Homiq.{Laid, Answered, relaid, exchanged};
+
+// Writes the frame of a message with CMD to TYPE beside it.
+pub(crate) fn write(message: Homiq, content: &[u8], room: &mut [u8]) -> Written
+    ensures { λ r. ⌜ WritesMessage (SaysHomiq message (now (content .entry))) (now (room .entry)) r (now (room .exit)) ⌝ }
+{
+    let mut whole = [0u8; 64];
+    match homiq::frame(content, &mut whole) {
+        Written::Bytes(n) => write_whole(message, content, &whole[0..n], room),
+        Written::Refused(why) => Written::Refused(Refusal::Limits),
+    }
+}
+
+// Writes the frame with CMD to TYPE, where its message is the one that is said.
+fn write_whole(message: Homiq, content: &[u8], whole: &[u8], room: &mut [u8]) -> Written
+    requires { ⌜ HomiqBytes (now content) (now whole) ⌝ }
+    ensures { λ r. ⌜ WritesMessage (SaysHomiq message (now (content .entry))) (now (room .entry)) r (now (room .exit)) ⌝ }
+{
+    let own = again::homiq_row(message);
+    let found = again::row_of(messages::decode(5, whole));
+    if found == own {
+        return puts::front(whole, room);
+    }
+    if own == again::HOMIQ {
+        return Written::Refused(Refusal::Above);
+    }
+    Written::Refused(Refusal::Limits)
+}
+
+// Writes the acknowledgement of a frame of type `s`.
+pub(crate) fn acknowledge(frame: &[u8], room: &mut [u8]) -> Written
+    ensures { λ r. ⌜ Acknowledges (now (frame .entry)) (now (room .entry)) r (now (room .exit)) ⌝ }
+{
+    match frames::one_frame(5, frame) {
+        Whole::Is { from, to } => answer(&frame[from..to], room),
+        Whole::Refused(why) => Written::Refused(Refusal::Limits),
+    }
+}
+
+// Writes the acknowledgement of the frame with this payload, whose last character is its type.
+fn answer(payload: &[u8], room: &mut [u8]) -> Written
+    requires { ⌜ Laid (now payload) ⌝ }
+    ensures { λ r. ⌜ Answered (now (payload .entry)) (now (room .entry)) r (now (room .exit)) ⌝ }
+{
+    if payload[payload.len() - 1] == b'a' {
+        return Written::Refused(Refusal::Limits);
+    }
+    let mut reply = [0u8; 64];
+    let n = exchange(payload, &mut reply);
+    homiq::frame(&reply[0..n], room)
+}
+
+// Puts a payload with SRC and DST exchanged and with `a` for its type.
+fn exchange(payload: &[u8], room: &mut [u8]) -> usize
+    ensures { λ r. ⌜ Put (now (room .entry)) (now (room .exit)) 0 r (exchanged (now (payload .entry))) ⌝ }
+{
+    relay(payload, 3, 2, room)
+}
+
+// Puts CMD, VAL, two of the payload's fields for SRC and DST, ID, and `a`.
+fn relay(payload: &[u8], src: usize, dst: usize, room: &mut [u8]) -> usize
+    ensures { λ r. ⌜ Put (now (room .entry)) (now (room .exit)) 0 r (relaid src dst (now (payload .entry))) ⌝ }
+{
+    let mut at = put_field(payload, 0, room, 0);
+    at = put_field(payload, 1, room, at);
+    at = put_field(payload, src, room, at);
+    at = put_field(payload, dst, room, at);
+    at = put_field(payload, 4, room, at);
+    puts::byte(b'a', room, at)
+}
+
+// Puts a field of a payload and `;`.
+fn put_field(payload: &[u8], number: usize, room: &mut [u8], at: usize) -> usize
+    ensures { λ r. ⌜ Put (now (room .entry)) (now (room .exit)) at r (fieldAt number (now (payload .entry)) ++ ascii ";") ⌝ }
+{
+    let next = puts::bytes(field(payload, number), room, at);
+    puts::byte(b';', room, next)
+}

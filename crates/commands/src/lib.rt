@@ -1,0 +1,75 @@
+// Commands back to bytes: messages encoded into frames, and frames acknowledged.
+mod again;
+mod homiq;
+mod nest;
+mod nibe;
+mod nikobus;
+
+use digits::refusal::Refusal;
+use frames::kinds;
+use messages::Message;
+use puts::Written;
+ghost use mathlib.Core.Path.{_≡_};
+ghost use Rattle.digits.specs.Paper.Read.{Tells};
+ghost use Rattle.messages.specs.Paper.Says.{kindIn};
+ghost use Rattle.commands.specs.Paper.Answers.{Encodes};
+ghost use Rattle.commands.specs.Paper.Acknowledge.{Acknowledges};
+ghost use Rattle.commands.specs.Work.Answers.{WidthIn};
+
+// Writes the frame of a message from the front of the room. Refusals: 2 for a kind that is not known, 7 for a width that is not 1,
+// 2 or 4, 5 for a message of another kind or a field outside its limits, 6 for a content that a message above has, 4 for a room
+// too short.
+pub fn encode(kind: u8, message: Message, content: &[u8], room: &mut [u8]) -> Written
+    ensures { λ r. ⌜ Encodes kind message (now (content .entry)) (now (room .entry)) r (now (room .exit)) ⌝ }
+{
+    if !kinds::known(kind) {
+        return Written::Refused(Refusal::Kind);
+    }
+    if !has_width(message) {
+        return Written::Refused(Refusal::Form);
+    }
+    if kind_of(message) != kind {
+        return Written::Refused(Refusal::Limits);
+    }
+    match message {
+        Message::Nikobus(m) => nikobus::write(m, content, room),
+        Message::Command { id } => nest::write_command(id, content, room),
+        Message::Response(m) => nest::write(m, content, room),
+        Message::Nibe(m) => nibe::write(m, content, room),
+        Message::Homiq(m) => homiq::write(m, content, room),
+    }
+}
+
+// Writes the acknowledgement of a Homiq frame of type `s` from the front of the room: SRC and DST exchanged, `a`, and the CRC of
+// that. Refusals: 5 for a frame of type `a` and for anything else than one frame, 4 for a room too short.
+pub fn acknowledge(frame: &[u8], room: &mut [u8]) -> Written
+    ensures { λ r. ⌜ Acknowledges (now (frame .entry)) (now (room .entry)) r (now (room .exit)) ⌝ }
+{
+    homiq::acknowledge(frame, room)
+}
+
+// Whether a message's value has a width that there is; a message without a value needs none.
+fn has_width(message: Message) -> bool
+    ensures { λ r. ⌜ Tells (WidthIn message) r ⌝ }
+{
+    match message {
+        Message::Nikobus(m) => true,
+        Message::Command { id } => true,
+        Message::Response(m) => true,
+        Message::Nibe(m) => nibe::has_width(m),
+        Message::Homiq(m) => true,
+    }
+}
+
+// The kind whose message it is.
+fn kind_of(message: Message) -> u8
+    ensures { λ r. ⌜ r ≡ kindIn message ⌝ }
+{
+    match message {
+        Message::Nikobus(m) => 1,
+        Message::Command { id } => 2,
+        Message::Response(m) => 3,
+        Message::Nibe(m) => 4,
+        Message::Homiq(m) => 5,
+    }
+}
