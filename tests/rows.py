@@ -1,0 +1,590 @@
+#!/usr/bin/env python3
+"""Every row of the message table, run: the program `rows` against table.py, on each field's limits and beyond, all kinds, rooms just
+long enough and too short, frames whole and damaged, and on random ones.
+
+tests/rows.py [SEED]            proves and builds the program where that has not been done, runs it and compares; with no seed, a fixed
+                                one and a new one, which is printed
+tests/rows.py --files IN OUT [SEED]   writes the program's input and what it should write, and runs nothing
+
+The last line is `N passed, M failed`: a test is a row and what is asked of it, over all its cases, for a seed.
+"""
+import functools
+import os
+import random
+import struct
+import subprocess
+import sys
+from typing import NamedTuple
+
+sys.dont_write_bytecode = True  # or Python leaves a folder beside the two that are imported
+
+import points
+import table
+
+ROOT = os.path.join(os.path.dirname(os.path.abspath(__file__)), "..")
+ASKED = ["decode", "encode", "acknowledge", "field", "voltages", "pair"]
+FILLED = b"\xee"
+ALL_KINDS = (0, 1, 2, 3, 4, 5, 6, 255)
+# many cases share a frame, and a division for each would take most of the time
+points.value = functools.lru_cache(maxsize=None)(points.value)
+
+
+class Case(NamedTuple):
+    test: str
+    asked: str
+    kind: int = 0
+    name: str = "read"
+    fields: dict = {}
+    content: bytes = b""
+    room: int = 0
+
+
+def head(fields):
+    """A message's fields under the names of crates/rows/src/record.rt: small, six, word and value."""
+    small = next((fields[key] for key in ("group", "third", "width", "command", "ok") if key in fields), 0)
+    six = fields.get("out") or fields.get("digits") or bytes(6)
+    word = next((fields[key] for key in ("address", "id", "register", "humidity") if key in fields), 0)
+    return small, six, word, fields.get("value", 0)
+
+
+def record(case):
+    """The bytes that ask the program."""
+    small, six, word, value = head(case.fields)
+    value |= case.fields.get("temperature", 0) & 0xFFFF
+    numbers = (ASKED.index(case.asked) + 1, case.kind, table.NAMES.index(case.name) + 1, small)
+    return struct.pack("<BBBB6sHIHH", *numbers, six, word, value, case.room, len(case.content)) + case.content
+
+
+def binary(n):
+    return ("-" if n < 0 else "") + format(abs(n), "017b")
+
+
+def words(name, fields):
+    """A message as the program writes it."""
+    small, six, word, value = head(fields)
+    row = table.NAMES.index(name) + 1
+    shown = (row, small, six.hex().upper(), word, value, binary(fields.get("temperature", 0)))
+    return "row %d small %d six %s word %d value %d temperature %s" % shown
+
+
+def in_room(answer, room):
+    """What is answered, and the whole room afterwards."""
+    if isinstance(answer, bytes) and len(answer) > room:
+        answer = 4
+    if isinstance(answer, int):
+        return "refused %d room %s" % (answer, (FILLED * room).hex().upper())
+    return "wrote %d room %s" % (len(answer), answer.ljust(room, FILLED).hex().upper())
+
+
+def expected(case):
+    asked, content = case.asked, case.content
+    if asked == "encode":
+        return in_room(table.encode(case.kind, case.name, case.fields, content), case.room)
+    if asked == "acknowledge":
+        return in_room(table.acknowledge(content), case.room)
+    if asked == "field":
+        return "field " + dict(enumerate(content.split(b";"))).get(case.fields["value"], b"").hex().upper()
+    if asked == "voltages":
+        found = table.voltages(content)
+        return "refused 5" if found == 5 else "vin %d vop %d vbat %d" % tuple(found)
+    if asked == "pair":
+        f = case.fields
+        return "temperature %s humidity %s" % (binary(f["temperature"]), binary(f["humidity"])) if case.name == "climate" else "refused 5"
+    found = table.decode(case.kind, content)
+    if isinstance(found, int):
+        return "refused %d content " % found
+    name, fields, first, last = found
+    return "%s from %d to %d content %s" % (words(name, fields), first, last, content[first:last].hex().upper())
+
+
+# ---- the messages of each row: fields and content, at their limits and beyond
+
+WORDS = (0, 1, 255, 256, 0x4707, 0xFF00, 65535)
+OUTS = (bytes(6), b"\xff" * 6, b"\x01\x02\x03\x04\x05\xfe")
+GROUPS = (0, 1, 2, 3, 18, 255)
+EDGES = b"/0 9:@AFG`afg\x00\xff"
+JUNK = (b"", b"120747", b"BRK", b"O.1;1;0H;0;42;s", bytes(range(256)) * 4)
+LENGTHS = (0, 1, 2, 3, 4, 5, 15, 16, 17, 1023, 1024, 1025, 1100)
+IDS = (0, 1, 2, 3, 0x0A, 0x0B, 0x0C, 0x17, 0x18, 0x19, 0x1A, 0x2E, 0x2F, 0x30, 0xFF, 0x0100, 0x0B00, 0x1800, 0x2F00, 65535)
+TEMPERATURES = (-32768, -32767, -12345, -257, -256, -255, -1, 0, 1, 127, 128, 255, 256, 2500, 32766, 32767)
+VALUES = (0, 1, 127, 128, 255, 256, 257, 32768, 65535, 65536, 65537, 2**24, 2**31, 2**32 - 1)
+
+
+def pattern(length):
+    return bytes(i * 37 + 11 & 255 for i in range(length))
+
+
+def read_messages():
+    for group in GROUPS:
+        for address in WORDS:
+            yield {"group": group, "address": address}, JUNK[address % 5]
+
+
+def set_messages():
+    for group in GROUPS:
+        for address in WORDS:
+            yield {"group": group, "address": address, "out": OUTS[address % 3]}, JUNK[address % 5]
+    for out in OUTS:
+        yield {"group": 2, "address": 0x4707, "out": out}, b""
+
+
+def answer_messages():
+    for third in (0, 1, 0xFF):
+        for address in WORDS + (0x4712, 0x0015):
+            yield {"address": address, "third": third, "out": OUTS[address % 3]}, JUNK[address % 5]
+
+
+def press_messages():
+    for digits in (b"12AB34", b"000000", b"FFFFFF", b"9AF0A9", b"12ab34", bytes(6), b"\xff" * 6):
+        yield {"digits": digits}, JUNK[digits[0] % 5]
+    for at in range(6):
+        for c in EDGES:
+            yield {"digits": b"12AB34"[:at] + bytes([c]) + b"12AB34"[at + 1 :]}, b""
+
+
+def link_contents():
+    for length in (0, 1, 2, 3, 4, 8, 9, 10, 11, 121, 122, 123, 200):
+        yield (b"\x11" + pattern(length))[:length].hex().upper().encode()
+    for payload in ("120747", "170747", "110747", "130747", "180747", "160747", "150747", "1207", "12074700", "170747FF"):
+        yield payload.encode()
+    # sets, and what lacks one thing to be a set
+    for code in ("15", "16", "14", "17", "12"):
+        for last in ("FF", "FE", "00", "", "FFFF"):
+            yield ("%s0747010203040506%s" % (code, last)).encode()
+    # odd counts, lower case, characters beside the digits'
+    yield from (b"1", b"123", b"12074", b"1207470", b"A" * 243, b"A" * 244, b"A" * 245, b"A" * 246)
+    yield from (b"11ab00", b"12ab47", b"1207fF", b"fF", b"0x12", b"$10110000B8CF9D\r", b"110000\r", b" 11", b"11 00")
+    for c in EDGES:
+        yield b"1100" + bytes([c]) + b"0"
+        yield b"1100" + b"0" + bytes([c])
+        yield bytes([c]) + b"10000"
+
+
+def link_messages():
+    for content in link_contents():
+        yield {}, content
+
+
+def command_messages():
+    for number in IDS:
+        for length in (0, 3, 4, 16):
+            yield {"id": number}, pattern(length)
+    for length in LENGTHS:
+        yield {"id": 0x82}, pattern(length)
+
+
+def climate_messages():
+    for temperature in TEMPERATURES:
+        for humidity in (0, 1, 255, 256, 499, 32767, 32768, 65535):
+            yield {"temperature": temperature, "humidity": humidity}, JUNK[humidity % 5]
+
+
+def state_messages():
+    for length in LENGTHS + (18, 24, 1000):
+        yield {}, pattern(length)
+    yield {}, bytes(16)
+    yield {}, b"\xff" * 16
+
+
+def fixed_messages():
+    for content in JUNK:
+        yield {}, content
+
+
+def text_messages():
+    for number in IDS:
+        for payload in (b"", b"BRK", b"BR", b"BRK\x00", b"brk", b"KRB", b"hello\r\n", pattern(16)):
+            yield {"id": number}, payload
+    for number in (0x01, 0x18, 0x19, 0x1A):
+        for length in LENGTHS:
+            yield {"id": number}, pattern(length)
+
+
+def response_messages():
+    yield from text_messages()
+    for number in (0x02, 0x0B, 0x2F, 0x03):
+        for length in LENGTHS:
+            yield {"id": number}, pattern(length)
+
+
+def ask_messages():
+    for register in WORDS + (40004, 47011, 47043):
+        yield {"register": register}, JUNK[register % 5]
+
+
+def valued_messages():
+    for width in (0, 1, 2, 3, 4, 5, 8, 255):
+        for value in VALUES:
+            yield {"register": WORDS[value % 7], "width": width, "value": value}, JUNK[value % 5]
+    for register in WORDS:
+        yield {"register": register, "width": 2, "value": 0x1234}, b""
+
+
+def done_messages():
+    for ok in (0, 1):
+        for content in JUNK:
+            yield {"ok": ok}, content
+
+
+def nibe_messages():
+    for command in (*table.COMMANDS, 0x00, 0x5F, 0x61, 0x63, 0x67, 0x6D, 0xC0, 0xFF):
+        for length in (0, 1, 2, 3, 4, 5, 6, 7, 254, 255, 256, 300):
+            yield {"command": command}, pattern(length)
+        for content in (b"\x00", b"\x01", b"\x02", b"\xff", b"\x00\x00", b"\x01\x00"):
+            yield {"command": command}, content
+
+
+def homiq_contents():
+    """CMD to TYPE: commands with values, then IDs and types, then the fields' lengths and characters."""
+    for letter, count in ((b"O", 12), (b"I", 18)):
+        for i in range(count):
+            for value in (b"0", b"1"):
+                yield b"%s.%d;%s;0H;0;42;s" % (letter, i, value)
+        for number in b"|00|01|09|015|-1|+1|1.|x|99|100|256|265|429496|99999".split(b"|"):
+            yield b"%s.%s;1;0H;0;42;s" % (letter, number)
+        for value in b"|2|00|01|10|on|x".split(b"|"):
+            yield b"%s.3;%s;0H;0;42;s" % (letter, value)
+    for command in b"O|I|O3|I3|o.3|i.3|U.3|OO.3|UD|ud|U|UDD|D|HB|hb|H|HBB|O.1.|I.-0".split(b"|"):
+        for value in b"0|1|u|d|s|x|U|ud|11".split(b"|"):
+            yield b"%s;%s;0H;0;42;s" % (command, value)
+    for number in b"0|1|9|10|99|100|510|511|512|513|999|1000|007|01||-1|+1|4x|x| 1|4294967297".split(b"|"):
+        for kind in (b"s", b"a"):
+            yield b"I.3;1;0H;0;%s;%s" % (number, kind)
+    for kind in b"|x|S|A|ss|sa|as| |\x00|b|r|t".split(b"|"):
+        yield b"HB;1;0H;0;42;" + kind
+    full = (b"ABCDEFGH", b"0123456789ABCDEF", b"0HJK", b"0LMN")
+    yield b";".join(full) + b";511;s"
+    for at in range(4):
+        for field in (b"", full[at][:1], full[at][:-1], full[at], full[at] + b"Z"):
+            yield b";".join([*full[:at], field, *full[at + 1 :], b"42", b"s"])
+            yield b";".join([*(b"UD", b"u", b"0", b"1")[:at], field, *(b"UD", b"u", b"0", b"1")[at + 1 :], b"42", b"a"])
+        for c in b" !:<=>?~\x7f\x80\xff\x00\r\n":
+            fields = [b"HB", b"1", b"0H", b"0"]
+            fields[at] = bytes([c])
+            yield b";".join(fields + [b"42", b"s"])
+    yield from b"|;|;;;;;|HB|HB;1;0H;0;42|HB;1;0H;0;42;s;|;HB;1;0H;0;42;s|HB;1;0H;0;42;s;134|HB;1;0H;0;0;42;s".split(b"|")
+    yield from (points.HOMIQ_G, bytes(64), b"A" * 64, b"A" * 1100, b";" * 1100)
+
+
+def homiq_messages():
+    for content in homiq_contents():
+        yield {}, content
+
+
+MESSAGES = {
+    "read": read_messages,
+    "set": set_messages,
+    "answer": answer_messages,
+    "press": press_messages,
+    "tail": fixed_messages,
+    "link": link_messages,
+    "command": command_messages,
+    "climate": climate_messages,
+    "state": state_messages,
+    "break": fixed_messages,
+    "end": fixed_messages,
+    "text": text_messages,
+    "response": response_messages,
+    "ask": ask_messages,
+    "reply": valued_messages,
+    "put": valued_messages,
+    "done": done_messages,
+    "nibe": nibe_messages,
+    **{name: homiq_messages for name in table.HOMIQ},
+}
+
+
+# ---- what is asked of them
+
+
+def encode_cases(name, fields, content):
+    """As its own kind into rooms just long enough, one too short, none and longer; then as each other kind."""
+    kind = table.KINDS[name]
+    made = table.encode(kind, name, fields, content)
+    rooms = (len(made), len(made) - 1, 0, len(made) + 3) if isinstance(made, bytes) else (0, 64)
+    for room in rooms:
+        yield Case("encode " + name, "encode", kind, name, fields, content, room)
+    for other in ALL_KINDS:
+        if other != kind:
+            yield Case("encode as another kind " + name, "encode", other, name, fields, content, 64 * (len(content) & 1))
+
+
+def forced(name, fields, content):
+    """The bytes that a message would have, right check values and all, also where a field is outside its limits; none where there are none."""
+    kind = table.KINDS[name]
+    made = table.MAKE[name](fields, content) if fields.get("width", 1) in table.WIDTHS else None
+    if made is not None:
+        return table.frame(kind, made)
+    if name == "press":
+        return b"#N" + fields["digits"] + b"\r"
+    if name == "link":
+        try:
+            return points.link(content, over=bytes.fromhex(content.decode()))
+        except ValueError:
+            return points.link(content, over=b"")
+    if name in ("command", "text", "response", "state"):
+        return points.nest(kind, fields.get("id", 0x0B), content)
+    if name == "nibe" and len(content) < 256:
+        return points.nibe(fields["command"], content)
+    return points.homiq(content) if kind == 5 else None
+
+
+def damaged(s, rng):
+    """One byte changed at each place, or at some of a long one's; a byte more, a byte fewer."""
+    places = range(len(s)) if len(s) <= 32 else sorted(rng.sample(range(len(s)), 8)) + [len(s) - 1, len(s) - 2, 3, 4]
+    for at in places:
+        changed = rng.choice((s[at] ^ 1 << rng.randrange(8), s[at] ^ 0x20, rng.randrange(256)))
+        yield s[:at] + bytes([changed]) + s[at + 1 :]
+    extra = bytes([rng.choice((0, 0x0A, 0x0D, 0xFF, s[-1]))])
+    yield from (s + extra, extra + s, s[:-1], s[1:])
+
+
+def message_in(kind, s):
+    """The name of the message that a frame has, for the test's name."""
+    found = table.decode(kind, s)
+    return "what is none of kind %d" % kind if isinstance(found, int) else found[0]
+
+
+def decode_cases(kind, s, rng):
+    """As its own kind and as each other, then damaged, then twice."""
+    name = message_in(kind, s)
+    for other in ALL_KINDS:
+        yield Case("decode " + name if other == kind else "decode as another kind " + name, "decode", other, content=s)
+    for other in (*damaged(s, rng), (s + s)[:1100]):
+        yield Case("decode damaged " + name, "decode", kind, content=other)
+
+
+def acknowledge_cases(test, s):
+    made = table.acknowledge(s)
+    rooms = (len(made), len(made) - 1, 0, len(made) + 3) if isinstance(made, bytes) else (0, 64)
+    for room in rooms:
+        yield Case(test, "acknowledge", content=s, room=room)
+
+
+def field_cases(content):
+    for number in (*range(8), 255, 2**32 - 1):
+        yield Case("field", "field", fields={"value": number}, content=content)
+
+
+def limit_cases():
+    """All of the messages above."""
+    rng = random.Random(0)
+    seen = set()
+    for name in table.NAMES:
+        for fields, content in MESSAGES[name]():
+            yield from encode_cases(name, fields, content)
+            kind, s = table.KINDS[name], forced(name, fields, content)
+            if s is None or len(s) > 1100 or (kind, s) in seen:
+                continue
+            seen.add((kind, s))
+            yield from decode_cases(kind, s, rng)
+    for content in homiq_contents():
+        s = points.homiq(content)[:1100]
+        yield from acknowledge_cases("acknowledge", s)
+        yield from field_cases(content)
+        for other in damaged(s, rng) if len(s) < 64 else ():
+            yield from acknowledge_cases("acknowledge damaged", other)
+    for s in (points.LINK_A, points.RESET, points.ASK, b""):
+        yield from acknowledge_cases("acknowledge", s)
+        yield from field_cases(s)
+    for length in LENGTHS[:-2] + (18, 24, 1000):
+        yield Case("voltages", "voltages", content=pattern(length))
+    for name in table.RESPONSES:
+        for fields, content in MESSAGES[name]():
+            yield Case("pair", "pair", 3, name, fields)
+
+
+# ---- random ones
+
+
+def any_word(rng):
+    return rng.choice((rng.choice(WORDS), rng.choice(IDS), rng.randrange(65536)))
+
+
+def any_fields(name, rng):
+    """Each field that the row has, most of them within their limits."""
+    width = rng.choice((1, 2, 4, 4, rng.randrange(256)))
+    drawn = {
+        "group": rng.choice((1, 2, 1, 2, rng.randrange(256))),
+        "address": any_word(rng),
+        "third": rng.randrange(256),
+        "out": rng.randbytes(6),
+        "digits": bytes(rng.choice(b"0123456789ABCDEF") for _ in range(6)),
+        "id": any_word(rng),
+        "temperature": rng.randrange(-32768, 32768),
+        "humidity": any_word(rng),
+        "register": any_word(rng),
+        "width": width,
+        "value": rng.randrange(1 << rng.choice((8 * min(width, 4) or 8, 32))),
+        "ok": rng.randrange(2),
+        "command": rng.choice((*table.COMMANDS, rng.randrange(256))),
+    }
+    if name == "text":
+        drawn["id"] = rng.choice((*table.TEXTS, *table.TEXTS, any_word(rng)))
+    if rng.randrange(8) == 0:
+        drawn["digits"] = bytes(rng.choice(b"0123456789ABCDEFabcdefgG/:@") for _ in range(6))
+    return {key: drawn[key] for key in FIELD_NAMES[name]}
+
+
+FIELD_NAMES = {name: list(next(iter(MESSAGES[name]()))[0]) for name in table.NAMES}
+
+
+def any_homiq(rng):
+    def text(most):
+        return bytes(rng.choice(b"!#09:=?AZaz~.OIUDHB") for _ in range(rng.randint(1, most)))
+
+    command = rng.choice((b"O.%d" % rng.randrange(12), b"I.%d" % rng.randrange(18), b"UD", b"HB", text(8), text(9)))
+    value = rng.choice((b"0", b"1", b"u", b"d", b"s", text(16), text(17)))
+    number = b"%d" % rng.choice((rng.randint(1, 511), rng.randint(1, 511), rng.randint(0, 600)))
+    s = b";".join((command, value, text(4), text(4), number, rng.choice((b"s", b"a"))))
+    if rng.randrange(8) == 0:
+        at = rng.randrange(len(s))
+        s = s[:at] + rng.choice((b"", b";", bytes([rng.randrange(256)]))) + s[at + rng.randrange(2) :]
+    return s
+
+
+def any_content(name, rng):
+    kind = table.KINDS[name]
+    if kind == 5:
+        return any_homiq(rng)
+    if name == "link":
+        payload = rng.randbytes(rng.choice((1, 2, 3, 3, 9, 10, 10, 11, rng.randint(0, 123))))
+        if payload and rng.randrange(2):
+            payload = bytes([rng.choice((0x12, 0x17, 0x15, 0x16))]) + payload[1:-1] + b"\xff"
+        digits = payload.hex().upper()
+        return (digits if rng.randrange(8) else rng.choice((digits.lower(), digits[:-1], digits + "0", digits + "G"))).encode()
+    if rng.randrange(40) == 0:
+        return rng.randbytes(rng.choice((1023, 1024, 1025) if kind in (2, 3) else (254, 255, 256)))
+    return rng.choice((b"BRK", b"", rng.randbytes(rng.choice((1, 2, 3, 4, 6, 15, 16, 17, 20))), rng.randbytes(rng.randrange(40))))
+
+
+def random_cases(seed, count=3000):
+    rng = random.Random(seed)
+    for _ in range(count):
+        name = rng.choice(table.NAMES)
+        kind = table.KINDS[name]
+        fields, content = any_fields(name, rng), any_content(name, rng)
+        made = table.encode(kind, name, fields, content)
+        room = max(0, len(made) + rng.choice((-1, 0, 0, 5, rng.randint(-20, 20)))) if isinstance(made, bytes) else rng.randrange(80)
+        asked = kind if rng.randrange(8) else rng.choice(ALL_KINDS)
+        yield Case("encode at random " + name, "encode", asked, name, fields, content, room)
+        s = forced(name, fields, content)
+        if s is None or len(s) > 1100:
+            continue
+        yield Case("decode at random, kind %d" % kind, "decode", kind, content=s)
+        for other in rng.sample(list(damaged(s, rng)), 2):
+            yield Case("decode damaged at random, kind %d" % kind, "decode", kind, content=other)
+        if kind == 5:
+            room = rng.choice((64, rng.randrange(52)))
+            yield Case("acknowledge at random", "acknowledge", content=s, room=room)
+            yield Case("field at random", "field", fields={"value": rng.randrange(8)}, content=content)
+        if kind == 3:
+            yield Case("voltages at random", "voltages", content=content[:1024])
+            yield Case("pair at random", "pair", 3, name, fields)
+
+
+# ---- the script's own implementation, held to the paper and to itself
+
+
+def known():
+    """The known points (a), (b), (c), (e), (g) and (h) of document 01, as table.py has them."""
+    yield table.decode(1, points.LINK_A) == ("link", {}, 3, 9)
+    yield table.decode(1, points.LINK_B) == ("read", {"group": 1, "address": 0x4707}, 3, 9)
+    yield table.encode(1, "link", {}, b"110000") == points.LINK_A
+    yield table.encode(1, "link", {}, b"120747") == 6
+    yield table.encode(1, "read", {"group": 1, "address": 0x4707}, b"") == points.LINK_B
+    yield table.decode(2, points.RESET) == ("command", {"id": 255}, 7, 7)
+    yield table.encode(2, "command", {"id": 255}, b"") == points.RESET
+    yield table.decode(4, points.ASK_E) == ("ask", {"register": 40004}, 3, 5)
+    yield table.encode(4, "ask", {"register": 40004}, b"") == points.ASK_E
+    yield table.decode(5, points.HOMIQ_G)[0] == "input" and table.decode(5, points.HOMIQ_G.replace(b"134", b"143")) == 5
+    yield table.acknowledge(points.HOMIQ_G) == points.HOMIQ_H and table.acknowledge(points.HOMIQ_H) == 5
+
+
+def reached(cases):
+    """Each row is encoded and decoded, and each refusal given that an encoder, a decoder and an acknowledgement have."""
+    seen = {(case.asked, case.kind, case.name, expected(case).split(" room ")[0].split(" content ")[0]) for case in cases}
+    encoded = {name for asked, _, name, answer in seen if asked == "encode" and answer.startswith("wrote")}
+    decoded = {" ".join(answer.split(" ")[:2]) for asked, _, _, answer in seen if asked == "decode"}
+    refused = {(asked, answer[-1:]) for asked, _, _, answer in seen if answer.startswith("refused")}
+    yield encoded == set(table.NAMES)
+    yield decoded == {*("row %d" % row for row in range(1, 24)), "refused 2", "refused 5"}
+    yield {no for asked, no in refused if asked == "encode"} == set("24567")
+    yield {no for asked, no in refused if asked == "acknowledge"} == set("45")
+    yield {name for asked, _, name, answer in seen if (asked, answer) == ("encode", "refused 6")} == table.LAST
+
+
+def round_trip(case):
+    """Whether what table.py encodes it decodes to the same message."""
+    made = table.encode(case.kind, case.name, case.fields, case.content)
+    if isinstance(made, int):
+        return True
+    name, fields, first, last = table.decode(case.kind, made)
+    beside = made[first:last] == case.content or name not in table.LAST | {"command", "state", *table.HOMIQ}
+    return (name, fields) == (case.name, case.fields) and beside
+
+
+# ---- running
+
+
+def build():
+    """Proves and builds the program, where that has not been done."""
+    os.makedirs(os.path.join(ROOT, "target"), exist_ok=True)
+    done = subprocess.run(["rt", "check", "rows"], cwd=ROOT, stdout=subprocess.PIPE, stderr=subprocess.STDOUT, check=False)
+    if done.returncode != 0:
+        sys.stdout.buffer.write(done.stdout)
+        sys.exit(1)
+
+
+def run(asked):
+    """What the program writes; on Arm under the kit's emulator."""
+    script = ". scripts/x86-64.sh && run target/bin/rows"
+    return subprocess.run(["bash", "-c", script], cwd=ROOT, input=asked, stdout=subprocess.PIPE, check=True).stdout.decode().splitlines()
+
+
+def compare(cases, lines):
+    """The tests that failed, with an example of each of the first few."""
+    wrong = {}
+    if len(lines) != len(cases):
+        print("%d lines for %d records" % (len(lines), len(cases)))
+        wrong["lines"] = 1
+    for case, line in zip(cases, lines):
+        if case.asked == "encode" and not round_trip(case):
+            wrong[case.test] = wrong.get(case.test, 0) + 1
+            print("not the same way back: %s" % (case,))
+        elif line != expected(case):
+            wrong[case.test] = wrong.get(case.test, 0) + 1
+            if len(wrong) <= 5 and wrong[case.test] == 1:
+                print("%s\n  expected %s\n  written  %s" % (case, expected(case), line))
+    for test, count in wrong.items():
+        print("%s: %d wrong" % (test, count))
+    return wrong
+
+
+def main(arguments):
+    files = arguments[1:3] if arguments[:1] == ["--files"] else []
+    rest = arguments[3:] if files else arguments
+    if len(rest) > 1 or not all(word.isdigit() for word in rest) or len(files) not in (0, 2):
+        print(__doc__, file=sys.stderr)
+        return 2
+    seeds = [int(word) for word in rest] or [1, random.SystemRandom().randrange(1 << 32)]
+    cases = list(limit_cases()) + [case._replace(test="%s, seed %d" % (case.test, seed)) for seed in seeds for case in random_cases(seed)]
+    asked = b"".join(record(case) for case in cases)
+    if files:
+        with open(files[0], "wb") as f:
+            f.write(asked)
+        with open(files[1], "w", encoding="ascii") as f:
+            f.writelines(expected(case) + "\n" for case in cases)
+        return 0
+    build()
+    own = [*known(), *reached(cases)]
+    wrong = compare(cases, run(asked))
+    tests = {case.test for case in cases}
+    failed = len(wrong) + own.count(False)
+    print("seeds %s, %d lines compared, %d of the script's own tests hold" % (" ".join(map(str, seeds)), len(cases), own.count(True)))
+    print("%d passed, %d failed" % (len(tests) + len(own) - failed, failed))
+    return 1 if failed else 0
+
+
+if __name__ == "__main__":
+    sys.exit(main(sys.argv[1:]))
