@@ -1,3 +1,4 @@
+pub mod Fields
 pub mod Homiq
 pub mod Look
 pub mod Answers

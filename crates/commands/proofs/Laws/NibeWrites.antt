@@ -24,7 +24,8 @@ use Rattle.layouts.specs.Paper.Nibe as nibes
 use Rattle.layouts.specs.Paper.Nibe.{commands}
 use Rattle.builds.specs.Paper.Builds.{Builds}
 use Rattle.builds.proofs.Laws.Bytes.{length-nibe}
-use Rattle.messages.specs.Paper.Fields.{onNibe, laid, Fit}
+use Rattle.messages.specs.Paper.Fields.{onNibe, laid}
+use Rattle.messages.specs.Work.Fields.{Fit}
 use Rattle.messages.specs.Paper.Message.{Message, ask, reply, put, done, nibe}
 use Rattle.messages.specs.Paper.Says.{ofNibe}
 use Rattle.messages.specs.Paper.Table.{valued, fields, Limits}

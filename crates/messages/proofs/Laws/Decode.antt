@@ -24,7 +24,8 @@ use Rattle.frames.specs.declared.Whole.{Whole}
 use Rattle.frames.specs.declared.Whole.the-variants.{Is as WholeIs, Refused as WholeRefused}
 use Rattle.frames.proofs.Laws.Kinds.{payload-inside}
 use Rattle.messages.specs.Paper.Answers.{Stands, DecodeCause, no-kind, no-message, Said, is, refused, Contents}
-use Rattle.messages.specs.Paper.Fields.{Fields, onNikobus, asCommand, asResponse, onNibe, onHomiq, kindOf, laid, payloadIn, payloadFrom, payloadTo, Fit}
+use Rattle.messages.specs.Paper.Fields.{Fields, onNikobus, asCommand, asResponse, onNibe, onHomiq, kindOf, laid, payloadIn, payloadFrom, payloadTo}
+use Rattle.messages.specs.Work.Fields.{Fit}
 use Rattle.messages.specs.Paper.Message.{Message}
 use Rattle.messages.specs.Paper.Says.{Says}
 use Rattle.messages.specs.Paper.Table.{fields}

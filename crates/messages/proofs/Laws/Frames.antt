@@ -10,7 +10,8 @@ use Rattle.layouts.specs.Paper.Layout as layout
 use Rattle.layouts.specs.declared.nest.Direction.the-variants.{Command, Response}
 use Rattle.frames.specs.Paper.Kinds.{Frame, nikobus, command, response, nibe, homiq}
 use Rattle.frames.specs.Paper.Kinds as kinds
-use Rattle.messages.specs.Paper.Fields.{Fields, onNikobus, asCommand, asResponse, onNibe, onHomiq, kindOf, laid, payloadIn, payloadFrom, payloadTo, Passing, Fit}
+use Rattle.messages.specs.Paper.Fields.{Fields, onNikobus, asCommand, asResponse, onNibe, onHomiq, kindOf, laid, payloadIn, payloadFrom, payloadTo}
+use Rattle.messages.specs.Work.Fields.{Passing, Fit}
 
 -- the fields of a frame
 pub record FieldsIn (k : ℕ) (f : List ℕ) : Type 0 where

@@ -12,7 +12,8 @@ use Rattle.digits.specs.Paper.Ascii.{ascii}
 use Rattle.layouts.proofs.Laws.Made.{homiq-fit}
 use Rattle.layouts.specs.Paper.Homiq as homiqs
 use Rattle.layouts.specs.Paper.Made.{Wire, homiqOf}
-use Rattle.messages.specs.Paper.Fields.{onHomiq, Passing, Fit}
+use Rattle.messages.specs.Paper.Fields.{onHomiq}
+use Rattle.messages.specs.Work.Fields.{Passing, Fit}
 use Rattle.messages.specs.Paper.Message.{Message, output, input, shutter, beat, homiq}
 use Rattle.messages.specs.Paper.Says.{ofHomiq}
 use Rattle.messages.specs.Paper.Table.{Sends, fields, Limits}

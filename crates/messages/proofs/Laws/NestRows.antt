@@ -26,7 +26,8 @@ use Rattle.layouts.specs.Work.Heads.{starts, isByte}
 use Rattle.layouts.specs.declared.nest.Direction.the-variants.{Command, Response}
 use Rattle.numbers.proofs.Laws.Values.{In, lower, upper, size, held-in, in-held, twos-lt}
 use Rattle.numbers.specs.Paper.ByteValues.{twos, valueBytes}
-use Rattle.messages.specs.Paper.Fields.{Fields, asCommand, asResponse, Passing, Fit}
+use Rattle.messages.specs.Paper.Fields.{Fields, asCommand, asResponse}
+use Rattle.messages.specs.Work.Fields.{Passing, Fit}
 use Rattle.messages.specs.Paper.Message.{command, climate, state, break, end, text, response}
 use Rattle.messages.specs.Paper.Table.{fields, Sized, textIds, Limits, u16At}
 use Rattle.messages.specs.Work.Look.{ofTwos, signedAt, isClimate, isState, isBreak, isEnd, lookResponse, look}

@@ -21,7 +21,8 @@ use Rattle.layouts.specs.Paper.Chars.{oneOf}
 use Rattle.layouts.specs.Paper.Made.{nibeOf}
 use Rattle.layouts.specs.Paper.Nibe as nibes
 use Rattle.layouts.specs.Paper.Nibe.{commands}
-use Rattle.messages.specs.Paper.Fields.{onNibe, Passing, Fit}
+use Rattle.messages.specs.Paper.Fields.{onNibe}
+use Rattle.messages.specs.Work.Fields.{Passing, Fit}
 use Rattle.messages.specs.Paper.Message.{Message, ask, reply, put, done, nibe}
 use Rattle.messages.specs.Paper.Table.{valued, fields, Limits, u16At}
 use Rattle.messages.specs.Work.Look.{isAsk, isValued, isDone, lookNibe, look}

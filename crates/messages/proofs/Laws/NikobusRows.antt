@@ -21,7 +21,8 @@ use Rattle.layouts.proofs.Laws.Made.{link-fit}
 use Rattle.layouts.specs.Paper.Made.{linkOf}
 use Rattle.layouts.specs.Paper.Nikobus as nikobuses
 use Rattle.layouts.specs.Paper.Nikobus.{linkChecked, link-limits, press-limits, tail-limits, link-passes, press-passes, tail-passes}
-use Rattle.messages.specs.Paper.Fields.{Fields, onNikobus, Passing, Fit}
+use Rattle.messages.specs.Paper.Fields.{Fields, onNikobus}
+use Rattle.messages.specs.Work.Fields.{Passing, Fit}
 use Rattle.messages.specs.Paper.Message.{read, set, answer, press, tail, link}
 use Rattle.messages.specs.Paper.Table.{codeOf, fields, Group, SixBytes, Sized, Limits, u16At}
 use Rattle.messages.specs.Work.Look.{isRead, isSet, groupOf, lookLink, lookNikobus, look}

@@ -3,7 +3,7 @@
 use mathlib.Core.List.{List}
 use Prim.Native.Nat.{ℕ}
 use Rattle.layouts.specs.declared.nest.Direction.the-variants.{Command, Response}
-use Rattle.layouts.specs.Paper.Layout.{Layout, bytesOf}
+use Rattle.layouts.specs.Paper.Layout.{bytesOf}
 use Rattle.layouts.specs.Paper.Layout as layout
 use Rattle.layouts.specs.Paper.Homiq as homiqs
 use Rattle.layouts.specs.Paper.Nest as nests
@@ -52,15 +52,3 @@ payloadTo (asCommand m) = layout.payloadTo (nests.nest Command) m
 payloadTo (asResponse m) = layout.payloadTo (nests.nest Response) m
 payloadTo (onNibe m) = layout.payloadTo nibes.nibe m
 payloadTo (onHomiq m) = layout.payloadTo homiqs.homiq m
-
--- within the layout's limits, and with the right check values
-pub record Passing (l : Layout) (m : l .Fields) : Type 0 where
-  pub limits : l .Limits m
-  pub passes : l .Passes m
-
-abbrev pub Fit : Fields → Type 0
-Fit (onNikobus m) = Passing nikobuses.nikobus m
-Fit (asCommand m) = Passing (nests.nest Command) m
-Fit (asResponse m) = Passing (nests.nest Response) m
-Fit (onNibe m) = Passing nibes.nibe m
-Fit (onHomiq m) = Passing homiqs.homiq m
