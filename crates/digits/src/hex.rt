@@ -1,6 +1,7 @@
 // Hex digits, upper case only: a lower-case letter is no digit.
 ghost use mathlib.Core.Path.{_≡_};
 ghost use Prim.Native.Nat.{_%_};
+ghost use lib.ListN.{length, getD};
 ghost use Rattle.digits.specs.Paper.Hex.{hexDigit, hexByte, hexWord};
 ghost use Rattle.digits.specs.Paper.Answers.{ReadsDigit, ReadsByte, ReadsWord};
 ghost use Rattle.digits.specs.Work.Hex.{placeOf};
@@ -17,14 +18,23 @@ pub enum Word {
     NoDigit,
 }
 
-// The digit table: `digit` and `value` go by it, and nothing else does.
+// The digit table: what is here goes by it, and nothing else does. It is copied at each use, so a byte's two digits share a copy.
 const DIGITS: [u8; 16] = *b"0123456789ABCDEF";
 
 // The digit of the low four bits of v.
 pub fn digit(v: u8) -> u8
     ensures { λ r. ⌜ r ≡ hexDigit (v % 16) ⌝ }
 {
-    DIGITS[(v % 16) as usize]
+    let table = DIGITS;
+    entry(&table, v)
+}
+
+// The entry of a table at the low four bits of v.
+fn entry(table: &[u8], v: u8) -> u8
+    requires { ⌜ length (now table) ≡ 16 ⌝ }
+    ensures { λ r. ⌜ r ≡ getD (now (table .entry)) (v % 16) 0 ⌝ }
+{
+    table[(v % 16) as usize]
 }
 
 // The value of a digit.
@@ -52,7 +62,8 @@ fn place(c: u8) -> u8
 pub fn two_digits(b: u8) -> [u8; 2]
     ensures { λ r. ⌜ r ≡ hexByte b ⌝ }
 {
-    [digit(b / 16), digit(b)]
+    let table = DIGITS;
+    [entry(&table, b / 16), entry(&table, b)]
 }
 
 // The byte that two digits are.

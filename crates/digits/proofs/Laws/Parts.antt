@@ -5,7 +5,7 @@ use Prim.Native.Nat.{ℕ, zero, suc, _+_, _-_, _≤_, _<_}
 use mathlib.Core.List.{List, [], _∷_, _++_}
 use native.Mathlib.Omega.{arith}
 use lib.ListN.{length, getD, take, drop, length-take, length-drop}
-use lib.Seq.{take-nil, take-all, take-add, take-at, drop-at, drop-drop, getD-take, getD-drop, drop-cons}
+use lib.Seq.{take-nil, take-all, take-add, take-take, take-at, drop-at, drop-drop, getD-take, getD-drop, drop-cons}
 use Rattle.digits.specs.Paper.Bytes.{part}
 
 pub length-part : (a e : ℕ) (s : List ℕ) → a ≤ e → e ≤ length s → length (part a e s) ≡ e - a
@@ -38,6 +38,17 @@ part-join a m e s h k =
     let y : (m - a) + (e - m) ≡ e - a = omega arith in
     ap (λ (t : List ℕ). part a m s ++ take (e - m) t) (ap (λ (n : ℕ). drop n s) (sym x) ∙ sym (drop-drop (m - a) a s))
     ∙ sym (take-add (m - a) (e - m) (drop a s)) ∙ ap (λ (n : ℕ). take n (drop a s)) y
+
+-- a part of a part
+pub part-of-part : (i j a b : ℕ) (s : List ℕ) → i ≤ a → a ≤ b → b ≤ j → part (a - i) (b - i) (part i j s) ≡ part a b s
+part-of-part i j a b s h k l =
+    let m : (b - i) - (a - i) ≡ b - a = omega arith in
+    let n : i + (a - i) ≡ a = omega arith in
+    let few : b - a ≤ (j - i) - (a - i) = omega arith in
+    ap (λ (x : ℕ). take x (drop (a - i) (part i j s))) m
+    ∙ ap (take (b - a)) (front-rest (a - i) (j - i) (drop i s) (omega arith))
+    ∙ take-take (b - a) ((j - i) - (a - i)) (drop (a - i) (drop i s)) few
+    ∙ ap (take (b - a)) (drop-drop (a - i) i s ∙ ap (λ (x : ℕ). drop x s) n)
 
 -- of three lists one behind the other, the middle one
 pub part-middle : (x y z : List ℕ) (a e : ℕ) → length x ≡ a → a + length y ≡ e → part a e (x ++ (y ++ z)) ≡ y

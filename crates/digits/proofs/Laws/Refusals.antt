@@ -49,6 +49,12 @@ one-first (here c) (after n f) = absurd (n c)
 one-first (after n f) (here c) = absurd (n c)
 one-first (after n f) (after m g) = one-first f g
 
+-- the cause of the number that is answered
+pub cause-at : {Cause : ℕ → Type 0} {l : List ℕ} {no : ℕ} → First Cause l no → 0 < no → Cause no
+cause-at clear h = absurd (omega arith)
+cause-at (here c) h = c
+cause-at (after n f) h = cause-at f h
+
 -- the numbers of a list that pass a test
 abbrev pub keep : (ℕ → Bool) → List ℕ → List ℕ
 keep known [] = []
