@@ -1,4 +1,3 @@
-pub mod Wrote
 pub mod Built
 pub mod Bytes
 pub mod Homiq

@@ -14,7 +14,7 @@ use Rattle.puts.proofs.Unique.{one-written}
 use Rattle.puts.specs.declared.Written.{Written}
 use Rattle.builds.specs.Paper.Builds.{Builds, BuildsHomiq}
 use Rattle.builds.proofs.Laws.Homiq.{one-bytes}
-use Rattle.builds.proofs.Laws.Wrote.{one-wrote}
+use Rattle.puts.proofs.Laws.Right.{one-wrote}
 
 -- every call that builds the frame of its fields
 one-built : (l : Layout) (m : l .Fields) (room : List ℕ) {s t : List ℕ} (r q : Written) → Builds l m room r s → Builds l m room q t → (r ≡ q) × (s ≡ t)

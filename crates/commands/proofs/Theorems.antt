@@ -7,10 +7,10 @@ use native.Mathlib.Omega.{arith}
 use lib.ListN.{length, drop}
 use Rattle.digits.specs.Paper.Bytes.{part}
 use Rattle.digits.specs.Paper.LowFirst.{Width}
-use Rattle.digits.proofs.Laws.Refusals.{some-number}
+use Rattle.digits.proofs.Laws.Refusals.{cause-at, some-number}
 use Rattle.puts.specs.declared.Written.{Written}
 use Rattle.puts.specs.Paper.Wrote.{writtenRefusal, writtenCount}
-use Rattle.builds.specs.Paper.Wrote.{WroteRight, wrote, refused}
+use Rattle.puts.specs.Paper.Right.{WroteRight, wrote, refused}
 use Rattle.layouts.specs.Paper.Chars.{oneOf}
 use Rattle.layouts.specs.Paper.Made.{Wire, homiqOf}
 use Rattle.layouts.proofs.Laws.Made.{homiq-fit}
@@ -33,7 +33,6 @@ use Rattle.commands.specs.Paper.Acknowledge.{FrameOf, acknowledged, ackn
 use Rattle.commands.specs.Paper.Answers.{MessageCause, outside, taken, short, EncodeCause, no-kind, no-width, other-kind, by-message, MeantBytes, Encodes}
 use Rattle.commands.proofs.Laws.Again.{never-refused}
 use Rattle.commands.proofs.Laws.Kinds.{said-kind}
-use Rattle.commands.proofs.Laws.Written.{cause-at}
 
 -- ---- a message of the table that is said is encoded, where the room is long enough
 

@@ -6,7 +6,7 @@ use Prim.Native.Nat.{ℕ}
 use Rattle.layouts.specs.Paper.Made.{Wire, homiqOf}
 use Rattle.layouts.proofs.Theorems.{one-homiq}
 use Rattle.puts.specs.declared.Written.{Written}
-use Rattle.builds.proofs.Laws.Wrote.{one-wrote}
+use Rattle.puts.proofs.Laws.Right.{one-wrote}
 use Rattle.messages.specs.Paper.Says.{Says}
 use Rattle.messages.specs.Paper.Table.{bytes}
 use Rattle.messages.specs.Work.Look.{wireOf}

@@ -1,2 +1,3 @@
 pub mod Put
 pub mod Wrote
+pub mod Right

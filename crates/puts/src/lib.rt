@@ -6,7 +6,9 @@ ghost use mathlib.Core.Path.{_≡_};
 ghost use mathlib.Core.Bool.{cond};
 ghost use mathlib.Core.List.{[], _∷_};
 ghost use lib.Dec.{leb};
+ghost use Prim.Native.Nat.{_+_, _≤_};
 ghost use lib.ListN.{length};
+ghost use lib.Seq.{sets};
 ghost use Rattle.digits.specs.Paper.Decimal.{decimal};
 ghost use Rattle.puts.specs.Paper.Put.{Put};
 ghost use Rattle.puts.specs.Paper.Wrote.{RoomCause, Writes};
@@ -53,8 +55,34 @@ pub fn byte(b: u8, room: &mut [u8], at: usize) -> usize
     at
 }
 
-// Puts the bytes of s.
+// Puts the bytes of s. Where the room has room for all, none of them asks for the room's end.
 pub fn bytes(s: &[u8], room: &mut [u8], at: usize) -> usize
+    ensures { λ r. ⌜ Put (now (room .entry)) (now (room .exit)) at r (now (s .entry)) ⌝ }
+{
+    let n = s.len();
+    if at < room.len() {
+        if n <= room.len() - at {
+            copy(s, room, at);
+            return at + n;
+        }
+    }
+    clipped(s, room, at)
+}
+
+// Copies the bytes of s to a place of a room that has room for them there.
+fn copy(s: &[u8], room: &mut [u8], at: usize)
+    requires { ⌜ at + length (now s) ≤ length (now room) ⌝ }
+    ensures { λ _. ⌜ now (room .exit) ≡ sets (now (room .entry)) at (now (s .entry)) ⌝ }
+{
+    let mut i = 0;
+    while i < s.len() {
+        room[at + i] = s[i];
+        i += 1;
+    }
+}
+
+// Puts the bytes of s one by one, as far as the room goes.
+fn clipped(s: &[u8], room: &mut [u8], at: usize) -> usize
     ensures { λ r. ⌜ Put (now (room .entry)) (now (room .exit)) at r (now (s .entry)) ⌝ }
 {
     let mut next = at;
@@ -73,5 +101,5 @@ pub fn whole(n: u64, room: &mut [u8], at: usize) -> usize
     let d = decimal::digits(n);
     let chars = d.chars;
     let from = d.from;
-    bytes(&chars[from..20], room, at)
+    clipped(&chars[from..20], room, at)
 }

@@ -18,7 +18,7 @@ use Rattle.puts.proofs.Laws.Puts.{front-count}
 use Rattle.puts.proofs.Laws.Wrote.{wrote-by, after-tests}
 use Rattle.layouts.specs.Paper.Layout.{Layout, bytesOf}
 use Rattle.builds.specs.Paper.Builds.{BuildCause, outside, short, Builds}
-use Rattle.builds.proofs.Laws.Wrote.{ours, first-5, first-4, no-cause}
+use Rattle.puts.proofs.Laws.Right.{ours, first-5, first-4, no-cause}
 
 -- ---- the first cause
 

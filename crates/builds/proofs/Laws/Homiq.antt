@@ -38,7 +38,7 @@ use Rattle.puts.proofs.Laws.Puts.{put-length, front-count, front-bytes}
 use Rattle.builds.specs.Paper.Builds.{HomiqCause, outside, short, HomiqBytes, BuildsHomiq}
 use Rattle.builds.specs.Work.Homiq.{around}
 use Rattle.layouts.proofs.Laws.Made.{homiq-fit}
-use Rattle.builds.proofs.Laws.Wrote.{ours, first-5, first-4, no-cause, fronted-right, refused-5}
+use Rattle.puts.proofs.Laws.Right.{ours, first-5, first-4, no-cause, fronted-right, refused-5}
 
 -- ---- a payload and a CRC, with what stands around them
 

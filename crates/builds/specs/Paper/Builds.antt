@@ -9,7 +9,7 @@ use Rattle.puts.specs.declared.Written.{Written}
 use Rattle.layouts.specs.Paper.Homiq.{homiq}
 use Rattle.layouts.specs.Paper.Layout.{Layout, bytesOf}
 use Rattle.layouts.specs.Paper.Made.{Wire, homiqOf, Payload}
-use Rattle.builds.specs.Paper.Wrote.{WritesRight}
+use Rattle.puts.specs.Paper.Right.{WritesRight}
 
 -- 01, "Refusal numbers": 5 "a field .. outside its limits", 4 "lent room too short for the answer"
 pub data BuildCause (Limits : Type 0) (room bytes : ℕ) : ℕ → Type 0 where

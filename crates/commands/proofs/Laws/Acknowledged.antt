@@ -15,7 +15,7 @@ use Rattle.digits.specs.Paper.Refusals.{refusalNumber, order, First}
 use Rattle.digits.specs.declared.refusal.Refusal.{Refusal}
 use Rattle.digits.specs.declared.refusal.Refusal.the-variants.{Limits as OutsideLimits}
 use Rattle.digits.proofs.Laws.Parts.{part-front}
-use Rattle.digits.proofs.Laws.Refusals.{some-number}
+use Rattle.digits.proofs.Laws.Refusals.{cause-at, some-number}
 use Rattle.puts.specs.Paper.Put.{Put}
 use Rattle.puts.specs.declared.Written.{Written}
 use Rattle.puts.specs.declared.Written.the-variants.{Refused}
@@ -32,7 +32,7 @@ use Rattle.frames.specs.Paper.Whole.{WholeCause}
 use Rattle.builds.specs.Paper.Builds as builds
 use Rattle.builds.specs.Paper.Builds.{HomiqCause, HomiqBytes, BuildsHomiq}
 use Rattle.builds.proofs.Laws.Homiq.{whole-frame, one-bytes, longest}
-use Rattle.builds.proofs.Laws.Wrote.{ours, first-5, recast, refused-5}
+use Rattle.puts.proofs.Laws.Right.{ours, first-5, recast, refused-5}
 use Rattle.messages.specs.Paper.Fields.{payloadIn}
 use Rattle.messages.specs.Work.Answers.{Payloaded}
 use Rattle.messages.specs.Work.Look.{wireOf}
@@ -42,7 +42,6 @@ use Rattle.messages.proofs.Laws.Frames.{fields-in}
 use Rattle.messages.proofs.Laws.HomiqFields.{payload-cmd, payload-val, payload-src, payload-dst, payload-id}
 use Rattle.commands.specs.Paper.Acknowledge.{FrameOf, typeA, acknowledged, acknowledgement, AcknowledgeCause, no-frame, answered, short, AcknowledgementOf, Acknowledges}
 use Rattle.commands.specs.Work.Homiq.{Laid, Answered, exchanged}
-use Rattle.commands.proofs.Laws.Written.{cause-at}
 
 -- ---- a payload's type is its last character
 

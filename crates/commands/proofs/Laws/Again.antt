@@ -6,7 +6,7 @@ use mathlib.Core.List.{List, []}
 use mathlib.Core.Logic.{_⊎_, ⊎-elim}
 use Prim.Native.Nat.{ℕ, _≤_, _<_}
 use native.Mathlib.Omega.{arith}
-use Rattle.digits.proofs.Laws.Refusals.{some-number}
+use Rattle.digits.proofs.Laws.Refusals.{cause-at, some-number}
 use Rattle.layouts.specs.Paper.Made.{Wire}
 use Rattle.frames.specs.Paper.Kinds.{Frame, known}
 use Rattle.messages.specs.Paper.Answers.{Stands, DecodeCause, no-kind, no-message, Decodes, is, refused}
@@ -36,7 +36,7 @@ use Rattle.digits.specs.declared.refusal.Refusal.the-variants.{Above as TakenAb
 use lib.ListN.{length}
 use Rattle.commands.specs.Work.Answers.{WritesFront}
 use Rattle.commands.specs.Work.Places.{nikobusRow, responseRow, nibeRow, homiqRow, rowIn, rowOf}
-use Rattle.commands.proofs.Laws.Written.{cause-at, has-above, fronted, the-only}
+use Rattle.commands.proofs.Laws.Written.{has-above, fronted, the-only}
 
 -- ---- the row of what the code says is the message's
 

@@ -15,7 +15,7 @@ use Rattle.digits.proofs.Laws.Refusals.{one-first}
 use Rattle.puts.specs.Paper.Wrote as puts
 use Rattle.puts.specs.Paper.Wrote.{Wrote}
 use Rattle.builds.specs.Paper.Builds.{BuildCause}
-use Rattle.builds.specs.Paper.Wrote.{WroteRight}
+use Rattle.puts.specs.Paper.Right.{WroteRight}
 use Rattle.builds.proofs.Laws.Built.{is-outside, is-clear}
 use Rattle.messages.proofs.Laws.Table.{free}
 use Rattle.messages.specs.Paper.Message.{Message}

@@ -11,8 +11,8 @@ use Rattle.digits.specs.Paper.Refusals.{order, here, after}
 use Rattle.digits.specs.declared.refusal.Refusal.the-variants.{Kind, Form, Limits as OutsideLimits}
 use Rattle.digits.proofs.Laws.Refusals.{pass-over}
 use Rattle.puts.specs.declared.Written.the-variants.{Refused}
-use Rattle.builds.specs.Paper.Wrote.{WroteRight, refused}
-use Rattle.builds.proofs.Laws.Wrote.{recast}
+use Rattle.puts.specs.Paper.Right.{WroteRight, refused}
+use Rattle.puts.proofs.Laws.Right.{recast}
 use Rattle.frames.specs.Paper.Kinds.{known}
 use Rattle.messages.specs.Paper.Message.{Message}
 use Rattle.messages.specs.Paper.Says.{Says, kindIn}

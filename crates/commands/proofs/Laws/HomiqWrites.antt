@@ -10,7 +10,7 @@ use lib.ListN.{length, getD}
 use Rattle.digits.specs.Paper.Bytes.{part}
 use Rattle.digits.specs.declared.refusal.Refusal.{Refusal}
 use Rattle.digits.specs.declared.refusal.Refusal.the-variants.{Limits as OutsideLimits, Above as TakenAbove}
-use Rattle.digits.proofs.Laws.Refusals.{some-number}
+use Rattle.digits.proofs.Laws.Refusals.{cause-at, some-number}
 use Rattle.puts.specs.Paper.Wrote.{RoomCause, Writes}
 use Rattle.puts.specs.declared.Written.{Written}
 use Rattle.puts.specs.declared.Written.the-variants.{Bytes, Refused}
@@ -18,8 +18,8 @@ use Rattle.layouts.specs.Paper.Homiq as homiqs
 use Rattle.layouts.specs.Paper.Made.{Wire, homiqOf, Payload}
 use Rattle.builds.specs.Paper.Builds as builds
 use Rattle.builds.specs.Paper.Builds.{HomiqCause, HomiqBytes, BuildsHomiq}
-use Rattle.builds.specs.Paper.Wrote as wrotes
-use Rattle.builds.specs.Paper.Wrote.{WroteRight}
+use Rattle.puts.specs.Paper.Right as wrotes
+use Rattle.puts.specs.Paper.Right.{WroteRight}
 use Rattle.builds.proofs.Laws.Homiq.{whole-frame, length-around, longest}
 use Rattle.messages.specs.Paper.Answers.{Stands, Decodes, is, refused}
 use Rattle.messages.specs.Paper.Fields.{onHomiq}
@@ -41,7 +41,7 @@ use Rattle.commands.specs.Paper.Answers.{outside, WritesMessage}
 use Rattle.commands.specs.Work.Places.{homiqRow, rowOf}
 use Rattle.commands.proofs.Laws.Again.{homiq-row, said-row, never-refused, above-of}
 use Rattle.commands.proofs.Laws.Aside.{in-front}
-use Rattle.commands.proofs.Laws.Written.{cause-at, first-5, not-within, has-above, fronted}
+use Rattle.commands.proofs.Laws.Written.{first-5, not-within, has-above, fronted}
 
 -- ---- the rows
 

@@ -17,7 +17,7 @@ use Rattle.digits.specs.Paper.LowFirst.{two, lowFirst}
 use Rattle.digits.specs.declared.refusal.Refusal.{Refusal}
 use Rattle.digits.specs.declared.refusal.Refusal.the-variants.{Limits as OutsideLimits}
 use Rattle.digits.proofs.Laws.LowFirst.{length-low}
-use Rattle.digits.proofs.Laws.Refusals.{some-number}
+use Rattle.digits.proofs.Laws.Refusals.{cause-at, some-number}
 use Rattle.numbers.proofs.Laws.Values.{In, lower, upper, size, in-held}
 use Rattle.numbers.specs.Paper.Answers as values
 use Rattle.numbers.specs.Paper.Answers.{ValueCause}
@@ -46,7 +46,7 @@ use Rattle.commands.specs.Paper.Answers.{WritesMessage}
 use Rattle.commands.specs.Work.Answers.{Only, WritesFront}
 use Rattle.commands.proofs.Laws.Aside.{as-message, sized-sure, built-aside, refused-aside}
 use Rattle.commands.proofs.Laws.NikobusWrites.{low-two, behind-address}
-use Rattle.commands.proofs.Laws.Written.{cause-at, not-within, the-only}
+use Rattle.commands.proofs.Laws.Written.{not-within, the-only}
 
 -- ---- each message from the frame that is built for it
 

@@ -33,7 +33,7 @@ use Rattle.layouts.specs.Paper.Nikobus.{nikobus, link-limits, press-limits, tai
 use Rattle.puts.specs.declared.Written.{Written}
 use Rattle.puts.specs.declared.Written.the-variants.{Bytes as Counted, Refused}
 use Rattle.builds.proofs.Laws.Bytes.{length-link}
-use Rattle.builds.proofs.Laws.Wrote.{refused-5}
+use Rattle.puts.proofs.Laws.Right.{refused-5}
 use Rattle.builds.specs.Paper.Builds.{Builds}
 use Rattle.messages.proofs.Laws.NikobusRows.{read-found, set-found, answer-found, read-fit, set-fit, answer-fit}
 use Rattle.messages.specs.Paper.Message.{Message, read, set as setting, answer, press, tail, link}

@@ -12,7 +12,7 @@ use Rattle.digits.specs.Paper.LowFirst.{Width}
 use Rattle.digits.specs.Paper.Read.{Tells}
 use Rattle.digits.specs.declared.refusal.Refusal.the-variants.{Form, Limits as OutsideLimits}
 use Rattle.digits.proofs.Laws.Tests.{told, untold}
-use Rattle.builds.specs.Paper.Wrote.{WroteRight}
+use Rattle.puts.specs.Paper.Right.{WroteRight}
 use Rattle.puts.specs.declared.Written.the-variants.{Refused}
 use Rattle.frames.specs.Paper.Kinds.{known}
 use Rattle.messages.specs.Paper.Message.{Message, read, set, answer, press, tail, link, command, climate, state, break, end, text, response, ask, reply, put, done, nibe, output, input, shutter, beat, homiq, row}

@@ -10,16 +10,16 @@ use lib.ListN.{length}
 use borrow.Author.Tests.{leb-true, leb-false}
 use Rattle.digits.specs.Paper.Refusals.{order, First, clear, here, after}
 use Rattle.digits.specs.declared.refusal.Refusal.the-variants.{Limits as OutsideLimits, Above as TakenAbove}
-use Rattle.digits.proofs.Laws.Refusals.{one-first, pass-over}
+use Rattle.digits.proofs.Laws.Refusals.{cause-at, one-first, pass-over}
 use Rattle.puts.specs.Paper.Wrote as puts
 use Rattle.puts.specs.Paper.Wrote.{Wrote, RoomCause, Writes}
 use Rattle.puts.specs.declared.Written.{Written}
 use Rattle.puts.specs.declared.Written.the-variants.{Refused}
 use Rattle.builds.specs.Paper.Builds as builds
 use Rattle.builds.specs.Paper.Builds.{BuildCause}
-use Rattle.builds.specs.Paper.Wrote.{WroteRight, wrote, refused}
+use Rattle.puts.specs.Paper.Right.{WroteRight, wrote, refused}
 use Rattle.builds.proofs.Laws.Built.{is-outside, is-short}
-use Rattle.builds.proofs.Laws.Wrote.{recast, fronted-right}
+use Rattle.puts.proofs.Laws.Right.{recast, fronted-right}
 use Rattle.messages.specs.Paper.Message.{Message}
 use Rattle.messages.proofs.Laws.Decode.{first-same}
 use Rattle.messages.specs.Paper.Table.{bytes, Limits, Above}
@@ -27,12 +27,6 @@ use Rattle.commands.specs.Paper.Answers.{MessageCause, outside, taken, s
 use Rattle.commands.specs.Work.Answers.{Only}
 
 -- ---- the first cause
-
--- the cause of the number that is answered
-pub cause-at : {Cause : ℕ → Type 0} {l : List ℕ} {no : ℕ} → First Cause l no → 0 < no → Cause no
-cause-at clear h = absurd (omega arith)
-cause-at (here c) h = c
-cause-at (after n f) h = cause-at f h
 
 abbrev ours : ℕ → Bool
 ours k = eqb k 5 || (eqb k 6 || eqb k 4)

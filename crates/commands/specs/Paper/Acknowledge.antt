@@ -9,7 +9,7 @@ use Rattle.puts.specs.declared.Written.{Written}
 use Rattle.layouts.specs.Paper.Homiq as homiqs
 use Rattle.layouts.specs.Paper.Layout.{bytesOf}
 use Rattle.layouts.specs.Paper.Made.{Wire, homiqOf}
-use Rattle.builds.specs.Paper.Wrote.{WritesRight}
+use Rattle.puts.specs.Paper.Right.{WritesRight}
 
 -- f is the Homiq frame with these fields
 pub record FrameOf (f : List ℕ) (w : Wire) : Type 0 where

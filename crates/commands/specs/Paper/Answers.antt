@@ -7,7 +7,7 @@ use Prim.Native.Nat.{ℕ, _<_}
 use lib.ListN.{length}
 use Rattle.digits.specs.Paper.LowFirst.{Width}
 use Rattle.puts.specs.declared.Written.{Written}
-use Rattle.builds.specs.Paper.Wrote.{WritesRight}
+use Rattle.puts.specs.Paper.Right.{WritesRight}
 use Rattle.frames.specs.Paper.Kinds.{known}
 use Rattle.messages.specs.Paper.Message.{Message}
 use Rattle.messages.specs.Paper.Says.{Says, kindIn}

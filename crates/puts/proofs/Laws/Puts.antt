@@ -8,7 +8,7 @@ use native.Mathlib.Numerals.{add-one}
 use native.Mathlib.Omega.{arith}
 use lib.Dec.{leb}
 use lib.ListN.{length, take, drop, getD, set, length-append}
-use lib.Seq.{sets, take-at, take-suc, set-out, length-sets}
+use lib.Seq.{sets, take-at, take-suc, drop-cons, set-out, length-sets}
 use borrow.Author.Tests.{leb-true, leb-false}
 use Rattle.digits.proofs.Laws.Stores.{sets-append, sets-front}
 use Rattle.puts.specs.Paper.Put.{Put, last}
@@ -68,6 +68,19 @@ beyond r a b n l h e = record { slice = l; holds = sym (set-out r a b h); behind
 pub step : {r t u : List ℕ} {a b c : ℕ} (s : List ℕ) (i : ℕ) → i < length s
     → Put r t a b (take i s) → Put t u b c (getD s i 0 ∷ []) → Put r u a c (take (i + 1) s)
 step s i h p q = puts-as (sym (ap (λ (j : ℕ). take j s) (add-one i) ∙ take-suc s i 0 h)) (p then q)
+
+-- a loop's turn over the bytes of s, where what is left makes the whole
+pub stored : (s room : List ℕ) (a i : ℕ) {whole : List ℕ} → i < length s → sets room (a + i) (drop i s) ≡ whole
+    → sets (set room (a + i) (getD s i 0)) (a + (i + 1)) (drop (i + 1) s) ≡ whole
+stored s room a i h e =
+    let l : List ℕ = set room (a + i) (getD s i 0) in
+    let f : a + (i + 1) ≡ suc (a + i) = omega arith in
+    let g : getD s i 0 ∷ drop (i + 1) s ≡ drop i s = ap (λ (j : ℕ). getD s i 0 ∷ drop j s) (add-one i) ∙ sym (drop-cons s i 0 h) in
+    ap (λ (j : ℕ). sets l j (drop (i + 1) s)) f ∙ ap (sets room (a + i)) g ∙ e
+
+-- bytes that the room has a place for
+pub put-all : (r s : List ℕ) (a : ℕ) → length r ≤ last → a + length s ≤ length r → Put r (sets r a s) a (a + length s) s
+put-all r s a l h = record { slice = l; holds = refl; behind = omega arith }
 
 -- bytes at the front of a room that has room for them: how many, the room, and its front
 module _ {r s bs : List ℕ} {n : ℕ} (p : Put r s 0 n bs) (l : length bs ≤ length r) where

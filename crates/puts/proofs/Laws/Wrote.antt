@@ -34,10 +34,10 @@ module _ {Cause : ℕ → Type 0} {bs room : List ℕ} where
 only-4 : {r b : ℕ} (k : ℕ) → eqb k 4 ≡ false → RoomCause r b k → ⊥
 only-4 k e (short h) = true≢false e
 
-too-short : {r b : ℕ} → r < b → First (RoomCause r b) order 4
+pub too-short : {r b : ℕ} → r < b → First (RoomCause r b) order 4
 too-short h = pass-over (λ k. eqb k 4) only-4 order (here (short h))
 
-room-for : {r b : ℕ} → b ≤ r → First (RoomCause r b) order 0
+pub room-for : {r b : ℕ} → b ≤ r → First (RoomCause r b) order 0
 room-for {r} {b} h = pass-over (λ k. eqb k 4) only-4 order (after none clear)
   where
     none : RoomCause r b 4 → ⊥

@@ -1,61 +1,49 @@
--- `puts::bytes` meets its contract. The loop's invariant: the bytes passed are put.
+-- `puts::bytes` meets its contract: all at once where the room has room for them.
 -- Assumes nothing.
-use mathlib.Core.Path.{_≡_, refl, _∙_}
-use Prim.Native.Nat.{_-_, _≤_}
 use native.Mathlib.Omega.{arith}
-use lib.ListN.{length, take}
-use lib.Seq.{take-all}
 use borrow.Author.Needs.{needs}
-use Rattle.puts.specs.Paper.Put.{Put}
-use Rattle.puts.proofs.Laws.Puts.{none, puts-as, step}
+use Rattle.puts.proofs.Laws.Puts.{put-all}
 use Rattle.puts.proofs.bytes.Statement.{statement}
 use Rattle.puts.proofs.bytes.Tie as tie
 
-abbrev Inv-loop : tie.InvT-loop
-Inv-loop s room₀ at next₀ i₀ room next i = (i ≤ length s) × (length room ≡ length room₀) × Put room₀ room at next (take i s)
+sub-if2 : tie.Need-sub-if2
+sub-if2 c = search needs
 
-abbrev μ-loop : tie.MeasureT-loop
-μ-loop s room₀ at next₀ i₀ room next i = length s - i
+copy-requires : tie.Need-copy-requires
+copy-requires c κs = omega (arith, c .before .if2 .taken, c .before .before .if1 .taken)
 
-loop-holds : tie.Need-loop-holds Inv-loop μ-loop
-loop-holds c = (omega arith, refl, none _ _ (omega (arith, c .before .before .good)) (omega arith))
+add-result : tie.Need-add-result
+add-result c =
+    let b = c .before .before .before .before in
+    omega (arith, b .if2 .taken, b .before .if1 .taken, b .before .before .before .before .good)
 
-shared-slice-read-byte : tie.Need-shared-slice-read-byte Inv-loop μ-loop
-shared-slice-read-byte c = omega arith
+same-length : tie.Need-same-length
+same-length c = search needs
 
-byte-requires : tie.Need-byte-requires Inv-loop μ-loop
-byte-requires c κs = search needs
+returns : tie.Need-returns
+returns c =
+    let b = c .before .before .before .before in
+    let e = b .before .before .before .before in
+    rw (c .before .before .copy .ensures) (put-all (e .args .room .now) (e .args .s .now) (e .args .at) (omega (arith, e .good)) (omega (arith, b .if2 .taken, b .before .if1 .taken)))
 
-add-i : tie.Need-add-i Inv-loop μ-loop
-add-i c = omega arith
+clipped-requires : tie.Need-clipped-requires
+clipped-requires c κs = search needs
 
-loop-less : tie.Need-loop-less Inv-loop μ-loop
-loop-less c = omega arith
+same-length-2 : tie.Need-same-length-2
+same-length-2 c = search needs
 
-loop-again : tie.Need-loop-again Inv-loop μ-loop
-loop-again c =
-    let e = c .before .before in
-    let l = e .before .before .before .before .loop in
-    let a = e .before .before .before .before .before .before .before .args in
-    (omega arith, e .byte .kept .1 .0 ∙ l .inv .1, step (a .s .now) (l .i) (e .before .before .before .loop-test .taken) (l .inv .2) (e .byte .ensures))
-
-same-length : tie.Need-same-length Inv-loop μ-loop
-same-length c = omega arith
-
-returns : tie.Need-returns Inv-loop μ-loop
-returns c = puts-as (take-all (c .before .loop .i) (c .before .before .before .before .args .s .now) (c .loop-test .left)) (c .before .loop .inv .2)
+returns-2 : tie.Need-returns-2
+returns-2 c = search needs
 
 pub bytes-spec : {M : Type 1} → statement M
 bytes-spec =
     tie.close
     (tie.spec
-    Inv-loop
-    μ-loop
-    loop-holds
-    shared-slice-read-byte
-    byte-requires
-    add-i
-    loop-less
-    loop-again
+    sub-if2
+    copy-requires
+    add-result
     same-length
-    returns)
+    returns
+    clipped-requires
+    same-length-2
+    returns-2)

@@ -10,32 +10,32 @@ use Rattle.puts.proofs.whole.Tie as tie
 digits-requires : tie.Need-digits-requires
 digits-requires c κs = search needs
 
-sub-bytes : tie.Need-sub-bytes
-sub-bytes c = search needs
+sub-clipped : tie.Need-sub-clipped
+sub-clipped c = search needs
 
-part-bytes-start : tie.Need-part-bytes-start
-part-bytes-start c = search needs
+part-clipped-start : tie.Need-part-clipped-start
+part-clipped-start c = search needs
 
-part-bytes-end : tie.Need-part-bytes-end
-part-bytes-end c = omega (arith, length-chars (c .before .before .digits .ensures))
+part-clipped-end : tie.Need-part-clipped-end
+part-clipped-end c = omega (arith, length-chars (c .before .before .digits .ensures))
 
-bytes-requires : tie.Need-bytes-requires
-bytes-requires c κs = search needs
+clipped-requires : tie.Need-clipped-requires
+clipped-requires c κs = search needs
 
 same-length : tie.Need-same-length
 same-length c = search needs
 
 returns : tie.Need-returns
-returns c = puts-as (text-part (c .before .before .before .before .before .before .before .digits .ensures)) (c .before .before .bytes .ensures)
+returns c = puts-as (text-part (c .before .before .before .before .before .before .before .digits .ensures)) (c .before .before .clipped .ensures)
 
 pub whole-spec : {M : Type 1} → statement M
 whole-spec =
     tie.close
     (tie.spec
     digits-requires
-    sub-bytes
-    part-bytes-start
-    part-bytes-end
-    bytes-requires
+    sub-clipped
+    part-clipped-start
+    part-clipped-end
+    clipped-requires
     same-length
     returns)

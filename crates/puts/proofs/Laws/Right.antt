@@ -10,13 +10,13 @@ use lib.ListN.{length, drop}
 use Rattle.digits.specs.Paper.Refusals.{order, First, clear, here, after}
 use Rattle.digits.specs.declared.refusal.Refusal.the-variants.{Limits}
 use Rattle.digits.proofs.Laws.Refusals.{one-first, pass-over}
 use Rattle.puts.specs.Paper.Wrote as puts
 use Rattle.puts.specs.Paper.Wrote.{Wrote, RoomCause, Writes}
 use Rattle.puts.specs.declared.Written.{Written}
 use Rattle.puts.specs.declared.Written.the-variants.{Refused}
 use Rattle.puts.proofs.Laws.Wrote.{after-tests}
 use Rattle.puts.proofs.Unique.{written-answer}
-use Rattle.builds.specs.Paper.Wrote.{WroteRight, wrote, refused, WritesRight}
+use Rattle.puts.specs.Paper.Right.{WroteRight, wrote, refused, WritesRight}
 
 -- ---- the first of the causes 5 and 4
 
