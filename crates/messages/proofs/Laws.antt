@@ -18,3 +18,4 @@ pub mod Links
 pub mod Responses
 pub mod NestUnique
 pub mod HomiqLook
+pub mod Find

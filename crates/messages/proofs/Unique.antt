@@ -2,10 +2,17 @@
 -- Assumes nothing.
 use mathlib.Core.Path.{_≡_, sym, _∙_, ap, subst}
 use mathlib.Core.List.{List}
-use Prim.Native.Nat.{ℕ}
+use Prim.Native.Nat.{ℕ, _+_, _-_}
 use native.Mathlib.Omega.{arith}
+use Rattle.digits.specs.Paper.Bytes.{part}
+use Rattle.digits.specs.Paper.Refusals.{refusalNumber}
+use Rattle.digits.specs.declared.refusal.Refusal.{Refusal}
 use Rattle.digits.proofs.Laws.Refusals.{one-refusal, some-number, one-first, one-answer}
-use Rattle.messages.specs.Paper.Answers.{Stands, Said, Decodes, is, refused, Contents}
+use Rattle.frames.specs.Paper.Search.{foundNumber}
+use Rattle.frames.specs.declared.Found.{Found}
+use Rattle.frames.specs.declared.Found.the-variants.{At as Hit, Refused as NoHit}
+use Rattle.frames.proofs.Unique.{searched-one}
+use Rattle.messages.specs.Paper.Answers.{Stands, Said, Decodes, is, refused, Contents, Finds, at, none}
 use Rattle.messages.specs.Paper.Fields.{payloadIn, payloadFrom, payloadTo}
 use Rattle.messages.specs.Paper.Message.{Message}
 use Rattle.messages.specs.Paper.Says.{Says}
@@ -13,6 +20,9 @@ use Rattle.messages.specs.Paper.Table.{fields}
 use Rattle.messages.specs.declared.Message.{Message as Coded}
 use Rattle.messages.specs.declared.Decoded.{Decoded}
 use Rattle.messages.specs.declared.Decoded.the-variants.{Is, Refused}
+use Rattle.messages.specs.declared.Message.the-variants.{Command}
+use Rattle.messages.specs.declared.Seen.{Seen}
+use Rattle.messages.specs.declared.Seen.the-variants.{At, Refused as Unseen}
 use Rattle.messages.specs.Paper.Homiq.{fieldAt}
 use Rattle.messages.specs.Paper.Panel.{ShowsPair, ReadsVolts}
 use Rattle.messages.specs.declared.nest.Pair.{Pair}
@@ -23,20 +33,44 @@ use Rattle.messages.proofs.Laws.Says.{one-case}
 use Rattle.messages.proofs.Theorems.{one-message-of}
 
 -- decode
+one-coded : {k : ℕ} {f : List ℕ} {d e : Coded} {a b x y : ℕ} → Said k f d a b → Said k f e x y → d ≡ e
+one-coded {k} {f} {d} {e} s t =
+    let m : s .message ≡ t .message = one-message-of (s .message) (t .message) (s .stands) (t .stands) in
+    let u : Says d (payloadIn (fields (s .message))) (t .message) = subst (Says d (payloadIn (fields (s .message)))) m (s .says) in
+    one-case d e (payloadIn (fields (s .message))) (payloadIn (fields (t .message))) (t .message) u (t .says)
+
 one-is : {k : ℕ} {f : List ℕ} {d e : Coded} {a b x y : ℕ} → Said k f d a b → Said k f e x y → Is d a b ≡ Is e x y
 one-is {k} {f} {d} {e} {a} {b} {x} {y} s t =
     let m : s .message ≡ t .message = one-message-of (s .message) (t .message) (s .stands) (t .stands) in
-    let u : Says d (payloadIn (fields (s .message))) (t .message) = subst (Says d (payloadIn (fields (s .message)))) m (s .says) in
-    let c : d ≡ e = one-case d e (payloadIn (fields (s .message))) (payloadIn (fields (t .message))) (t .message) u (t .says) in
     let p : a ≡ x = s .from-is ∙ ap (λ (n : Message). payloadFrom (fields n)) m ∙ sym (t .from-is) in
     let q : b ≡ y = s .to-is ∙ ap (λ (n : Message). payloadTo (fields n)) m ∙ sym (t .to-is) in
-    ap (λ (i : Coded). Is i a b) c ∙ ap (λ (i : ℕ). Is e i b) p ∙ ap (Is e x) q
+    ap (λ (i : Coded). Is i a b) (one-coded s t) ∙ ap (λ (i : ℕ). Is e i b) p ∙ ap (Is e x) q
 
 pub decode : (k : ℕ) (f : List ℕ) (r q : Decoded) → Decodes k f r → Decodes k f q → r ≡ q
 decode k f (Is d a b) (Is e x y) (is c s) (is g t) = one-is s t
 decode k f (Is d a b) (Refused why) (is c s) (refused g) = let e = one-first c g in absurd (omega (arith, some-number why))
 decode k f (Refused why) (Is e x y) (refused c) (is g t) = let e = one-first c g in absurd (omega (arith, some-number why))
 decode k f (Refused why) (Refused other) (refused c) (refused g) = ap Refused (one-refusal why other (one-first c g))
+
+-- find: what the search finds is the same, and then the message
+abbrev with : Coded → Found → Seen
+with e (Hit start len from to) = At start len from to e
+with e (NoHit why) = Unseen why
+
+abbrev SaidOf : ℕ → List ℕ → Coded → Found → Type 0
+SaidOf k s e (Hit start len from to) = Said k (part start (start + len) s) e (from - start) (to - start)
+SaidOf k s e (NoHit why) = Unit
+
+hit-or-none : {a b c d : ℕ} {why : Refusal} → Hit a b c d ≡ NoHit why → ⊥
+hit-or-none {why = why} e = let h : 0 ≡ refusalNumber why = ap foundNumber e in omega (arith, some-number why)
+
+pub find : (k : ℕ) (s : List ℕ) (place : ℕ) (r q : Seen) → Finds k s place r → Finds k s place q → r ≡ q
+find k s place (At a b c d e) (At v w x y z) (at f g) (at h i) =
+    let one : Hit a b c d ≡ Hit v w x y = searched-one (Hit a b c d) (Hit v w x y) f h in
+    ap (with e) one ∙ ap (At v w x y) (one-coded (subst (SaidOf k s e) one g) i)
+find k s place (At a b c d e) (Unseen why) (at f g) (none h) = absurd (hit-or-none (searched-one (Hit a b c d) (NoHit why) f h))
+find k s place (Unseen why) (At a b c d e) (none f) (at g h) = absurd (hit-or-none (searched-one (Hit a b c d) (NoHit why) g f))
+find k s place (Unseen why) (Unseen other) (none f) (none g) = ap (with (Command 0)) (searched-one (NoHit why) (NoHit other) f g)
 
 -- content
 one-part : {k : ℕ} {f : List ℕ} (p q : List ℕ) → ((m : Message) × (Stands k f m) × (p ≡ payloadIn (fields m))) → ((m : Message) × (Stands k f m) × (q ≡ payloadIn (fields m))) → p ≡ q

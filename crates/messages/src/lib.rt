@@ -6,12 +6,13 @@ pub mod nikobus;
 mod words;
 
 use digits::refusal::Refusal;
+use frames::Found;
 use frames::Whole;
 use homiq::Homiq;
 use nest::Response;
 use nibe::Nibe;
 use nikobus::Nikobus;
-ghost use Rattle.messages.specs.Paper.Answers.{Decodes, Said, Contents};
+ghost use Rattle.messages.specs.Paper.Answers.{Decodes, Said, Contents, Finds};
 ghost use Rattle.messages.specs.Work.Answers.{Payloaded};
 
 // A message. Its bytes of free length stand beside it, as its frame's payload has them: a link's digits, Nest's payload, Nibe's
@@ -34,6 +35,19 @@ pub enum Decoded {
     Refused(Refusal),
 }
 
+// What a search finds, decoded: the frame's start and length, the places in the buffer where its payload begins and ends, and its
+// message.
+pub enum Seen {
+    At {
+        start: usize,
+        len: usize,
+        from: usize,
+        to: usize,
+        message: Message,
+    },
+    Refused(Refusal),
+}
+
 // The message of one frame. Refusals: 2 for a kind that is not known, 5 for anything else than one frame.
 pub fn decode(kind: u8, frame: &[u8]) -> Decoded
     ensures { λ r. ⌜ Decodes kind (now (frame .entry)) r ⌝ }
@@ -45,6 +59,28 @@ pub fn decode(kind: u8, frame: &[u8]) -> Decoded
             to: to,
         },
         Whole::Refused(why) => Decoded::Refused(why),
+    }
+}
+
+// The frame with the smallest start at or after the place, and its message: search and decoder in one pass. Refusals: those of the
+// search.
+pub fn find(kind: u8, buffer: &[u8], place: usize) -> Seen
+    ensures { λ r. ⌜ Finds kind (now (buffer .entry)) place r ⌝ }
+{
+    match frames::search(kind, buffer, place) {
+        Found::At {
+            start,
+            len,
+            from,
+            to,
+        } => Seen::At {
+            start: start,
+            len: len,
+            from: from,
+            to: to,
+            message: message_in(kind, &buffer[start..start + len], from - start, to - start),
+        },
+        Found::Refused(why) => Seen::Refused(why),
     }
 }
 

@@ -50,7 +50,7 @@ field-front (x ∷ s) = go (eqb x 59) (field-front s)
     go true e = refl
     go false e = ap (λ (l : List ℕ). x ∷ l) e
 
-past-field : (s : List ℕ) → past s ≡ drop (suc (length (upTo s))) s
+pub past-field : (s : List ℕ) → past s ≡ drop (suc (length (upTo s))) s
 unfolding past upTo
 past-field [] = refl
 past-field (x ∷ s) = go (eqb x 59) (past-field s)
