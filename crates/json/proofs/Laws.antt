@@ -1,0 +1,4 @@
+pub mod Spelt
+pub mod Raws
+pub mod Sizes
+pub mod Tokens

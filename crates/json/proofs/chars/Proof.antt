@@ -1,0 +1,29 @@
+-- `json::chars` meets its contract: the three writers' promises, one after the other.
+-- Assumes nothing.
+use borrow.Author.Needs.{needs}
+use Rattle.puts.proofs.Laws.Puts.{_then_}
+use Rattle.json.proofs.chars.Statement.{statement}
+use Rattle.json.proofs.chars.Tie as tie
+
+byte-requires : tie.Need-byte-requires
+byte-requires c κs = search needs
+
+escaped-bytes-requires : tie.Need-escaped-bytes-requires
+escaped-bytes-requires c κs = search needs
+
+byte-requires-2 : tie.Need-byte-requires-2
+byte-requires-2 c κs = search needs
+
+same-length : tie.Need-same-length
+same-length c = search needs
+
+returns : tie.Need-returns
+returns c =
+    let m = c .before .before .before .before .before .before in
+    m .before .before .before .before .byte .ensures
+    then m .escaped-bytes .ensures
+    then c .before .before .byte2 .ensures
+
+pub chars-spec : {M : Type 1} → statement M
+chars-spec =
+    tie.close (tie.spec byte-requires escaped-bytes-requires byte-requires-2 same-length returns)

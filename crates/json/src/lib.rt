@@ -1,0 +1,211 @@
+// The JSON values of a line, each put at a place of a lent room as the writers of `puts` do: as far as the room goes.
+use digits::hex;
+use numbers::single;
+use numbers::single::Fit;
+use numbers::text;
+use puts::Written;
+ghost use mathlib.Core.Path.{_≡_};
+ghost use mathlib.Core.List.{_++_};
+ghost use Prim.Native.Nat.{_+_, _*_, _≤_};
+ghost use lib.IntN.{pos};
+ghost use lib.ListN.{length};
+ghost use lib.Seq.{sets};
+ghost use Rattle.digits.specs.Paper.Ascii.{ascii};
+ghost use Rattle.digits.specs.Paper.Hex.{hexByte, hexBytes};
+ghost use Rattle.numbers.specs.Paper.Raw.{Raw};
+ghost use Rattle.numbers.specs.Paper.Single.{fitsSingle};
+ghost use Rattle.numbers.specs.Paper.Text.{text};
+ghost use Rattle.puts.specs.Paper.Put.{Put};
+ghost use Rattle.json.specs.Paper.Json as paper;
+ghost use Rattle.json.specs.Paper.Decimals.{decimalsOf};
+
+// How many decimals a reading has.
+pub enum Decimals {
+    Zero,
+    One,
+    Two,
+    Three,
+}
+
+// Puts a string of upper-case hex, two digits a byte.
+pub fn hex(s: &[u8], room: &mut [u8], at: usize) -> usize
+    ensures { λ r. ⌜ Put (now (room .entry)) (now (room .exit)) at r (paper.hex (now (s .entry))) ⌝ }
+{
+    let from = puts::byte(b'"', room, at);
+    let end = hex_digits(s, room, from);
+    puts::byte(b'"', room, end)
+}
+
+// Puts two digits a byte. Where the room has room for all, none of them asks for the room's end.
+fn hex_digits(s: &[u8], room: &mut [u8], at: usize) -> usize
+    ensures { λ r. ⌜ Put (now (room .entry)) (now (room .exit)) at r (hexBytes (now (s .entry))) ⌝ }
+{
+    let n = s.len();
+    if at < room.len() {
+        if n <= (room.len() - at) / 2 {
+            spell(s, room, at);
+            return at + 2 * n;
+        }
+    }
+    hex_clipped(s, room, at)
+}
+
+// Stores two digits a byte at a place of a room that has room for them there.
+fn spell(s: &[u8], room: &mut [u8], at: usize)
+    requires { ⌜ at + 2 * length (now s) ≤ length (now room) ⌝ }
+    ensures { λ _. ⌜ now (room .exit) ≡ sets (now (room .entry)) at (hexBytes (now (s .entry))) ⌝ }
+{
+    let mut i = 0;
+    while i < s.len() {
+        let pair = hex::two_digits(s[i]);
+        room[at + 2 * i] = pair[0];
+        room[at + 2 * i + 1] = pair[1];
+        i += 1;
+    }
+}
+
+// Puts two digits a byte, as far as the room goes.
+fn hex_clipped(s: &[u8], room: &mut [u8], at: usize) -> usize
+    ensures { λ r. ⌜ Put (now (room .entry)) (now (room .exit)) at r (hexBytes (now (s .entry))) ⌝ }
+{
+    let mut next = at;
+    let mut i = 0;
+    while i < s.len() {
+        let two = hex::two_digits(s[i]);
+        next = puts::bytes(&two, room, next);
+        i += 1;
+    }
+    next
+}
+
+// Puts a string, one character a byte.
+pub fn chars(s: &[u8], room: &mut [u8], at: usize) -> usize
+    ensures { λ r. ⌜ Put (now (room .entry)) (now (room .exit)) at r (paper.chars (now (s .entry))) ⌝ }
+{
+    let from = puts::byte(b'"', room, at);
+    let end = escaped_bytes(s, room, from);
+    puts::byte(b'"', room, end)
+}
+
+fn escaped_bytes(s: &[u8], room: &mut [u8], at: usize) -> usize
+    ensures { λ r. ⌜ Put (now (room .entry)) (now (room .exit)) at r (paper.eachEscaped (now (s .entry))) ⌝ }
+{
+    let mut next = at;
+    let mut i = 0;
+    while i < s.len() {
+        next = escaped(s[i], room, next);
+        i += 1;
+    }
+    next
+}
+
+fn escaped(b: u8, room: &mut [u8], at: usize) -> usize
+    ensures { λ r. ⌜ Put (now (room .entry)) (now (room .exit)) at r (paper.escaped b) ⌝ }
+{
+    if b == b'"' {
+        return puts::bytes(b"\\\"", room, at);
+    }
+    if b == b'\\' {
+        return puts::bytes(b"\\\\", room, at);
+    }
+    if b < 0x20 {
+        return code(b, room, at);
+    }
+    if 0x7E < b {
+        return code(b, room, at);
+    }
+    puts::byte(b, room, at)
+}
+
+// Puts a character that is spelt by its number.
+fn code(b: u8, room: &mut [u8], at: usize) -> usize
+    ensures { λ r. ⌜ Put (now (room .entry)) (now (room .exit)) at r (ascii "\\u00" ++ hexByte b) ⌝ }
+{
+    let next = puts::bytes(b"\\u00", room, at);
+    let last = puts::byte(hex::digit(b / 16), room, next);
+    puts::byte(hex::digit(b), room, last)
+}
+
+// Puts `true` or `false`.
+pub fn truth(b: bool, room: &mut [u8], at: usize) -> usize
+    ensures { λ r. ⌜ Put (now (room .entry)) (now (room .exit)) at r (paper.truth b) ⌝ }
+{
+    if b {
+        return puts::bytes(b"true", room, at);
+    }
+    puts::bytes(b"false", room, at)
+}
+
+// Puts the reading of a raw number, with a sign or without.
+pub fn signed(raw: i32, decimals: Decimals, room: &mut [u8], at: usize) -> usize
+    ensures { λ r. ⌜ Put (now (room .entry)) (now (room .exit)) at r (paper.reading raw (decimalsOf decimals)) ⌝ }
+{
+    reading(raw as i64, places(decimals), room, at)
+}
+
+pub fn unsigned(raw: u32, decimals: Decimals, room: &mut [u8], at: usize) -> usize
+    ensures { λ r. ⌜ Put (now (room .entry)) (now (room .exit)) at r (paper.reading (pos raw) (decimalsOf decimals)) ⌝ }
+{
+    reading(raw as i64, places(decimals), room, at)
+}
+
+fn places(d: Decimals) -> u32
+    ensures { λ r. ⌜ r ≡ decimalsOf d ⌝ }
+{
+    match d {
+        Decimals::Zero => 0,
+        Decimals::One => 1,
+        Decimals::Two => 2,
+        Decimals::Three => 3,
+    }
+}
+
+fn reading(raw: i64, decimals: u32, room: &mut [u8], at: usize) -> usize
+    requires { ⌜ Raw raw × (decimals ≤ 3) ⌝ }
+    ensures { λ r. ⌜ Put (now (room .entry)) (now (room .exit)) at r (paper.reading raw decimals) ⌝ }
+{
+    let a = puts::bytes(b"{\"raw\":", room, at);
+    let b = whole(raw, room, a);
+    let c = puts::bytes(b",\"dec\":", room, b);
+    let d = puts::whole(decimals as u64, room, c);
+    let e = puts::bytes(b",\"text\":\"", room, d);
+    let f = number(raw, decimals, room, e);
+    let g = puts::bytes(b"\",\"f32\":", room, f);
+    let h = truth(fits(raw), room, g);
+    puts::byte(b'}', room, h)
+}
+
+// Whether a single holds a raw number.
+fn fits(raw: i64) -> bool
+    requires { ⌜ Raw raw ⌝ }
+    ensures { λ r. ⌜ r ≡ fitsSingle raw ⌝ }
+{
+    match single::fits(raw) {
+        Fit::Is(b) => b,
+        Fit::Refused(why) => false,
+    }
+}
+
+// Puts a raw number with no decimals.
+fn whole(raw: i64, room: &mut [u8], at: usize) -> usize
+    requires { ⌜ Raw raw ⌝ }
+    ensures { λ r. ⌜ Put (now (room .entry)) (now (room .exit)) at r (text raw 0) ⌝ }
+{
+    if raw < 0 {
+        let a = puts::byte(b'-', room, at);
+        return puts::whole((0 - raw) as u64, room, a);
+    }
+    puts::whole(raw as u64, room, at)
+}
+
+// Puts the text of a raw number.
+fn number(raw: i64, decimals: u32, room: &mut [u8], at: usize) -> usize
+    requires { ⌜ Raw raw × (decimals ≤ 3) ⌝ }
+    ensures { λ r. ⌜ Put (now (room .entry)) (now (room .exit)) at r (text raw decimals) ⌝ }
+{
+    let mut t = [0u8; 12];
+    match text::write(raw, decimals, &mut t) {
+        Written::Bytes(n) => puts::bytes(&t[0..n], room, at),
+        Written::Refused(why) => at,
+    }
+}
