@@ -1,0 +1,217 @@
+-- The table of forms is the paper's: its members, its names, and its values, which make their message again.
+-- Assumes nothing.
+use mathlib.Core.Bool.{Bool}
+use mathlib.Core.List.{List, [], _∷_}
+use mathlib.Core.Path.{_≡_, refl, ap}
+use Prim.Native.Nat.{ℕ, _<_}
+use native.Mathlib.Omega.{arith}
+use lib.Dec.{T}
+use Rattle.digits.specs.Paper.Ascii.{ascii}
+use Rattle.digits.specs.Paper.Bytes.{Bytes}
+use Rattle.digits.proofs.Laws.Bytes.{bytes-nil, bytes-cons}
+use Rattle.digits.proofs.Laws.Tests.{T-and}
+use Rattle.layouts.specs.Paper.Chars.{all, isHex}
+use Rattle.layouts.specs.Paper.Homiq as homiqs
+use Rattle.layouts.specs.Paper.Homiq.{fieldChar}
+use Rattle.layouts.specs.Paper.Made.{Wire, homiqOf}
+use Rattle.layouts.specs.Work.Heads.{isByte}
+use Rattle.layouts.proofs.Laws.ByteRuns.{one-of-bytes}
+use Rattle.layouts.proofs.Laws.HomiqFields.{char-bounds}
+use Rattle.messages.specs.Paper.Message.{Message, read, set, answer, press, tail, link, command, climate, state, break, end, text, response, ask, reply, put, done, nibe, output, input, shutter, beat, homiq, name}
+use Rattle.messages.specs.Paper.Table.{Limits}
+use Rattle.json.proofs.Laws.Tokens.{unquoted, Token, number-token, hex-token, chars-token, truth-token, reading-token}
+use Rattle.lines.specs.Paper.Line.{highFirst, members}
+use Rattle.lines.specs.Work.Values.{Spelling, asNumber, asHex, asChars, asTruth, asReading, Of, spelt, Column, Values, membersOf, ofHighFirst, wireColumns, wireValues, formOf, values, sameText, named, formNamed}
+
+-- ---- names and members
+
+pub form-named : (m : Message) → formNamed (name m) ≡ formOf m
+unfolding named sameText
+form-named (read g a) = refl
+form-named (set g a out) = refl
+form-named (answer a third out) = refl
+form-named (press d) = refl
+form-named tail = refl
+form-named (link p) = refl
+form-named (command i p) = refl
+form-named (climate t h) = refl
+form-named (state p) = refl
+form-named break = refl
+form-named end = refl
+form-named (text i p) = refl
+form-named (response i p) = refl
+form-named (ask r) = refl
+form-named (reply r w v) = refl
+form-named (put r w v) = refl
+form-named (done ok) = refl
+form-named (nibe c d) = refl
+form-named (output w) = refl
+form-named (input w) = refl
+form-named (shutter w) = refl
+form-named (beat w) = refl
+form-named (homiq w) = refl
+
+pub name-unquoted : (m : Message) → T (unquoted (name m))
+unfolding unquoted
+name-unquoted (read g a) = tt
+name-unquoted (set g a out) = tt
+name-unquoted (answer a third out) = tt
+name-unquoted (press d) = tt
+name-unquoted tail = tt
+name-unquoted (link p) = tt
+name-unquoted (command i p) = tt
+name-unquoted (climate t h) = tt
+name-unquoted (state p) = tt
+name-unquoted break = tt
+name-unquoted end = tt
+name-unquoted (text i p) = tt
+name-unquoted (response i p) = tt
+name-unquoted (ask r) = tt
+name-unquoted (reply r w v) = tt
+name-unquoted (put r w v) = tt
+name-unquoted (done ok) = tt
+name-unquoted (nibe c d) = tt
+name-unquoted (output w) = tt
+name-unquoted (input w) = tt
+name-unquoted (shutter w) = tt
+name-unquoted (beat w) = tt
+name-unquoted (homiq w) = tt
+
+pub members-spelt : (m : Message) → members m ≡ membersOf (formOf m .columns) (values m)
+unfolding members
+members-spelt (read g a) = refl
+members-spelt (set g a out) = refl
+members-spelt (answer a third out) = refl
+members-spelt (press d) = refl
+members-spelt tail = refl
+members-spelt (link p) = refl
+members-spelt (command i p) = refl
+members-spelt (climate t h) = refl
+members-spelt (state p) = refl
+members-spelt break = refl
+members-spelt end = refl
+members-spelt (text i p) = refl
+members-spelt (response i p) = refl
+members-spelt (ask r) = refl
+members-spelt (reply r w v) = refl
+members-spelt (put r w v) = refl
+members-spelt (done ok) = refl
+members-spelt (nibe c d) = refl
+members-spelt (output w) = refl
+members-spelt (input w) = refl
+members-spelt (shutter w) = refl
+members-spelt (beat w) = refl
+members-spelt (homiq w) = refl
+
+-- ---- the message that its values make
+
+again : (a : ℕ) → ofHighFirst (highFirst a) ≡ a
+again a = omega arith
+
+pub made : (m : Message) → formOf m .message (values m) ≡ m
+made (read g a) = ap (read g) (again a)
+made (set g a out) = ap (λ (x : ℕ). set g x out) (again a)
+made (answer a third out) = ap (λ (x : ℕ). answer x third out) (again a)
+made (press d) = refl
+made tail = refl
+made (link p) = refl
+made (command i p) = refl
+made (climate t h) = refl
+made (state p) = refl
+made break = refl
+made end = refl
+made (text i p) = refl
+made (response i p) = refl
+made (ask r) = refl
+made (reply r w v) = refl
+made (put r w v) = refl
+made (done ok) = refl
+made (nibe c d) = refl
+made (output w) = refl
+made (input w) = refl
+made (shutter w) = refl
+made (beat w) = refl
+made (homiq w) = refl
+
+-- ---- values that end where they end
+
+-- strings of bytes
+abbrev pub Proper : (k : Spelling) → Of k → Type 0
+Proper asNumber n = Unit
+Proper asHex s = Bytes s
+Proper asChars s = Bytes s
+Proper asTruth b = Unit
+Proper (asReading d) z = Unit
+
+pub token : (k : Spelling) → Token (Proper k) (spelt k)
+token asNumber = number-token
+token asHex = hex-token
+token asChars = chars-token
+token asTruth = truth-token
+token (asReading d) = reading-token d
+
+abbrev pub AllProper : (cs : List Column) → Values cs → Type 0
+AllProper [] v = Unit
+AllProper (c ∷ cs) v = Proper (c .spelling) (v .0) × AllProper cs (v .1)
+
+bytes-by : (f : ℕ → Bool) → ((c : ℕ) → T (f c) → c < 256) → (s : List ℕ) → T (all f s) → Bytes s
+unfolding all
+bytes-by f h [] t = bytes-nil
+bytes-by f h (c ∷ s) t = let q = T-and (f c) (all f s) t in bytes-cons (h c (q .0)) (bytes-by f h s (q .1))
+
+hex-bytes : (s : List ℕ) → T (all isHex s) → Bytes s
+unfolding isHex all isByte
+hex-bytes = bytes-by isHex (λ c t. one-of-bytes (ascii "0123456789ABCDEF") c tt t)
+
+field-bytes : (s : List ℕ) → T (all fieldChar s) → Bytes s
+field-bytes = bytes-by fieldChar (λ c t. let b = char-bounds c t .0 in omega arith)
+
+address-bytes : (a : ℕ) → a < 65536 → Bytes (highFirst a)
+address-bytes a h = bytes-cons (omega arith) (bytes-cons (omega arith) bytes-nil)
+
+wire-proper : (w : Wire) → homiqs.Limits (homiqOf w) → AllProper wireColumns (wireValues w)
+unfolding all isByte
+wire-proper w l = (
+  field-bytes (w .cmd) (l .cmd .chars),
+  (
+    field-bytes (w .val) (l .val .chars),
+    (
+      field-bytes (w .src) (l .src .chars),
+      (
+        field-bytes (w .dst) (l .dst .chars),
+        (
+          tt,
+          (
+            bytes-cons (one-of-bytes (ascii "sa") (w .type) tt (l .type)) bytes-nil,
+            tt,
+          ),
+        ),
+      ),
+    ),
+  ),
+)
+
+pub proper : (m : Message) → Limits m → AllProper (formOf m .columns) (values m)
+proper (read g a) l = (tt, (address-bytes a (l .1), tt))
+proper (set g a out) l = (tt, (address-bytes a (l .1), (l .2 .bytes, tt)))
+proper (answer a third out) l = (address-bytes a (l .0), (tt, (l .2 .bytes, tt)))
+proper (press d) l = (hex-bytes d (l .1), tt)
+proper tail l = tt
+proper (link p) l = (l .bytes, tt)
+proper (command i p) l = (tt, (l .1 .bytes, tt))
+proper (climate t h) l = (tt, (tt, tt))
+proper (state p) l = (tt, (tt, (tt, (l .bytes, tt))))
+proper break l = tt
+proper end l = tt
+proper (text i p) l = (tt, (l .1 .bytes, tt))
+proper (response i p) l = (tt, (l .1 .bytes, tt))
+proper (ask r) l = (tt, tt)
+proper (reply r w v) l = (tt, (tt, (tt, tt)))
+proper (put r w v) l = (tt, (tt, (tt, tt)))
+proper (done ok) l = (tt, tt)
+proper (nibe c d) l = (tt, (l .1 .bytes, tt))
+proper (output w) l = wire-proper w (l .limits)
+proper (input w) l = wire-proper w (l .limits)
+proper (shutter w) l = wire-proper w (l .limits)
+proper (beat w) l = wire-proper w (l .limits)
+proper (homiq w) l = wire-proper w l

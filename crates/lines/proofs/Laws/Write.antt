@@ -1,0 +1,146 @@
+-- What the writer of one frame's line answers.
+-- Assumes nothing.
+use mathlib.Core.Path.{_≡_, refl, sym, ap, _∙_, subst}
+use mathlib.Core.Bool.{Bool, true, false, _||_, true≢false}
+use mathlib.Core.List.{List, _∷_, _++_}
+use Prim.Native.Nat.{ℕ, _+_, _^_, _≤_, _<_}
+use native.Mathlib.Omega.{arith}
+use lib.Dec.{eqb}
+use lib.ListN.{length, length-append}
+use Rattle.digits.specs.Paper.Bytes.{part}
+use Rattle.digits.specs.Paper.Refusals.{order, First, clear, here, after}
+use Rattle.digits.specs.declared.refusal.Refusal.{Refusal}
+use Rattle.digits.proofs.Laws.Refusals.{cause-at, pass-over, some-number}
+use Rattle.layouts.specs.Paper.Layout.{Layout, bytesOf}
+use Rattle.layouts.specs.Paper.Layout as layout
+use Rattle.layouts.specs.Paper.Homiq as homiqs
+use Rattle.layouts.specs.Paper.Nest as nests
+use Rattle.layouts.specs.Paper.Nibe as nibes
+use Rattle.layouts.specs.Paper.Nikobus as nikobuses
+use Rattle.layouts.specs.declared.nest.Direction.the-variants.{Command, Response}
+use Rattle.frames.specs.Paper.Kinds.{Frame}
+use Rattle.frames.proofs.Laws.Kinds.{frame-known}
+use Rattle.messages.specs.Paper.Answers.{DecodeCause, Said, Decodes, is, refused}
+use Rattle.messages.specs.Paper.Answers as decoding
+use Rattle.messages.specs.Paper.Fields.{Fields, onNikobus, asCommand, asResponse, onNibe, onHomiq, laid, payloadFrom, payloadTo}
+use Rattle.messages.specs.Paper.Table.{fields}
+use Rattle.messages.specs.declared.Decoded.{Decoded}
+use Rattle.messages.specs.declared.Decoded.the-variants.{Is, Refused}
+use Rattle.messages.specs.declared.Message.{Message as Coded}
+use Rattle.messages.proofs.Laws.Decode.{is-frame}
+use Rattle.messages.proofs.Theorems.{has-message, one-message-of}
+use Rattle.puts.specs.Paper.Put.{last}
+use Rattle.puts.specs.Paper.Wrote.{RoomCause, Writes}
+use Rattle.puts.specs.Paper.Right as right
+use Rattle.puts.specs.declared.Written.{Written}
+use Rattle.puts.specs.declared.Written.the-variants.{Refused as Unwritten}
+use Rattle.puts.proofs.Laws.Right.{fronted-right}
+use Rattle.lines.specs.Paper.Answers.{LineOf, LineCause, no-kind, no-frame, short, WritesLine}
+use Rattle.lines.specs.Paper.Line.{line}
+use Rattle.lines.specs.Work.Put.{put}
+use Rattle.lines.proofs.Laws.Next.{line-of-said}
+use Rattle.lines.proofs.Laws.Sizes.{bytes-most, line-room}
+
+-- ---- the payload lies inside the frame
+
+layout-inside : (l : Layout) (m : l .Fields) → (layout.payloadFrom l m ≤ layout.payloadTo l m) × (layout.payloadTo l m ≤ length (bytesOf l m))
+layout-inside l m =
+    let e = length-append (l .before m ++ l .payload m) (l .behind m) in
+    let f = length-append (l .before m) (l .payload m) in
+    (omega arith, omega arith)
+
+fields-inside : (x : Fields) → (payloadFrom x ≤ payloadTo x) × (payloadTo x ≤ length (laid x))
+fields-inside (onNikobus m) = layout-inside nikobuses.nikobus m
+fields-inside (asCommand m) = layout-inside (nests.nest Command) m
+fields-inside (asResponse m) = layout-inside (nests.nest Response) m
+fields-inside (onNibe m) = layout-inside nibes.nibe m
+fields-inside (onHomiq m) = layout-inside homiqs.homiq m
+
+said-inside : {k : ℕ} {f : List ℕ} {e : Coded} {from to : ℕ} → Said k f e from to → (from ≤ to) × (to ≤ length f)
+said-inside {f = f} x =
+    let i = fields-inside (fields (x .message)) in
+    let n : length (laid (fields (x .message))) ≡ length f = ap length (x .stands .frame) in
+    (omega (arith, i, x .from-is, x .to-is), omega (arith, i, n, x .to-is))
+
+-- ---- a frame has one line, and it is not long
+
+pub one-line : {k : ℕ} {f : List ℕ} {place : ℕ} (s t : List ℕ) → LineOf k f place s → LineOf k f place t → s ≡ t
+one-line {f = f} {place = place} s t a b =
+    a .is ∙ ap (line place (length f)) (one-message-of (a .message) (b .message) (a .stands) (b .stands)) ∙ sym (b .is)
+
+line-short : {k : ℕ} {f t : List ℕ} {place : ℕ} → place ≤ last → LineOf k f place t → length t ≤ last
+line-short {f = f} {place = place} h l =
+    let n : length f ≤ 1034 = subst (λ (s : List ℕ). length s ≤ 1034) (l .stands .frame) (bytes-most (l .message) (l .stands .good .limits)) in
+    let few : place < 10 ^ 20 = omega arith in
+    omega (arith, line-room few l)
+
+-- ---- the causes
+
+abbrev ours : ℕ → Bool
+ours k = eqb k 2 || (eqb k 5 || eqb k 4)
+
+-- the second of the causes does not apply where a later one is the first
+second-passed : {Cause : ℕ → Type 0} {x y no : ℕ} {l : List ℕ} → First Cause (x ∷ y ∷ l) no → (x ≡ no → ⊥) → (y ≡ no → ⊥) → Cause y → ⊥
+second-passed (here c) p q d = p refl
+second-passed (after n (here c)) p q d = q refl
+second-passed (after n (after m f)) p q d = m d
+
+module _ {k : ℕ} {f : List ℕ} {place room : ℕ} where
+  only : (i : ℕ) → ours i ≡ false → LineCause k f place room i → ⊥
+  only i e (no-kind h) = true≢false e
+  only i e (no-frame h) = true≢false e
+  only i e (short l h) = true≢false e
+
+  kind-known : Frame k f → LineCause k f place room 2 → ⊥
+  kind-known r (no-kind h) = true≢false (sym (frame-known r) ∙ h)
+
+  frame-there : Frame k f → LineCause k f place room 5 → ⊥
+  frame-there r (no-frame h) = h r
+
+  module _ {t : List ℕ} (l : LineOf k f place t) where
+    enough : length t ≤ room → First (LineCause k f place room) order 0
+    enough h = pass-over ours only order (after (kind-known (is-frame (l .stands))) (after (frame-there (is-frame (l .stands))) (after fits clear)))
+      where
+        fits : LineCause k f place room 4 → ⊥
+        fits (short {t = u} o g) = let e : length u ≡ length t = ap length (one-line u t o l) in omega arith
+
+    too-few : room < length t → First (LineCause k f place room) order 4
+    too-few h = pass-over ours only order (after (kind-known (is-frame (l .stands))) (after (frame-there (is-frame (l .stands))) (here (short l h))))
+
+  -- what decoding is refused for
+  refusing : {no : ℕ} → First (DecodeCause k f) order no → DecodeCause k f no → First (LineCause k f place room) order no
+  refusing c (decoding.no-kind h) = pass-over ours only order (here (no-kind h))
+  refusing c (decoding.no-message h) = pass-over ours only order (after kind (here (no-frame (λ r. let m = has-message r in h (m .0) (m .1)))))
+    where
+      kind : LineCause k f place room 2 → ⊥
+      kind (no-kind g) = second-passed c (λ e. absurd (omega arith)) (λ e. absurd (omega arith)) (decoding.no-kind g)
+
+-- ---- the answers
+
+module _ {k : ℕ} {f : List ℕ} {r : Decoded} (a : Decodes k f r) where
+  module _ {e : Coded} {from to : ℕ} (q : r ≡ Is e from to) where
+    decoded : Decodes k f (Is e from to)
+    decoded = subst (Decodes k f) q a
+
+    said-in : Decodes k f (Is e from to) → Said k f e from to
+    said-in (is c s) = s
+
+    pub inside-frame : (from ≤ to) × (to ≤ length f)
+    inside-frame = said-inside (said-in decoded)
+
+    the-line : (place : ℕ) → LineOf k f place (put e (part from to f) place (length f))
+    the-line place = line-of-said place (part from to f) (said-in decoded) refl
+
+    pub put-short : (place : ℕ) → place ≤ last → length (put e (part from to f) place (length f)) ≤ last
+    put-short place h = line-short h (the-line place)
+
+    pub written : (place : ℕ) (room later : List ℕ) (w : Written)
+        → Writes (RoomCause (length room) (length (put e (part from to f) place (length f)))) (put e (part from to f) place (length f)) room w later
+        → WritesLine k f place room w later
+    written place room later w p = fronted-right w (the-line place) (enough (the-line place)) (too-few (the-line place)) p
+
+  pub not-written : {why : Refusal} (place : ℕ) (room : List ℕ) → r ≡ Refused why → WritesLine k f place room (Unwritten why) room
+  not-written {why} place room q = go (subst (Decodes k f) q a)
+    where
+      go : Decodes k f (Refused why) → WritesLine k f place room (Unwritten why) room
+      go (refused c) = right.refused (some-number why) (refusing c (cause-at c (some-number why)))

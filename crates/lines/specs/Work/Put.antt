@@ -1,0 +1,94 @@
+-- What the writers of a line put, from the code's message and what stands beside it.
+-- Assumes nothing.
+use mathlib.Core.Bool.{cond}
+use mathlib.Core.List.{List, [], _∷_, _++_}
+use Prim.Native.Nat.{ℕ}
+use lib.Dec.{ltb}
+use lib.IntN.{pos}
+use lib.ListN.{length}
+use Rattle.digits.specs.Paper.Ascii.{ascii}
+use Rattle.json.specs.Paper.Json.{Member, _∶_, member, number, hex, chars, quoted, reading}
+use Rattle.messages.specs.Paper.Homiq.{fieldAt}
+use Rattle.messages.specs.Paper.Message.{Message, command, state, name}
+use Rattle.messages.specs.Paper.Says.{ofNikobus, ofResponse, ofNibe}
+use Rattle.messages.specs.declared.Message.{Message as Coded}
+use Rattle.messages.specs.declared.Message.the-variants.{Nikobus as OnNikobus, Command, Response as AsResponse, Nibe as OnNibe, Homiq as OnHomiq}
+use Rattle.messages.specs.declared.homiq.Homiq.{Homiq}
+use Rattle.messages.specs.declared.homiq.Homiq.the-variants.{Output, Input, Shutter, Beat, Homiq as Rest}
+use Rattle.messages.specs.declared.nest.Response.{Response}
+use Rattle.messages.specs.declared.nest.Response.the-variants.{Climate, State, Break, End, Text, Response as Other}
+use Rattle.messages.specs.declared.nest.Volts.{Volts}
+use Rattle.messages.specs.declared.nest.Volts.the-variants.{Are, Refused as NoVolts}
+use Rattle.messages.specs.declared.nikobus.Nikobus.{Nikobus}
+use Rattle.messages.specs.declared.nikobus.Nikobus.the-variants.{Read, Set, Answer, Press, Tail, Link}
+use Rattle.lines.specs.Paper.Line.{members}
+
+-- members, each behind a `,`
+unfoldable pub commaed : List Member → List ℕ
+commaed [] = []
+commaed (m ∷ ms) = 44 ∷ (member m ++ commaed ms)
+
+-- a line from its message's name to its last member
+unfoldable pub named : Message → List ℕ
+named m = name m ++ (34 ∷ commaed (members m))
+
+-- what is put of each of the code's messages: a link's digits stand beside it as they are shown
+unfoldable pub nikobusRest : Nikobus → List ℕ → List ℕ
+nikobusRest (Read g a) s = named (ofNikobus (Read g a) [])
+nikobusRest (Set g a out) s = named (ofNikobus (Set g a out) [])
+nikobusRest (Answer a third out) s = named (ofNikobus (Answer a third out) [])
+nikobusRest (Press d) s = named (ofNikobus (Press d) [])
+nikobusRest Tail s = named (ofNikobus Tail [])
+nikobusRest Link s = ascii "link\",\"data\":" ++ quoted s
+
+-- the members of a state with these voltages; a payload that is too short has none
+unfoldable pub voltsMembers : List ℕ → Volts → List ℕ
+voltsMembers s (Are x y z) =
+    commaed
+    (ascii "vin" ∶ reading (pos x) 2
+    ∷ ascii "vop" ∶ reading (pos y) 3
+    ∷ ascii "vbat" ∶ reading (pos z) 3
+    ∷ ascii "data" ∶ hex s
+    ∷ [])
+voltsMembers s (NoVolts why) = []
+
+unfoldable pub stateMembers : List ℕ → List ℕ
+stateMembers s = cond (ltb (length s) 16) [] (commaed (members (state s)))
+
+unfoldable pub responseRest : Response → List ℕ → List ℕ
+responseRest (Climate t h) s = named (ofResponse (Climate t h) s)
+responseRest State s = ascii "state\"" ++ stateMembers s
+responseRest Break s = named (ofResponse Break s)
+responseRest End s = named (ofResponse End s)
+responseRest (Text i) s = named (ofResponse (Text i) s)
+responseRest (Other i) s = named (ofResponse (Other i) s)
+
+-- Homiq's fields are taken out of CMD to TYPE; its id stands there in digits
+abbrev pub homiqName : Homiq → List ℕ
+homiqName Output = ascii "output\""
+homiqName Input = ascii "input\""
+homiqName Shutter = ascii "shutter\""
+homiqName Beat = ascii "beat\""
+homiqName Rest = ascii "homiq\""
+
+abbrev pub fieldMembers : List ℕ → List Member
+fieldMembers s =
+    ascii "cmd" ∶ chars (fieldAt 0 s)
+    ∷ ascii "val" ∶ chars (fieldAt 1 s)
+    ∷ ascii "src" ∶ chars (fieldAt 2 s)
+    ∷ ascii "dst" ∶ chars (fieldAt 3 s)
+    ∷ ascii "id" ∶ fieldAt 4 s
+    ∷ ascii "type" ∶ chars (fieldAt 5 s)
+    ∷ []
+
+unfoldable pub restOf : Coded → List ℕ → List ℕ
+restOf (OnNikobus e) s = nikobusRest e s
+restOf (Command i) s = named (command i s)
+restOf (AsResponse e) s = responseRest e s
+restOf (OnNibe e) s = named (ofNibe e s)
+restOf (OnHomiq e) s = homiqName e ++ commaed (fieldMembers s)
+
+-- the whole line
+unfoldable pub put : Coded → List ℕ → ℕ → ℕ → List ℕ
+put e s at len =
+    ascii "{\"at\":" ++ (number at ++ (ascii ",\"len\":" ++ (number len ++ (ascii ",\"msg\":\"" ++ (restOf e s ++ ascii "}\n")))))
