@@ -1,0 +1,7 @@
+pub mod Inputs
+pub mod Rest
+pub mod One
+pub mod Sizes
+pub mod Skipped
+pub mod Some
+pub mod Written

@@ -1,0 +1,122 @@
+-- What is left of a capture's listing: all of it at the start, a line less behind a frame, and the last line where no frame is left.
+-- Assumes nothing.
+use mathlib.Core.Bool.{true, true≢false}
+use mathlib.Core.List.{List, [], _∷_, _++_, append-assoc}
+use mathlib.Core.Path.{_≡_, refl, sym, ap, ap₂, _∙_, subst}
+use Prim.Native.Nat.{ℕ, _+_, _-_, _≤_, _<_}
+use native.Mathlib.Omega.{arith}
+use lib.ListN.{length}
+use Rattle.digits.specs.Paper.Bytes.{part}
+use Rattle.digits.specs.Paper.Refusals.{refusalNumber}
+use Rattle.digits.specs.declared.refusal.Refusal.{Refusal}
+use Rattle.digits.specs.declared.refusal.Refusal.the-variants.{NoFrame}
+use Rattle.digits.proofs.Laws.Refusals.{one-refusal, some-number, cause-of, cause-at}
+use Rattle.puts.specs.Paper.Put.{Put}
+use Rattle.puts.proofs.Laws.Puts.{_then_, put-length}
+use Rattle.frames.specs.Paper.Kinds.{known}
+use Rattle.frames.specs.Paper.Runs.{ends, finds}
+use Rattle.frames.specs.Paper.Search.{Hit, SearchCause, no-frame, no-kind, no-place, Searches}
+use Rattle.frames.specs.declared.Found.the-variants.{At, Refused}
+use Rattle.frames.proofs.Laws.Places.{positive}
+use Rattle.frames.proofs.Laws.Runs.{leftmost}
+use Rattle.lines.specs.Paper.Answers.{LineOf, PutsNext, line-of, none as none-left}
+use Rattle.lines.specs.declared.Listed.{Listed}
+use Rattle.lines.specs.declared.Listed.the-variants.{At as Line, Refused as NoLine}
+use Rattle.list.specs.Paper.Listing.{none, line, inside, lastLine, Lists}
+use Rattle.list.specs.Work.Rest.{Rest, PutsLists, Completes}
+
+-- ---- what is left
+
+-- all of it
+pub from-start : {k : ℕ} {s t : List ℕ} → Rest k s 0 0 0 t → Lists k s t
+from-start {k} {s} {t} r =
+    let n : 0 + length (r .frames) ≡ length (r .frames) = omega arith in
+    let m : length s - (0 + inside (r .frames)) ≡ length s - inside (r .frames) = omega arith in
+    record { frames = r .frames; run = r .run; lines = r .lines; each = r .each; is = r .is ∙ ap₂ (λ (x y : ℕ). r .lines ++ lastLine x y) n m }
+
+module _ {k : ℕ} {s : List ℕ} {place : ℕ} where
+  -- a found frame's line, and what is left behind it
+  pub found-line : {start len from to count within : ℕ} {u t : List ℕ} → Searches k s place (At start len from to) → LineOf k (part start (start + len) s) start u
+      → Rest k s (start + len) (count + 1) (within + len) t → Rest k s place count within (u ++ t)
+  unfolding inside
+  found-line {start} {len} {from} {to} {count} {within} {u} {t} a l r =
+      let v : Hit = record { start = start; len = len; from = from; to = to } in
+      let n : count + 1 + length (r .frames) ≡ count + length (v ∷ r .frames) = omega arith in
+      let m : length s - (within + len + inside (r .frames)) ≡ length s - (within + inside (v ∷ r .frames)) = omega arith in
+      record {
+        frames = v ∷ r .frames;
+        run = finds a (r .run);
+        lines = u ++ r .lines;
+        each = line {v = v} l (r .each);
+        is =
+            ap (λ (x : List ℕ). u ++ x) (r .is ∙ ap₂ (λ (x y : ℕ). r .lines ++ lastLine x y) n m)
+            ∙ sym (append-assoc u (r .lines) (lastLine (count + length (v ∷ r .frames)) (length s - (within + inside (v ∷ r .frames)))));
+      }
+
+  -- no frame is left
+  pub last-left : {count within : ℕ} → Searches k s place (Refused NoFrame) → Rest k s place count within (lastLine count (length s - within))
+  unfolding inside
+  last-left {count} {within} a =
+      let n : count ≡ count + length {A = Hit} [] = omega arith in
+      let m : length s - within ≡ length s - (within + inside []) = omega arith in
+      record { frames = []; run = ends a; lines = []; each = none; is = ap₂ (λ (x y : ℕ). lastLine x y) n m }
+
+-- ---- a search of a known kind from a place in the capture is refused only where no frame is left
+
+pub refused-none : {k : ℕ} {s : List ℕ} {place : ℕ} (why : Refusal) → known k ≡ true → place ≤ length s → Searches k s place (Refused why) → Searches k s place (Refused NoFrame)
+refused-none {k} {s} {place} why kn h a =
+    let c = cause-at (cause-of a) (some-number why) in
+    subst (λ (r : Refusal). Searches k s place (Refused r)) (one-refusal why NoFrame (of (refusalNumber why) c)) a
+  where
+    of : (n : ℕ) → SearchCause k s place n → n ≡ 1
+    of n (no-frame f) = refl
+    of n (no-kind e) = absurd (true≢false (sym kn ∙ e))
+    of n (no-place l) = absurd (omega arith)
+
+-- ---- the loop's turns
+
+pub started : {k : ℕ} {s room : List ℕ} {at : ℕ} → Completes k s room room at at 0 0 0
+started =
+    record {
+      place-in = omega arith;
+      few = omega arith;
+      within-place = omega arith;
+      same = refl;
+      whole = λ later behind t r p. record { listing = t; lists = from-start r; put = p };
+    }
+
+-- what is next, where the answer is known
+module _ {k : ℕ} {s : List ℕ} {place : ℕ} {room : List ℕ} {to : ℕ} {r : Listed} {later : List ℕ} (n : PutsNext k s place room to r later) where
+  known-next : {q : Listed} → r ≡ q → PutsNext k s place room to q later
+  known-next e = subst (λ (q : Listed). PutsNext k s place room to q later) e n
+
+  -- where the next frame stands
+  pub next-place : {start len behind : ℕ} → r ≡ Line start len behind → (place ≤ start) × (start + len ≤ length s) × (0 < len)
+  next-place {start} {len} {behind} e = of (known-next e)
+    where
+      of : PutsNext k s place room to (Line start len behind) later → (place ≤ start) × (start + len ≤ length s) × (0 < len)
+      of (line-of a l p) = let q = leftmost a in (q .behind, q .stands .inside, positive (q .stands))
+
+module _ {k : ℕ} {s room room₀ : List ℕ} {at next place count within : ℕ} (c : Completes k s room room₀ at next place count within) {r : Listed} {later : List ℕ} (n : PutsNext k s place room₀ next r later) where
+  -- a line more
+  pub turned : {start len behind : ℕ} → r ≡ Line start len behind → Completes k s room later at behind (start + len) (count + 1) (within + len)
+  turned {start} {len} {behind} e = of (known-next n e) (next-place n e)
+    where
+      of : PutsNext k s place room₀ next (Line start len behind) later → (place ≤ start) × (start + len ≤ length s) × (0 < len)
+          → Completes k s room later at behind (start + len) (count + 1) (within + len)
+      of (line-of a l p) h =
+          record {
+            place-in = h .1;
+            few = omega (arith, c .few, h .0, h .2);
+            within-place = omega (arith, c .within-place, h .0);
+            same = put-length p ∙ c .same;
+            whole = λ end to t x q. c .whole end to _ (found-line a l x) (p then q);
+          }
+
+  -- where none is left the room is as it was, and the last line completes the listing
+  pub ended : {why : Refusal} {end : List ℕ} {behind : ℕ} → r ≡ NoLine why → known k ≡ true → Put later end next behind (lastLine count (length s - within))
+      → PutsLists k s room end at behind
+  ended {why} {end} {behind} e kn p = of (known-next n e) p
+    where
+      of : {now : List ℕ} → PutsNext k s place room₀ next (NoLine why) now → Put now end next behind (lastLine count (length s - within)) → PutsLists k s room end at behind
+      of (none-left a) q = c .whole end behind _ (last-left (refused-none why kn (c .place-in) a)) q

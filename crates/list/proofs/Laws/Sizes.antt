@@ -1,0 +1,138 @@
+-- The frames and the bytes in none add up; and how long a listing can be.
+-- Assumes nothing.
+use mathlib.Core.List.{List, [], _∷_, _++_}
+use mathlib.Core.Path.{ap, _∙_}
+use Prim.Native.Nat.{ℕ, _+_, _-_, _*_, _^_, _≤_, _<_}
+use native.Mathlib.Omega.{arith}
+use lib.ListN.{length, length-append}
+use Rattle.digits.specs.Paper.Ascii.{ascii}
+use Rattle.digits.specs.Paper.Decimal.{decimal}
+use Rattle.digits.specs.Paper.LowFirst.{lowFirst}
+use Rattle.digits.proofs.Laws.Decimal.{length-decimal}
+use Rattle.digits.proofs.Laws.LowFirst.{length-low}
+use Rattle.layouts.specs.Paper.Chars.{CR, LF}
+use Rattle.layouts.specs.Paper.Layout as layout
+use Rattle.layouts.specs.Paper.Nikobus as nikobuses
+use Rattle.layouts.specs.Paper.Nest as nests
+use Rattle.layouts.specs.Paper.Nibe as nibes
+use Rattle.layouts.specs.Paper.Homiq as homiqs
+use Rattle.layouts.proofs.Laws.Nikobus.{link-size}
+use Rattle.frames.specs.Paper.Kinds.{Frame, nikobus, command, response, nibe, homiq}
+use Rattle.frames.specs.Paper.Runs.{Run, InOrder, nothing, next}
+use Rattle.frames.specs.Paper.Search.{Hit, framePart}
+use Rattle.frames.proofs.Laws.Places.{size-at}
+use Rattle.frames.proofs.Theorems.{in-order}
+use Rattle.json.specs.Paper.Json.{_∶_, object, number}
+use Rattle.json.proofs.Laws.Sizes.{total, length-object}
+use Rattle.lines.proofs.Laws.Sizes.{line-room}
+use Rattle.list.specs.Paper.Listing.{Lines, none, line, inside, lastLine, Lists, mostInput, refusedWith, Listing, bad-start, too-long, listed, listingRoom}
+
+-- ---- frames
+
+nikobus-least : {m : nikobuses.Nikobus} → nikobuses.Limits m → 4 ≤ length (layout.bytesOf nikobuses.nikobus m)
+nikobus-least (nikobuses.link-limits {p = p} {crc16 = x} {crc8 = y} a b c d e) = omega (arith, link-size p x y)
+nikobus-least (nikobuses.press-limits {d = d} six h) = omega (arith, length-append d (CR ∷ []))
+nikobus-least nikobuses.tail-limits = omega arith
+
+nest-least : (mark : List ℕ) (m : nests.Nest) → 4 ≤ length (layout.bytesOf (nests.nestWith mark) m)
+nest-least mark m =
+    let a : List ℕ = mark ++ lowFirst 2 (m .id) in
+    let b : List ℕ = a ++ lowFirst 2 (length (m .payload)) in
+    omega (
+      arith,
+      length-append (b ++ m .payload) (lowFirst 2 (m .crc)),
+      length-append b (m .payload),
+      length-append a (lowFirst 2 (length (m .payload))),
+      length-low 2 (length (m .payload)),
+      length-low 2 (m .crc),
+    )
+
+nibe-least : (m : nibes.Nibe) → 4 ≤ length (layout.bytesOf nibes.nibe m)
+nibe-least m = omega (arith, length-append (nibes.before m ++ m .content) (m .xor ∷ []), length-append (nibes.before m) (m .content))
+
+homiq-least : (m : homiqs.Homiq) → 4 ≤ length (layout.bytesOf homiqs.homiq m)
+homiq-least m =
+    omega (
+      arith,
+      length-append (homiqs.before m ++ homiqs.payload m) (homiqs.behind m),
+      length-append (homiqs.before m) (homiqs.payload m),
+      length-append (ascii ";" ++ decimal (m .crc) ++ ascii ";>") (CR ∷ LF ∷ []),
+      length-append (ascii ";" ++ decimal (m .crc)) (ascii ";>"),
+    )
+
+-- a frame has four bytes at least
+pub four-bytes : {k : ℕ} {f : List ℕ} → Frame k f → 4 ≤ length f
+four-bytes (nikobus r) = rw (r .form .laid) (nikobus-least (r .form .limits))
+four-bytes (command r) = rw (r .form .laid) (nest-least (0xD5 ∷ 0xAA ∷ 0x96 ∷ []) (r .form .fields))
+four-bytes (response r) = rw (r .form .laid) (nest-least (0xD5 ∷ 0xD5 ∷ 0xAA ∷ 0x96 ∷ []) (r .form .fields))
+four-bytes (nibe r) = rw (r .form .laid) (nibe-least (r .form .fields))
+four-bytes (homiq r) = rw (r .form .laid) (homiq-least (r .form .fields))
+
+-- frames in order lie in the capture
+pub in-capture : {k : ℕ} {s : List ℕ} {place : ℕ} {hits : List Hit} → InOrder k s place hits → place ≤ length s → place + inside hits ≤ length s
+unfolding inside
+in-capture nothing h = omega arith
+in-capture (next {v = v} b q r) h = let l = in-capture r (q .inside) in omega (arith, q .inside)
+
+pub inside-most : {k : ℕ} {s : List ℕ} {hits : List Hit} → Run k s 0 hits → inside hits ≤ length s
+inside-most r = let l = in-capture (in-order r) (omega arith) in omega arith
+
+few : {k : ℕ} {s : List ℕ} {place : ℕ} {hits : List Hit} → InOrder k s place hits → 4 * length hits ≤ inside hits
+unfolding inside
+few nothing = omega arith
+few (next {v = v} b q r) = omega (arith, four-bytes (q .frame), size-at q, few r)
+
+pub few-found : {k : ℕ} {s : List ℕ} {place : ℕ} {hits : List Hit} → Run k s place hits → 4 * length hits ≤ inside hits
+few-found r = few (in-order r)
+
+-- ---- lines
+
+lines-most : {k : ℕ} {s : List ℕ} {place : ℕ} {hits : List Hit} {t : List ℕ} → length s ≤ mostInput → InOrder k s place hits → Lines k s hits t → length t ≤ 32 * inside hits
+unfolding inside
+lines-most h nothing none = omega arith
+lines-most {s = s} h (next {v = v} b q r) (line {t = t} {rest = rest} l ls) =
+    omega (
+      arith,
+      length-append t rest,
+      line-room {f = framePart s v} (omega (arith, q .inside)) l,
+      size-at q,
+      four-bytes (q .frame),
+      lines-most h r ls,
+    )
+
+last-line-most : (n m : ℕ) → n < 10 ^ 5 → m < 10 ^ 5 → length (lastLine n m) ≤ 50
+unfolding total
+last-line-most n m h l =
+    let f = ascii "frames" ∶ number n in
+    let ms = ascii "skipped" ∶ number m ∷ [] in
+    omega (arith, length-append (object (f ∷ ms)) (ascii "\n"), length-object f ms, length-decimal 4 n h, length-decimal 4 m l)
+
+pub lists-most : {k : ℕ} {s t : List ℕ} → length s ≤ mostInput → Lists k s t → length t ≤ listingRoom (length s)
+lists-most {s = s} h l =
+    let o = in-order (l .run) in
+    let i = inside-most (l .run) in
+    let n = few o in
+    let e = ap length (l .is) ∙ length-append (l .lines) (lastLine (length (l .frames)) (length s - inside (l .frames))) in
+    omega (arith, e, lines-most h o (l .each), last-line-most (length (l .frames)) (length s - inside (l .frames)) (omega arith) (omega arith))
+
+pub refused-size : (n : ℕ) → n < 10 → length (refusedWith n) ≤ 14
+unfolding total
+refused-size n h =
+    let f = ascii "refused" ∶ number n in
+    omega (arith, length-append (object (f ∷ [])) (ascii "\n"), length-object f [], length-decimal 0 n h)
+
+-- ---- listings
+
+pub listing-room : {s t : List ℕ} → Listing s t → length t ≤ listingRoom (length s)
+listing-room (bad-start f) = omega (arith, refused-size 2 (omega arith))
+listing-room (too-long i h) = omega (arith, refused-size 5 (omega arith))
+listing-room (listed i h l) =
+    let e = ap length (i .is) in
+    omega (arith, lists-most (omega arith) l)
+
+pub listing-most : {s t : List ℕ} → Listing s t → length t ≤ listingRoom mostInput
+listing-most (bad-start f) = omega (arith, refused-size 2 (omega arith))
+listing-most (too-long i h) = omega (arith, refused-size 5 (omega arith))
+listing-most (listed i h l) =
+    let e = ap length (i .is) in
+    omega (arith, lists-most (omega arith) l)

@@ -1,0 +1,76 @@
+-- What the definition of a listing comes to, for a reader.
+-- Assumes nothing.
+use mathlib.Core.Bool.{Bool, true, false}
+use mathlib.Core.List.{List}
+use mathlib.Core.Path.{_≡_, refl}
+use Prim.Native.Nat.{ℕ, _+_, _-_, _*_, _≤_}
+use native.Mathlib.Omega.{arith}
+use lib.Dec.{leb}
+use lib.ListN.{length}
+use borrow.Author.Tests.{leb-true, leb-false}
+use Rattle.digits.proofs.Laws.Refusals.{one-first}
+use Rattle.digits.proofs.Laws.Refusals.{cause-at}
+use Rattle.puts.specs.Paper.Wrote.{Wrote, wrote, refused, RoomCause, short, writtenRefusal}
+use Rattle.puts.specs.declared.Written.{Written}
+use Rattle.puts.proofs.Laws.Wrote.{too-short}
+use Rattle.list.specs.Paper.Answers.{WroteListing, WritesListing}
+use Rattle.list.specs.Paper.Listing.{inside, Lists, Listing, listingRoom}
+use Rattle.list.specs.Work.Skipped.{InNone}
+use Rattle.list.proofs.Laws.One as one
+use Rattle.list.proofs.Laws.Sizes as sizes
+use Rattle.list.proofs.Laws.Skipped as skips
+use Rattle.list.proofs.Laws.Some as some
+
+-- EVERY INPUT HAS A LISTING
+pub a-listing : (s : List ℕ) → (t : List ℕ) × Listing s t
+a-listing = some.some-listing
+
+-- AND ONE ONLY
+pub one-listing : {s a b : List ℕ} → Listing s a → Listing s b → a ≡ b
+one-listing = one.listing-one
+
+-- IT ADDS UP: the frames lie in the capture, no two in one byte, so that their lengths, which the lines say, and the bytes in no
+-- frame, which the last line says, are together the capture's length
+pub adds-up : {k : ℕ} {s t : List ℕ} (l : Lists k s t) → inside (l .frames) + (length s - inside (l .frames)) ≡ length s
+adds-up l = let h = sizes.inside-most (l .run) in omega arith
+
+-- counted one by one, so many bytes of the capture are in no frame
+pub in-no-frame : {k : ℕ} {s t : List ℕ} (l : Lists k s t) → InNone (l .frames) 0 (length s) (length s - inside (l .frames))
+in-no-frame l = skips.skipped-count (l .run)
+
+-- a frame has four bytes at least, so there are not many
+pub few-frames : {k : ℕ} {s t : List ℕ} (l : Lists k s t) → 4 * length (l .frames) ≤ length s
+few-frames l = let h = sizes.inside-most (l .run) in omega (arith, sizes.few-found (l .run))
+
+-- ROOM ENOUGH: no listing is longer than this
+pub size-most : {s t : List ℕ} → Listing s t → length t ≤ listingRoom (length s)
+size-most = sizes.listing-room
+
+pub size-always : {s t : List ℕ} → Listing s t → length t ≤ 2097202
+size-always = sizes.listing-most
+
+answered : {room bytes : ℕ} {bs before later : List ℕ} {number n : ℕ} → bytes ≤ room → Wrote (RoomCause room bytes) bs before number n later → number ≡ 0
+answered h (wrote f) = refl
+answered {room} {bytes} h (refused p f) = absurd (of (cause-at f p))
+  where
+    of : {m : ℕ} → RoomCause room bytes m → ⊥
+    of (short k) = omega arith
+
+-- so a room of that size is never refused with 4, and one of 2,097,202 bytes is for no input
+pub enough : {s room later : List ℕ} (r : Written) → WritesListing s room r later → listingRoom (length s) ≤ length room → writtenRefusal r ≡ 0
+enough r w h = answered (omega (arith, size-most (w .lists))) (w .written)
+
+pub always-enough : {s room later : List ℕ} (r : Written) → WritesListing s room r later → 2097202 ≤ length room → writtenRefusal r ≡ 0
+always-enough r w h = answered (omega (arith, size-always (w .lists))) (w .written)
+
+-- WHAT IS WRITTEN LIES IN THE ROOM
+fitting : {room : ℕ} {t before later : List ℕ} {number n : ℕ} → Wrote (RoomCause room (length t)) t before number n later → n ≤ room
+fitting {room} {t} (wrote f) = go (leb (length t) room) refl
+  where
+    go : (b : Bool) → leb (length t) room ≡ b → length t ≤ room
+    go true e = leb-true (length t) room e
+    go false e = let four = one-first f (too-short (leb-false (length t) room e)) in absurd (omega arith)
+fitting (refused p f) = omega arith
+
+pub in-room : {s room later : List ℕ} {number n : ℕ} → WroteListing s room number n later → n ≤ length room
+in-room w = fitting (w .written)
