@@ -2,8 +2,8 @@
    compiler, in the same run. The two take turns, so that what else the machine does falls on both; the least time of each counts. */
 #include "../include/bolsterweft.h"
 #include "../tests/frames_in_c.h"
-#include "../tests/frames_made.h"
 #include "clock.h"
+#include "longest.h"
 
 enum { SIZE = 65536 };
 
@@ -90,20 +90,6 @@ static int compare(const char *name, u8 kind, int bound) {
 /* Nest's longest claim is 1,024 bytes: 00 04. */
 static const u8 heads[][8] = {{0}, "$FE", {0xD5, 0xAA, 0x96, 0, 0, 0, 4}, {0xD5, 0xD5, 0xAA, 0x96, 0, 0, 0, 4}, {0xC0, 0x6C, 0xFF}, "<;A;1;"};
 static const usize sizes[] = {0, 3, 7, 8, 3, 6};
-
-static usize longest(u8 *f, u8 kind, int spoilt) {
-    switch (kind) {
-    case 1:
-        return made_link(f, 122, 11, spoilt);
-    case 2:
-    case 3:
-        return made_nest(f, kind, 1024, 11, spoilt);
-    case 4:
-        return made_nibe(f, 0x68, 255, 11, spoilt);
-    default:
-        return made_homiq(f, "ABCDEFGH;0123456789ABCDEF;WXYZ;wxyz;511;s", spoilt);
-    }
-}
 
 static usize shortest(u8 *f, u8 kind) {
     switch (kind) {

@@ -14,8 +14,8 @@ import sys
 
 os.chdir(os.path.join(os.path.dirname(os.path.abspath(__file__)), ".."))
 
-# `probe` repeats promises of `checks`, one call each, for C to call: the edits of `checks` are its own.
-REPEATS = {"probe"}
+# These repeat promises of other crates, one call each, for C to call: the edits of those crates are their own.
+REPEATS = {"probe", "probe_list"}
 
 
 def public_functions(crate):

@@ -29,21 +29,6 @@ static void expect(u8 kind, enum property p, int right, const u8 *s, usize n) {
     printf("\n");
 }
 
-static usize length_in_c(u8 kind, const u8 *s, usize m) {
-    switch (kind) {
-    case 1:
-        return nikobus_length(s, m);
-    case 2:
-        return command_length(s, m);
-    case 3:
-        return response_length(s, m);
-    case 4:
-        return nibe_length(s, m);
-    default:
-        return homiq_length(s, m);
-    }
-}
-
 /* Where a frame's payload begins and ends, by 01. */
 static void payload_in_c(u8 kind, const u8 *f, usize n, usize *from, usize *to) {
     *from = 3;

@@ -201,4 +201,21 @@ static usize homiq_length(const u8 *s, usize m) {
     return v == crc ? r.at : 0;
 }
 
+/* By kind */
+
+static inline usize length_in_c(u8 kind, const u8 *s, usize m) {
+    switch (kind) {
+    case 1:
+        return nikobus_length(s, m);
+    case 2:
+        return command_length(s, m);
+    case 3:
+        return response_length(s, m);
+    case 4:
+        return nibe_length(s, m);
+    default:
+        return homiq_length(s, m);
+    }
+}
+
 #endif

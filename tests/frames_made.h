@@ -1,13 +1,11 @@
 /* Frames made in plain C from document 01, for the tests and the benchmarks. Each answers its length. The bytes of a payload are
-   given by a seed; a spoilt frame is laid out well, and its (first) check value is wrong. */
+   given, or come of a seed; a spoilt frame is laid out well, and its (first) check value is wrong. */
 #ifndef FRAMES_MADE_H
 #define FRAMES_MADE_H
 
 #include "frames_in_c.h"
 
-static u8 made_byte(usize i, u8 seed) { return (u8)(i * 37 + seed); }
-
-static usize made_link(u8 *f, usize n, u8 seed, int spoilt) {
+static usize link_of(u8 *f, const u8 *bytes, usize n, int spoilt) {
     static const char digits[] = "0123456789ABCDEF";
     usize at = 0;
     u16 crc16 = 0xFFFF;
@@ -16,10 +14,9 @@ static usize made_link(u8 *f, usize n, u8 seed, int spoilt) {
     f[at++] = (u8)digits[(2 * n + 10) / 16];
     f[at++] = (u8)digits[(2 * n + 10) % 16];
     for (usize i = 0; i < n; i++) {
-        u8 v = made_byte(i, seed);
-        crc16 = crc_high16(crc16, v);
-        f[at++] = (u8)digits[v / 16];
-        f[at++] = (u8)digits[v % 16];
+        crc16 = crc_high16(crc16, bytes[i]);
+        f[at++] = (u8)digits[bytes[i] / 16];
+        f[at++] = (u8)digits[bytes[i] % 16];
     }
     if (spoilt)
         crc16 ^= 1;
@@ -33,7 +30,7 @@ static usize made_link(u8 *f, usize n, u8 seed, int spoilt) {
     return at;
 }
 
-static usize made_nest(u8 *f, u8 kind, usize n, u8 seed, int spoilt) {
+static usize nest_of(u8 *f, u8 kind, u32 id, const u8 *payload, usize n, int spoilt) {
     usize at = 0, from;
     u16 crc = 0;
     f[at++] = 0xD5;
@@ -42,12 +39,12 @@ static usize made_nest(u8 *f, u8 kind, usize n, u8 seed, int spoilt) {
     f[at++] = 0xAA;
     f[at++] = 0x96;
     from = at;
-    f[at++] = seed;
-    f[at++] = 0x00;
+    f[at++] = (u8)id;
+    f[at++] = (u8)(id >> 8);
     f[at++] = (u8)n;
     f[at++] = (u8)(n >> 8);
     for (usize i = 0; i < n; i++)
-        f[at++] = made_byte(i, seed);
+        f[at++] = payload[i];
     for (usize i = from; i < at; i++)
         crc = crc_high16(crc, f[i]);
     if (spoilt)
@@ -57,14 +54,14 @@ static usize made_nest(u8 *f, u8 kind, usize n, u8 seed, int spoilt) {
     return at;
 }
 
-static usize made_nibe(u8 *f, u8 command, usize n, u8 seed, int spoilt) {
+static usize nibe_of(u8 *f, u8 command, const u8 *data, usize n, int spoilt) {
     u8 x = (u8)n;
     f[0] = 0xC0;
     f[1] = command;
     f[2] = (u8)n;
     for (usize i = 0; i < n; i++) {
-        f[3 + i] = made_byte(i, seed);
-        x ^= f[3 + i];
+        f[3 + i] = data[i];
+        x ^= data[i];
     }
     f[3 + n] = spoilt ? x ^ 1 : x;
     return n + 4;
@@ -79,5 +76,20 @@ static usize made_homiq(u8 *f, const char *fields, int spoilt) {
             crc = crc_low8(crc, (u8)fields[i]);
     return (usize)snprintf((char *)f, 200, "<;%s;%u;>\r\n", fields, spoilt ? crc ^ 1u : crc);
 }
+
+/* A link, a Nest and a Nibe frame with n bytes that a seed gives; a Nest frame's id is the seed. */
+
+static const u8 *seeded(usize n, u8 seed) {
+    static u8 bytes[1024];
+    for (usize i = 0; i < n; i++)
+        bytes[i] = (u8)(i * 37 + seed);
+    return bytes;
+}
+
+static usize made_link(u8 *f, usize n, u8 seed, int spoilt) { return link_of(f, seeded(n, seed), n, spoilt); }
+
+static usize made_nest(u8 *f, u8 kind, usize n, u8 seed, int spoilt) { return nest_of(f, kind, seed, seeded(n, seed), n, spoilt); }
+
+static usize made_nibe(u8 *f, u8 command, usize n, u8 seed, int spoilt) { return nibe_of(f, command, seeded(n, seed), n, spoilt); }
 
 #endif

@@ -1,0 +1,21 @@
+/* The longest frame of a kind, for the benchmarks; answers its length. */
+#ifndef LONGEST_H
+#define LONGEST_H
+
+#include "../tests/frames_made.h"
+
+static usize longest(u8 *f, u8 kind, int spoilt) {
+    switch (kind) {
+    case 1:
+        return made_link(f, 122, 11, spoilt);
+    case 2:
+    case 3:
+        return made_nest(f, kind, 1024, 11, spoilt);
+    case 4:
+        return made_nibe(f, 0x68, 255, 11, spoilt);
+    default:
+        return made_homiq(f, "ABCDEFGH;0123456789ABCDEF;WXYZ;wxyz;511;s", spoilt);
+    }
+}
+
+#endif
