@@ -176,29 +176,25 @@ static usize zero(u8 *f, u8 kind) {
     return 1;
 }
 
-int main(int count, char **words) {
+/* One line of the table: an input of the kind, full of such frames. */
+static int compared(u8 kind, const char *what, usize (*frame)(u8 *f, u8 kind)) {
     static const char *names[] = {"", "Nikobus", "Nest command", "Nest response", "Nibe", "Homiq"};
+    char name[80];
+    fill(kind, frame);
+    snprintf(name, sizeof name, "%s: %s", names[kind], what);
+    return compare(name);
+}
+
+int main(int count, char **words) {
     int bad = 0;
     begin(count, words);
     for (u8 kind = 1; kind <= 5; kind++) {
-        char name[80];
-        fill(kind, message);
-        snprintf(name, sizeof name, "%s: short frames, all messages", names[kind]);
-        bad += compare(name);
-        fill(kind, good_longest);
-        snprintf(name, sizeof name, "%s: the longest frames", names[kind]);
-        bad += compare(name);
-        if (kind == 3) {
-            fill(kind, text);
-            snprintf(name, sizeof name, "%s: the longest texts", names[kind]);
-            bad += compare(name);
-        }
-        fill(kind, noise);
-        snprintf(name, sizeof name, "%s: noise", names[kind]);
-        bad += compare(name);
-        fill(kind, zero);
-        snprintf(name, sizeof name, "%s: zeros", names[kind]);
-        bad += compare(name);
+        bad += compared(kind, "short frames, all messages", message);
+        bad += compared(kind, "the longest frames", good_longest);
+        if (kind == 3)
+            bad += compared(kind, "the longest texts", text);
+        bad += compared(kind, "noise", noise);
+        bad += compared(kind, "zeros", zero);
     }
     return bad ? 1 : 0;
 }

@@ -7,8 +7,9 @@ use Prim.Native.Nat.{ℕ, _+_, _≤_, _<_}
 use native.Mathlib.Decide.{decLe}
 use native.Mathlib.Nat.{eq-or-lt-of-le}
 use native.Mathlib.Omega.{arith}
-use Rattle.digits.proofs.Laws.Refusals.{same-answer, one-answer}
+use Rattle.digits.proofs.Laws.Refusals.{some-number, same-answer, one-answer}
 use Rattle.digits.specs.Paper.Bytes.{part}
+use Rattle.digits.specs.Paper.Refusals.{refusalNumber}
 use Rattle.digits.specs.declared.refusal.Refusal.{Refusal}
 use Rattle.frames.specs.Paper.Runs.{Run}
 use Rattle.frames.specs.Paper.Search.{FrameAt, Hit, Leftmost, foundNumber, foundHit, Searches, Hands}
@@ -68,6 +69,10 @@ found-answer = same-answer (λ (v : Hit). At (v .start) (v .len) (v .from) (v .t
 
 pub searched-one : {k : ℕ} {s : List ℕ} {place : ℕ} (r q : Found) → Searches k s place r → Searches k s place q → r ≡ q
 searched-one r q a b = let e = one-answer leftmost-one a b in found-answer r q (e .0) (e .1)
+
+-- a find is no refusal
+pub hit-or-none : {a b c d : ℕ} {why : Refusal} → At a b c d ≡ Refused why → ⊥
+hit-or-none {why = why} e = let h : 0 ≡ refusalNumber why = ap foundNumber e in omega (arith, some-number why)
 
 -- ---- frames::frame and frames::payload
 

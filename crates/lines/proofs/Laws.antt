@@ -3,7 +3,6 @@ pub mod Values
 pub mod Same
 pub mod Put
 pub mod Said
-pub mod Signs
 pub mod Fields
 pub mod Next
 pub mod Write

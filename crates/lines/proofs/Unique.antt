@@ -3,15 +3,10 @@
 use mathlib.Core.Path.{_≡_, refl, ap, _∙_, subst}
 use mathlib.Core.List.{List}
 use Prim.Native.Nat.{ℕ, _+_}
-use native.Mathlib.Omega.{arith}
 use Rattle.digits.specs.Paper.Bytes.{part}
-use Rattle.digits.specs.Paper.Refusals.{refusalNumber}
-use Rattle.digits.specs.declared.refusal.Refusal.{Refusal}
-use Rattle.digits.proofs.Laws.Refusals.{some-number}
-use Rattle.frames.specs.Paper.Search.{foundNumber}
 use Rattle.frames.specs.declared.Found.{Found}
 use Rattle.frames.specs.declared.Found.the-variants.{At as Hit, Refused as NoHit}
-use Rattle.frames.proofs.Unique.{searched-one}
+use Rattle.frames.proofs.Unique.{searched-one, hit-or-none}
 use Rattle.puts.specs.Paper.Put.{Put}
 use Rattle.puts.specs.declared.Written.{Written}
 use Rattle.puts.proofs.Laws.Right.{one-wrote}
@@ -33,9 +28,6 @@ with behind (NoHit why) = Refused why
 abbrev LineIn : ℕ → List ℕ → List ℕ → Found → Type 0
 LineIn k s t (Hit start len from to) = LineOf k (part start (start + len) s) start t
 LineIn k s t (NoHit why) = Unit
-
-hit-or-none : {a b c d : ℕ} {why : Refusal} → Hit a b c d ≡ NoHit why → ⊥
-hit-or-none {why = why} e = let h : 0 ≡ refusalNumber why = ap foundNumber e in omega (arith, some-number why)
 
 module _ (k : ℕ) (s : List ℕ) (place : ℕ) (room : List ℕ) (to : ℕ) where
   pub next : {r q : Listed} {x y : List ℕ} → PutsNext k s place room to r x → PutsNext k s place room to q y → (r ≡ q) × (x ≡ y)

@@ -1,21 +1,17 @@
 -- What the definition of a listing comes to, for a reader.
 -- Assumes nothing.
-use mathlib.Core.Bool.{Bool, true, false}
 use mathlib.Core.List.{List}
 use mathlib.Core.Path.{_≡_, refl}
 use Prim.Native.Nat.{ℕ, _+_, _-_, _*_, _≤_}
 use native.Mathlib.Omega.{arith}
-use lib.Dec.{leb}
 use lib.ListN.{length}
-use borrow.Author.Tests.{leb-true, leb-false}
-use Rattle.digits.proofs.Laws.Refusals.{one-first}
 use Rattle.digits.proofs.Laws.Refusals.{cause-at}
 use Rattle.puts.specs.Paper.Wrote.{Wrote, wrote, refused, RoomCause, short, writtenRefusal}
 use Rattle.puts.specs.declared.Written.{Written}
-use Rattle.puts.proofs.Laws.Wrote.{too-short}
+use Rattle.puts.proofs.Laws.Wrote.{has-room}
 use Rattle.list.specs.Paper.Answers.{WroteListing, WritesListing}
 use Rattle.list.specs.Paper.Listing.{inside, Lists, Listing, listingRoom}
-use Rattle.list.specs.Work.Skipped.{InNone}
+use Rattle.list.specs.Paper.Skipped.{InNone}
 use Rattle.list.proofs.Laws.One as one
 use Rattle.list.proofs.Laws.Sizes as sizes
 use Rattle.list.proofs.Laws.Skipped as skips
@@ -65,11 +61,7 @@ always-enough r w h = answered (omega (arith, size-always (w .lists))) (w .writt
 
 -- WHAT IS WRITTEN LIES IN THE ROOM
 fitting : {room : ℕ} {t before later : List ℕ} {number n : ℕ} → Wrote (RoomCause room (length t)) t before number n later → n ≤ room
-fitting {room} {t} (wrote f) = go (leb (length t) room) refl
-  where
-    go : (b : Bool) → leb (length t) room ≡ b → length t ≤ room
-    go true e = leb-true (length t) room e
-    go false e = let four = one-first f (too-short (leb-false (length t) room e)) in absurd (omega arith)
+fitting (wrote f) = has-room f
 fitting (refused p f) = omega arith
 
 pub in-room : {s room later : List ℕ} {number n : ℕ} → WroteListing s room number n later → n ≤ length room

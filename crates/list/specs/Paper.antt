@@ -1,2 +1,3 @@
 pub mod Listing
 pub mod Answers
+pub mod Skipped

@@ -5,13 +5,10 @@ use mathlib.Core.List.{List}
 use Prim.Native.Nat.{ℕ, _+_, _-_}
 use native.Mathlib.Omega.{arith}
 use Rattle.digits.specs.Paper.Bytes.{part}
-use Rattle.digits.specs.Paper.Refusals.{refusalNumber}
-use Rattle.digits.specs.declared.refusal.Refusal.{Refusal}
 use Rattle.digits.proofs.Laws.Refusals.{one-refusal, some-number, one-first, one-answer}
-use Rattle.frames.specs.Paper.Search.{foundNumber}
 use Rattle.frames.specs.declared.Found.{Found}
 use Rattle.frames.specs.declared.Found.the-variants.{At as Hit, Refused as NoHit}
-use Rattle.frames.proofs.Unique.{searched-one}
+use Rattle.frames.proofs.Unique.{searched-one, hit-or-none}
 use Rattle.messages.specs.Paper.Answers.{Stands, Said, Decodes, is, refused, Contents, Finds, at, none}
 use Rattle.messages.specs.Paper.Fields.{payloadIn, payloadFrom, payloadTo}
 use Rattle.messages.specs.Paper.Message.{Message}
@@ -60,9 +57,6 @@ with e (NoHit why) = Unseen why
 abbrev SaidOf : ℕ → List ℕ → Coded → Found → Type 0
 SaidOf k s e (Hit start len from to) = Said k (part start (start + len) s) e (from - start) (to - start)
 SaidOf k s e (NoHit why) = Unit
-
-hit-or-none : {a b c d : ℕ} {why : Refusal} → Hit a b c d ≡ NoHit why → ⊥
-hit-or-none {why = why} e = let h : 0 ≡ refusalNumber why = ap foundNumber e in omega (arith, some-number why)
 
 pub find : (k : ℕ) (s : List ℕ) (place : ℕ) (r q : Seen) → Finds k s place r → Finds k s place q → r ≡ q
 find k s place (At a b c d e) (At v w x y z) (at f g) (at h i) =

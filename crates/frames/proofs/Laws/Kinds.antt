@@ -119,12 +119,13 @@ ends {f = f} (response r) = nest-bus (preamble Response) some .ends f (r .form)
 ends {f = f} (nibe r) = nibe-bus .ends f (r .form)
 ends {f = f} (homiq r) = homiq-bus .ends f (r .form)
 
--- the payload lies in the frame
+-- the payload lies in the bytes of the fields, and so in the frame
+pub laid-holds : (l : Layout) (m : l .Fields) → (layout.payloadFrom l m ≤ layout.payloadTo l m) × (layout.payloadTo l m ≤ length (layout.bytesOf l m))
+laid-holds l m = (omega arith, omega (arith, length-append (l .before m ++ l .payload m) (l .behind m), length-append (l .before m) (l .payload m)))
+
 form-holds : {l : Layout} {f : List ℕ} (r : layout.Form l f)
     → (layout.payloadFrom l (r .fields) ≤ layout.payloadTo l (r .fields)) × (layout.payloadTo l (r .fields) ≤ length f)
-form-holds {l} {f} r =
-    let m = r .fields in
-    (omega arith, omega (arith, ap length (r .laid), length-append (l .before m ++ l .payload m) (l .behind m), length-append (l .before m) (l .payload m)))
+form-holds {l} {f} r = let h = laid-holds l (r .fields) in (h .0, omega (arith, ap length (r .laid), h))
 
 pub payload-inside : {k : ℕ} {f : List ℕ} (r : Frame k f) → (payloadFrom r ≤ payloadTo r) × (payloadTo r ≤ length f)
 payload-inside (nikobus r) = form-holds (r .form)

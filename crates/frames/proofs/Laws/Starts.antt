@@ -80,6 +80,10 @@ begun (homiq r) =
     rw (layout.Form.laid (layout.Frame.form r))
     (record { four = omega (arith, length-append (homiqs.payload m) (homiqs.behind m), length-append z (0x0D ∷ 0x0A ∷ [])); mark = refl })
 
+-- NO FRAME HAS FEWER THAN FOUR BYTES
+pub four-bytes : {k : ℕ} {f : List ℕ} → Frame k f → 4 ≤ length f
+four-bytes r = begun r .four
+
 -- ---- no frame
 
 module _ (k : ℕ) (kn : known k ≡ true) (s : List ℕ) where

@@ -4,14 +4,15 @@ use mathlib.Core.Path.{_≡_, refl, sym, ap, _∙_, subst}
 use mathlib.Core.Bool.{Bool, true, false}
 use mathlib.Core.List.{List, [], _∷_, _++_, append-nil, append-assoc}
 use Prim.Native.Nat.{ℕ, _+_, _-_, _/_, _^_, _≤_, _<_}
+use native.Mathlib.Nat.{lt-of-lt-of-le}
 use native.Mathlib.Omega.{arith}
 use lib.Dec.{T, le→leb, lit≤, lit<}
 use lib.IntN.{ℤ, pos, negsuc, natAbs, _-ℤ_}
 use lib.ListN.{length, take, drop, length-append}
 use lib.Seq.{take-at}
 use lib.Signed.{ltZ, nonNeg}
-use mir.Syntax.{w32, w64}
-use mir.Val.{Fits, SFits, toZ, ofZ}
+use mir.Syntax.{Width, w32, w64}
+use mir.Val.{Fits, SFits, hbits, toZ, ofZ}
 use mir.ValLaws.{toZ-ofZ}
 use Rattle.digits.specs.Paper.Ascii.{ascii}
 use Rattle.digits.specs.Paper.Decimal.{decimal}
@@ -122,21 +123,26 @@ at-most-3 One = lit≤ tt
 at-most-3 Two = lit≤ tt
 at-most-3 Three = lit≤ tt
 
--- a number of 32 bits with a sign, as the machine hands it on
+-- a number of v bits with a sign, as the machine hands it on to w bits that hold as much
+
+module _ (v w : Width) (h : 2 ^ hbits v ≤ 2 ^ hbits w) (z : ℤ) (f : SFits v z) where
+  pub handed-fits : SFits w (toZ v (ofZ v z))
+  handed-fits = subst (SFits w) (sym (toZ-ofZ v z f)) (record { sfits = lt-of-lt-of-le (f .sfits) h })
+
+  pub handed-back : toZ w (ofZ w (toZ v (ofZ v z))) ≡ z
+  handed-back = toZ-ofZ w (toZ v (ofZ v z)) handed-fits ∙ toZ-ofZ v z f
+
+-- one of 32 bits, to 64
 
 abbrev pub back32 : ℤ → ℤ
 back32 z = toZ w32 (ofZ w32 z)
 
 module _ (z : ℤ) (f : SFits w32 z) where
   pub signed-fits : SFits w64 (back32 z)
-  signed-fits = subst (SFits w64) (sym (toZ-ofZ w32 z f)) (wider z f)
-    where
-      wider : (y : ℤ) → SFits w32 y → SFits w64 y
-      wider (pos n) g = record { sfits = omega (arith, g .sfits) }
-      wider (negsuc n) g = record { sfits = omega (arith, g .sfits) }
+  signed-fits = handed-fits w32 w64 (lit≤ tt) z f
 
   pub signed-back : back (back32 z) ≡ z
-  signed-back = read-back (back32 z) signed-fits ∙ toZ-ofZ w32 z f
+  signed-back = handed-back w32 w64 (lit≤ tt) z f
 
   pub signed-raw : Raw (back (back32 z))
   signed-raw = subst Raw (sym signed-back) (raw z f)

@@ -40,11 +40,11 @@ same-message m n s t l k e f =
     sym (made m) ∙ same-form (formOf m) (formOf n) g (values m) (values n) s t (proper m l) (proper n k) h ∙ made n
 
 -- what stands behind `at` and behind `len`
-abbrev named : Message → List Member
-named m = ascii "msg" ∶ quoted (name m) ∷ members m
+abbrev fromMsg : Message → List Member
+fromMsg m = ascii "msg" ∶ quoted (name m) ∷ members m
 
 abbrev sized : ℕ → Message → List Member
-sized len m = ascii "len" ∶ number len ∷ named m
+sized len m = ascii "len" ∶ number len ∷ fromMsg m
 
 -- A LINE SAYS ITS FRAME'S PLACE AND MESSAGE
 pub one-line : (at there : ℕ) (m n : Message) → Limits m → Limits n → line at (length (bytes m)) m ≡ line there (length (bytes n)) n → (at ≡ there) × (m ≡ n)
@@ -53,7 +53,7 @@ one-line at there m n l k e =
     let a = length (bytes m) in
     let b = length (bytes n) in
     let f = first-member number-token (ascii "at") at there tt tt (sized a m) (sized b n) (ascii "\n") (ascii "\n") e in
-    let g = next-member number-token (ascii "len") a b tt tt (named m) (named n) (ascii "\n") (ascii "\n") (f .1) in
+    let g = next-member number-token (ascii "len") a b tt tt (fromMsg m) (fromMsg n) (ascii "\n") (ascii "\n") (f .1) in
     let h = next-member quoted-token (ascii "msg") (name m) (name n) (name-unquoted m) (name-unquoted n) (members m) (members n) (ascii "\n") (ascii "\n") (g .1) in
     (f .0, same-message m n (ascii "\n") (ascii "\n") l k (h .0) (h .1))
 

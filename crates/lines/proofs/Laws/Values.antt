@@ -21,12 +21,12 @@ use Rattle.messages.specs.Paper.Message.{Message, read, set, answer, press, tai
 use Rattle.messages.specs.Paper.Table.{Limits}
 use Rattle.json.proofs.Laws.Tokens.{unquoted, Token, number-token, hex-token, chars-token, truth-token, reading-token}
 use Rattle.lines.specs.Paper.Line.{highFirst, members}
-use Rattle.lines.specs.Work.Values.{Spelling, asNumber, asHex, asChars, asTruth, asReading, Of, spelt, Column, Values, membersOf, ofHighFirst, wireColumns, wireValues, formOf, values, sameText, named, formNamed}
+use Rattle.lines.specs.Work.Values.{Spelling, asNumber, asHex, asChars, asTruth, asReading, Of, spelt, Column, Values, membersOf, ofHighFirst, wireColumns, wireValues, formOf, values, sameText, formIn, formNamed}
 
 -- ---- names and members
 
 pub form-named : (m : Message) → formNamed (name m) ≡ formOf m
-unfolding named sameText
+unfolding formIn sameText
 form-named (read g a) = refl
 form-named (set g a out) = refl
 form-named (answer a third out) = refl

@@ -2,16 +2,15 @@
 -- Assumes nothing.
 use mathlib.Core.Path.{_≡_, refl, sym, ap, _∙_, subst}
 use mathlib.Core.Bool.{Bool, true, false, _||_, true≢false}
-use mathlib.Core.List.{List, _∷_, _++_}
-use Prim.Native.Nat.{ℕ, _+_, _^_, _≤_, _<_}
+use mathlib.Core.List.{List, _∷_}
+use Prim.Native.Nat.{ℕ, _^_, _≤_, _<_}
 use native.Mathlib.Omega.{arith}
 use lib.Dec.{eqb}
-use lib.ListN.{length, length-append}
+use lib.ListN.{length}
 use Rattle.digits.specs.Paper.Bytes.{part}
 use Rattle.digits.specs.Paper.Refusals.{order, First, clear, here, after}
 use Rattle.digits.specs.declared.refusal.Refusal.{Refusal}
 use Rattle.digits.proofs.Laws.Refusals.{cause-at, pass-over, some-number}
-use Rattle.layouts.specs.Paper.Layout.{Layout, bytesOf}
 use Rattle.layouts.specs.Paper.Layout as layout
 use Rattle.layouts.specs.Paper.Homiq as homiqs
 use Rattle.layouts.specs.Paper.Nest as nests
@@ -19,7 +18,7 @@ use Rattle.layouts.specs.Paper.Nibe as nibes
 use Rattle.layouts.specs.Paper.Nikobus as nikobuses
 use Rattle.layouts.specs.declared.nest.Direction.the-variants.{Command, Response}
 use Rattle.frames.specs.Paper.Kinds.{Frame}
-use Rattle.frames.proofs.Laws.Kinds.{frame-known}
+use Rattle.frames.proofs.Laws.Kinds.{frame-known, laid-holds}
 use Rattle.messages.specs.Paper.Answers.{DecodeCause, Said, Decodes, is, refused}
 use Rattle.messages.specs.Paper.Answers as decoding
 use Rattle.messages.specs.Paper.Fields.{Fields, onNikobus, asCommand, asResponse, onNibe, onHomiq, laid, payloadFrom, payloadTo}
@@ -43,18 +42,12 @@ use Rattle.lines.proofs.Laws.Sizes.{bytes-most, line-room}
 
 -- ---- the payload lies inside the frame
 
-layout-inside : (l : Layout) (m : l .Fields) → (layout.payloadFrom l m ≤ layout.payloadTo l m) × (layout.payloadTo l m ≤ length (bytesOf l m))
-layout-inside l m =
-    let e = length-append (l .before m ++ l .payload m) (l .behind m) in
-    let f = length-append (l .before m) (l .payload m) in
-    (omega arith, omega arith)
-
 fields-inside : (x : Fields) → (payloadFrom x ≤ payloadTo x) × (payloadTo x ≤ length (laid x))
-fields-inside (onNikobus m) = layout-inside nikobuses.nikobus m
-fields-inside (asCommand m) = layout-inside (nests.nest Command) m
-fields-inside (asResponse m) = layout-inside (nests.nest Response) m
-fields-inside (onNibe m) = layout-inside nibes.nibe m
-fields-inside (onHomiq m) = layout-inside homiqs.homiq m
+fields-inside (onNikobus m) = laid-holds nikobuses.nikobus m
+fields-inside (asCommand m) = laid-holds (nests.nest Command) m
+fields-inside (asResponse m) = laid-holds (nests.nest Response) m
+fields-inside (onNibe m) = laid-holds nibes.nibe m
+fields-inside (onHomiq m) = laid-holds homiqs.homiq m
 
 said-inside : {k : ℕ} {f : List ℕ} {e : Coded} {from to : ℕ} → Said k f e from to → (from ≤ to) × (to ≤ length f)
 said-inside {f = f} x =

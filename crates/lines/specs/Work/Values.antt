@@ -186,9 +186,9 @@ sameText [] (y ∷ t) = false
 sameText (x ∷ s) [] = false
 sameText (x ∷ s) (y ∷ t) = eqb x y && sameText s t
 
-unfoldable pub named : Form → List Form → List ℕ → Form
-named other [] n = other
-named other (f ∷ fs) n = cond (sameText (f .name) n) f (named other fs n)
+unfoldable pub formIn : Form → List Form → List ℕ → Form
+formIn other [] n = other
+formIn other (f ∷ fs) n = cond (sameText (f .name) n) f (formIn other fs n)
 
 -- the form of each message, which is the same whatever its fields are
 abbrev pub forms : Wire → List Form
@@ -222,4 +222,4 @@ abbrev pub emptyWire : Wire
 emptyWire = record { cmd = []; val = []; src = []; dst = []; id = 0; type = 0 }
 
 abbrev pub formNamed : List ℕ → Form
-formNamed n = named (formOf tail) (forms emptyWire) n
+formNamed n = formIn (formOf tail) (forms emptyWire) n

@@ -1,26 +1,21 @@
 -- The frames and the bytes in none add up; and how long a listing can be.
 -- Assumes nothing.
-use mathlib.Core.List.{List, [], _∷_, _++_}
+use mathlib.Core.List.{List, [], _∷_}
 use mathlib.Core.Path.{ap, _∙_}
 use Prim.Native.Nat.{ℕ, _+_, _-_, _*_, _^_, _≤_, _<_}
 use native.Mathlib.Omega.{arith}
 use lib.ListN.{length, length-append}
 use Rattle.digits.specs.Paper.Ascii.{ascii}
-use Rattle.digits.specs.Paper.Decimal.{decimal}
-use Rattle.digits.specs.Paper.LowFirst.{lowFirst}
 use Rattle.digits.proofs.Laws.Decimal.{length-decimal}
-use Rattle.digits.proofs.Laws.LowFirst.{length-low}
-use Rattle.layouts.specs.Paper.Chars.{CR, LF}
 use Rattle.layouts.specs.Paper.Layout as layout
 use Rattle.layouts.specs.Paper.Nikobus as nikobuses
 use Rattle.layouts.specs.Paper.Nest as nests
 use Rattle.layouts.specs.Paper.Nibe as nibes
 use Rattle.layouts.specs.Paper.Homiq as homiqs
-use Rattle.layouts.proofs.Laws.Nikobus.{link-size}
-use Rattle.frames.specs.Paper.Kinds.{Frame, nikobus, command, response, nibe, homiq}
 use Rattle.frames.specs.Paper.Runs.{Run, InOrder, nothing, next}
 use Rattle.frames.specs.Paper.Search.{Hit, framePart}
 use Rattle.frames.proofs.Laws.Places.{size-at}
+use Rattle.frames.proofs.Laws.Starts.{four-bytes}
 use Rattle.frames.proofs.Theorems.{in-order}
 use Rattle.json.specs.Paper.Json.{_∶_, object, number}
 use Rattle.json.proofs.Laws.Sizes.{total, length-object}
@@ -28,45 +23,6 @@ use Rattle.lines.proofs.Laws.Sizes.{line-room}
 use Rattle.list.specs.Paper.Listing.{Lines, none, line, inside, lastLine, Lists, mostInput, refusedWith, Listing, bad-start, too-long, listed, listingRoom}
 
 -- ---- frames
-
-nikobus-least : {m : nikobuses.Nikobus} → nikobuses.Limits m → 4 ≤ length (layout.bytesOf nikobuses.nikobus m)
-nikobus-least (nikobuses.link-limits {p = p} {crc16 = x} {crc8 = y} a b c d e) = omega (arith, link-size p x y)
-nikobus-least (nikobuses.press-limits {d = d} six h) = omega (arith, length-append d (CR ∷ []))
-nikobus-least nikobuses.tail-limits = omega arith
-
-nest-least : (mark : List ℕ) (m : nests.Nest) → 4 ≤ length (layout.bytesOf (nests.nestWith mark) m)
-nest-least mark m =
-    let a : List ℕ = mark ++ lowFirst 2 (m .id) in
-    let b : List ℕ = a ++ lowFirst 2 (length (m .payload)) in
-    omega (
-      arith,
-      length-append (b ++ m .payload) (lowFirst 2 (m .crc)),
-      length-append b (m .payload),
-      length-append a (lowFirst 2 (length (m .payload))),
-      length-low 2 (length (m .payload)),
-      length-low 2 (m .crc),
-    )
-
-nibe-least : (m : nibes.Nibe) → 4 ≤ length (layout.bytesOf nibes.nibe m)
-nibe-least m = omega (arith, length-append (nibes.before m ++ m .content) (m .xor ∷ []), length-append (nibes.before m) (m .content))
-
-homiq-least : (m : homiqs.Homiq) → 4 ≤ length (layout.bytesOf homiqs.homiq m)
-homiq-least m =
-    omega (
-      arith,
-      length-append (homiqs.before m ++ homiqs.payload m) (homiqs.behind m),
-      length-append (homiqs.before m) (homiqs.payload m),
-      length-append (ascii ";" ++ decimal (m .crc) ++ ascii ";>") (CR ∷ LF ∷ []),
-      length-append (ascii ";" ++ decimal (m .crc)) (ascii ";>"),
-    )
-
--- a frame has four bytes at least
-pub four-bytes : {k : ℕ} {f : List ℕ} → Frame k f → 4 ≤ length f
-four-bytes (nikobus r) = rw (r .form .laid) (nikobus-least (r .form .limits))
-four-bytes (command r) = rw (r .form .laid) (nest-least (0xD5 ∷ 0xAA ∷ 0x96 ∷ []) (r .form .fields))
-four-bytes (response r) = rw (r .form .laid) (nest-least (0xD5 ∷ 0xD5 ∷ 0xAA ∷ 0x96 ∷ []) (r .form .fields))
-four-bytes (nibe r) = rw (r .form .laid) (nibe-least (r .form .fields))
-four-bytes (homiq r) = rw (r .form .laid) (homiq-least (r .form .fields))
 
 -- frames in order lie in the capture
 pub in-capture : {k : ℕ} {s : List ℕ} {place : ℕ} {hits : List Hit} → InOrder k s place hits → place ≤ length s → place + inside hits ≤ length s

@@ -9,7 +9,7 @@ use Rattle.frames.specs.Paper.Runs.{Run, InOrder, nothing, next, TakenUp, here,
 use Rattle.frames.specs.Paper.Search.{Hit}
 use Rattle.frames.proofs.Theorems.{in-order}
 use Rattle.list.specs.Paper.Listing.{inside}
-use Rattle.list.specs.Work.Skipped.{InNone, all, taken, skipped}
+use Rattle.list.specs.Paper.Skipped.{InNone, all, taken, skipped}
 use Rattle.list.proofs.Laws.Sizes.{in-capture}
 
 module _ {hits : List Hit} where

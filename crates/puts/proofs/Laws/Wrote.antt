@@ -81,7 +81,7 @@ module _ {r b : ℕ} where
       go true e = f (leb-true b r e)
       go false e = g (leb-false b r e)
 
-  has-room : First (RoomCause r b) order 0 → b ≤ r
+  pub has-room : First (RoomCause r b) order 0 → b ≤ r
   has-room a = by-size (λ h. h) (λ h. let e = one-first a (too-short h) in absurd (omega arith))
 
   has-none : {no : ℕ} → 0 < no → First (RoomCause r b) order no → (4 ≡ no) × (r < b)

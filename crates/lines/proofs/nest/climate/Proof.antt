@@ -1,12 +1,14 @@
 -- `lines::nest::climate` meets its contract: one member after the other.
 -- Assumes nothing.
 use mathlib.Core.Path.{ap}
+use lib.Dec.{lit≤}
 use lib.IntN.{ℤ}
+use mir.Syntax.{w16, w32}
 use Rattle.puts.proofs.Laws.Puts.{_then_, puts-as}
 use Rattle.json.specs.Paper.Json.{reading}
+use Rattle.json.proofs.Laws.Raws.{handed-fits, handed-back}
 use Rattle.lines.specs.Paper.Line.{members}
 use Rattle.lines.proofs.Laws.Put.{last-put}
-use Rattle.lines.proofs.Laws.Signs.{wider, same-32}
 use Rattle.lines.specs.Work.Put.{commaed, named}
 use borrow.Author.Needs.{needs}
 use Rattle.lines.proofs.nest.climate.Statement.{statement}
@@ -19,7 +21,7 @@ bytes-requires : tie.Need-bytes-requires
 bytes-requires c κs = search needs
 
 cast-signed : tie.Need-cast-signed
-cast-signed c = let s = c .before .before .before .before .before .before in wider (s .args .temperature) (s .fits .temperature)
+cast-signed c = let s = c .before .before .before .before .before .before in handed-fits w16 w32 (lit≤ tt) (s .args .temperature) (s .fits .temperature)
 
 signed-requires : tie.Need-signed-requires
 signed-requires c κs = search needs
@@ -41,7 +43,7 @@ returns c =
     let c3 = c2 .before .before .before .before in
     let s = c .before .before .before .before .before .before .before .before .before .before .before .before .before .before .before in
     c3 .bytes .ensures
-    then puts-as (ap (λ (z : ℤ). reading z 2) (same-32 (s .args .temperature) (s .fits .temperature))) (c2 .signed .ensures)
+    then puts-as (ap (λ (z : ℤ). reading z 2) (handed-back w16 w32 (lit≤ tt) (s .args .temperature) (s .fits .temperature))) (c2 .signed .ensures)
     then last-put (c1 .reading .ensures)
 
 pub climate-spec : {M : Type 1} → statement M

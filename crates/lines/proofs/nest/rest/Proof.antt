@@ -2,12 +2,13 @@
 -- Assumes nothing.
 use mathlib.Core.Path.{sym, ap, _∙_}
 use lib.IntN.{ℤ}
+use mir.Syntax.{w16}
+use mir.ValLaws.{toZ-ofZ}
 use Rattle.puts.proofs.Laws.Puts.{puts-as}
 use Rattle.messages.specs.Paper.Message.{climate}
 use Rattle.lines.specs.Paper.Line.{members}
 use Rattle.messages.specs.declared.nest.Response.{Response}
 use Rattle.lines.specs.Work.Put.{commaed, named, responseRest}
-use Rattle.lines.proofs.Laws.Signs.{same-16}
 use borrow.Author.Needs.{needs}
 use Rattle.lines.proofs.nest.rest.Statement.{statement}
 use Rattle.lines.proofs.nest.rest.Tie as tie
@@ -63,7 +64,7 @@ returns c =
     let t = c .before .before .before .before .before .message .given .0 .0 in
     let h = c .before .before .before .before .before .message .given .0 .1 .0 in
     puts-as
-    (ap (λ (z : ℤ). named (climate z h)) (same-16 t (record { sfits = c .before .before .before .before .known-told .given .0 .1 }))
+    (ap (λ (z : ℤ). named (climate z h)) (toZ-ofZ w16 t (record { sfits = c .before .before .before .before .known-told .given .0 .1 }))
     ∙ sym (ap (λ (e : Response). responseRest e (c .before .before .before .before .before .before .before .before .before .args .payload .now)) (c .before .before .before .before .before .message .given .1)))
     (c .before .before .climate .ensures)
 

@@ -1,4 +1,4 @@
--- The bytes in no frame, counted one by one.
+-- 01, "JSON and the listing program": "the bytes in no frame", counted one by one.
 -- Assumes nothing.
 use mathlib.Core.List.{List}
 use Prim.Native.Nat.{ℕ, suc}
