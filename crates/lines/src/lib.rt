@@ -15,7 +15,8 @@ ghost use Prim.Native.Nat.{_≤_};
 ghost use lib.ListN.{length};
 ghost use Rattle.puts.specs.Paper.Put.{Put, last};
 ghost use Rattle.puts.specs.Paper.Wrote.{RoomCause, Writes};
-ghost use Rattle.lines.specs.Paper.Answers.{WritesLine, PutsNext};
+ghost use Rattle.frames.specs.Paper.Whole.{OneFrame};
+ghost use Rattle.lines.specs.Paper.Answers.{WritesLine, PutsLine, PutsNext};
 ghost use Rattle.lines.specs.Work.Put.{restOf, put};
 
 // What stands next in a capture: a frame's start and length, and the place in the room behind its line.
@@ -39,6 +40,25 @@ pub fn write(kind: u8, frame: &[u8], at: usize, room: &mut [u8]) -> Written
         }
         Decoded::Refused(why) => Written::Refused(why),
     }
+}
+
+// Puts the line of one frame whose payload goes from the one place to the other, as `frames::one_frame` has answered, at a place of the
+// room and as far as the room goes. The frame stands at a place of a capture or of a book. Nothing is tested again, so this is asked of
+// the caller and proved at each call.
+pub fn tested(
+    kind: u8,
+    frame: &[u8],
+    from: usize,
+    to: usize,
+    at: usize,
+    room: &mut [u8],
+    place: usize,
+) -> usize
+    requires { ⌜ OneFrame kind (now frame) (record { from = from; to = to }) ⌝ }
+    ensures { λ r. ⌜ PutsLine kind (now (frame .entry)) at (now (room .entry)) (now (room .exit)) place r ⌝ }
+{
+    let message = messages::message_in(kind, frame, from, to);
+    line(message, &frame[from..to], at, frame.len(), room, place)
 }
 
 // Puts the line of the frame with the smallest start at or after a place of the capture, at a place of the room and as far as the room

@@ -49,6 +49,10 @@ decode k f (Is d a b) (Refused why) (is c s) (refused g) = let e = one-first c g
 decode k f (Refused why) (Is e x y) (refused c) (is g t) = let e = one-first c g in absurd (omega (arith, some-number why))
 decode k f (Refused why) (Refused other) (refused c) (refused g) = ap Refused (one-refusal why other (one-first c g))
 
+-- message_in
+pub message-in : (k : ℕ) (f : List ℕ) (from to : ℕ) (r q : Coded) → Said k f r from to → Said k f q from to → r ≡ q
+message-in k f from to r q s t = one-coded s t
+
 -- find: what the search finds is the same, and then the message
 abbrev with : Coded → Found → Seen
 with e (Hit start len from to) = At start len from to e

@@ -12,8 +12,8 @@ use homiq::Homiq;
 use nest::Response;
 use nibe::Nibe;
 use nikobus::Nikobus;
+ghost use Rattle.frames.specs.Paper.Whole.{OneFrame};
 ghost use Rattle.messages.specs.Paper.Answers.{Decodes, Said, Contents, Finds};
-ghost use Rattle.messages.specs.Work.Answers.{Payloaded};
 
 // A message. Its bytes of free length stand beside it, as its frame's payload has them: a link's digits, Nest's payload, Nibe's
 // data, Homiq's CMD to TYPE. A message without such bytes takes nothing from there, whatever stands there.
@@ -94,9 +94,10 @@ pub fn content(kind: u8, frame: &[u8]) -> &[u8]
     }
 }
 
-// The message of a frame whose payload goes from the one place to the other.
-fn message_in(kind: u8, frame: &[u8], from: usize, to: usize) -> Message
-    requires { ⌜ Payloaded kind (now frame) from to ⌝ }
+// The message of one frame whose payload goes from the one place to the other, as `frames::one_frame` has answered. Nothing is tested
+// again, so this is asked of the caller and proved at each call.
+pub fn message_in(kind: u8, frame: &[u8], from: usize, to: usize) -> Message
+    requires { ⌜ OneFrame kind (now frame) (record { from = from; to = to }) ⌝ }
     ensures { λ r. ⌜ Said kind (now (frame .entry)) r from to ⌝ }
 {
     if kind == 1 {

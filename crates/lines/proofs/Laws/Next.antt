@@ -19,7 +19,7 @@ use Rattle.messages.specs.declared.Seen.the-variants.{At as SeenAt, Refused as 
 use Rattle.messages.proofs.Laws.Decode.{inside}
 use Rattle.messages.proofs.Laws.Find.{in-buffer, behind-start, payloaded}
 use Rattle.messages.proofs.Theorems.{beside}
-use Rattle.lines.specs.Paper.Answers.{LineOf, PutsNext, line-of}
+use Rattle.lines.specs.Paper.Answers.{LineOf, PutsLine, PutsNext, line-of}
 use Rattle.lines.specs.Paper.Answers as answers
 use Rattle.lines.specs.Paper.Line.{line}
 use Rattle.lines.specs.Work.Put.{put}
@@ -36,6 +36,11 @@ line-of-said {k} {f} {e} place c x same =
       stands = x .stands;
       is = put-said e c place (length f) m (x .stands .good .limits) (subst (λ (p : List ℕ). Says e p m) (sym (same ∙ beside x)) (x .says));
     }
+
+pub tested-line : {k : ℕ} {f : List ℕ} {e : Coded} {from to place : ℕ} {room later : List ℕ} {there behind : ℕ} → Said k f e from to
+    → Put room later there behind (put e (part from to f) place (length f)) → PutsLine k f place room later there behind
+tested-line {f = f} {e = e} {from = from} {to = to} {place = place} s p =
+    record { text = put e (part from to f) place (length f); is = line-of-said place (part from to f) s refl; put = p }
 
 -- ---- what is found
 

@@ -37,6 +37,14 @@ pub data LineCause (k : ℕ) (f : List ℕ) (at room : ℕ) : ℕ → Type 0 whe
 abbrev pub WritesLine : ℕ → List ℕ → ℕ → List ℕ → Written → List ℕ → Type 0
 WritesLine k f at room r later = WritesRight (LineCause k f at (length room)) (LineOf k f at) room r later
 
+-- ---- tested
+
+-- the line of f is put at a place of a lent room, and `behind` is the place behind it
+pub record PutsLine (k : ℕ) (f : List ℕ) (at : ℕ) (room later : List ℕ) (place behind : ℕ) : Type 0 where
+  pub text : List ℕ
+  pub is : LineOf k f at text
+  pub put : Put room later place behind text
+
 -- ---- next
 
 -- r is the right answer, and `later` the right room afterwards, of a call that searches the capture s from a place on and puts the

@@ -36,7 +36,7 @@ module _ {Cause : ℕ → Type 0} (only : (k : ℕ) → ours k ≡ false → Cau
 -- ---- one outcome
 
 module _ {Cause : ℕ → Type 0} {Right : List ℕ → Type 0} {room : List ℕ} (one : (a b : List ℕ) → Right a → Right b → a ≡ b) where
-  one-outcome : {j k m n : ℕ} {s t : List ℕ} → WroteRight Cause Right room j m s → WroteRight Cause Right room k n t → (j ≡ k) × (m ≡ n) × (s ≡ t)
+  pub one-outcome : {j k m n : ℕ} {s t : List ℕ} → WroteRight Cause Right room j m s → WroteRight Cause Right room k n t → (j ≡ k) × (m ≡ n) × (s ≡ t)
   one-outcome (wrote {bs = a} f x) (wrote {bs = b} g y) =
       let e : a ≡ b = one a b x y in (refl, ap length e, ap (λ (c : List ℕ). c ++ drop (length c) room) e)
   one-outcome (wrote f x) (refused p g) = let e = one-first f g in absurd (omega arith)
