@@ -1,0 +1,12 @@
+pub mod Layout
+pub mod One
+pub mod Pieces
+pub mod Place
+pub mod Added
+pub mod Turns
+pub mod BookLines
+pub mod Listed
+pub mod EntryLines
+pub mod Reading
+pub mod Opening
+pub mod Entries

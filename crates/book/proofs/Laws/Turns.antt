@@ -1,0 +1,150 @@
+-- The loop over a book's entries: what stands there in a turn, a line more behind it, and the end.
+-- Assumes nothing.
+use mathlib.Core.List.{List, [], _∷_, _++_}
+use mathlib.Core.Path.{_≡_, refl, sym, ap, _∙_, subst, subst₂}
+use Prim.Native.Nat.{ℕ, _+_, _*_, _≤_, _<_}
+use native.Mathlib.Omega.{arith}
+use lib.ListN.{length, getD}
+use Rattle.digits.specs.Paper.Bytes.{part}
+use Rattle.frames.specs.Paper.Kinds.{Frame}
+use Rattle.frames.specs.Paper.Whole.{OneFrame}
+use Rattle.lines.specs.Paper.Answers.{LineOf, PutsLine}
+use Rattle.puts.specs.Paper.Put.{last}
+use Rattle.puts.proofs.Laws.Puts.{_then_, put-length}
+use Rattle.puts.proofs.Laws.Puts as puts
+use Rattle.book.specs.Paper.Answers.{EntryLines, none, line}
+use Rattle.book.specs.Paper.Book.{Entry, entryBytes, entries, Framed, also}
+use Rattle.book.specs.Work.Reading.{Heads, Noted, also as noted-also, Noting}
+use Rattle.book.specs.Work.Writing.{PutsBookLines, Completes}
+use Rattle.book.proofs.Laws.Layout.{length-entry, length-entries}
+use Rattle.book.proofs.Laws.One.{kind-byte}
+use Rattle.book.proofs.Laws.Opening.{pieces-of}
+use Rattle.book.proofs.Laws.Pieces.{book-size}
+use Rattle.book.proofs.Laws.Reading.{headed}
+
+pub started : {s places : List ℕ} {count : ℕ} {room : List ℕ} {to : ℕ} → Noting s count places → to ≤ last → Completes s places room room to to count 0 0
+started {s} {count = count} x h =
+    let k = x .counts in
+    let es = k .all in
+    record {
+      rest = es;
+      noted = x .noted;
+      framed = k .valid .within .framed;
+      left = omega (arith, k .is);
+      place-in = omega (arith, book-size (k .valid));
+      bytes = pieces-of s es (0 + length (entries es)) (k .valid .is) (omega (arith, book-size (k .valid))) .0;
+      place = h;
+      same = refl;
+      whole = λ later behind t l p. record { text = t; lists = record { all = es; valid = k .valid; lines = l }; put = p };
+    }
+
+-- ---- what stands there
+
+first-framed : {e : Entry} {es : List Entry} → Framed (e ∷ es) → Frame (e .kind) (e .frame)
+first-framed (also f r) = f
+
+rest-framed : {e : Entry} {es : List Entry} → Framed (e ∷ es) → Framed es
+rest-framed (also f r) = r
+
+-- what is noted of them
+first-noted : {places : List ℕ} {i : ℕ} {e : Entry} {es : List Entry} → Noted places i (e ∷ es)
+    → OneFrame (e .kind) (e .frame) (record { from = getD places (2 * i) 0; to = getD places (2 * i + 1) 0 })
+first-noted (noted-also o n) = o
+
+rest-noted : {places : List ℕ} {i : ℕ} {e : Entry} {es : List Entry} → Noted places i (e ∷ es) → Noted places (i + 1) es
+rest-noted (noted-also o n) = n
+
+module _ {s places room room₀ : List ℕ} {to next count i place : ℕ} (c : Completes s places room room₀ to next count i place) where
+  abbrev end : ℕ
+  end = place + length (entries (c .rest))
+
+  -- an entry is left
+  record Left : Type 0 where
+    entry : Entry
+    later : List Entry
+    is : c .rest ≡ entry ∷ later
+
+  module _ (small : length s ≤ 65536) (h : i < count) where
+    an-entry : Left
+    an-entry = go (c .rest) refl (c .left)
+      where
+        go : (es : List Entry) → c .rest ≡ es → i + length es ≡ count → Left
+        go [] e n = absurd (omega arith)
+        go (x ∷ es) e n = record { entry = x; later = es; is = e }
+
+    abbrev entry : Entry
+    entry = an-entry .entry
+
+    abbrev later : List Entry
+    later = an-entry .later
+
+    framed : Framed (entry ∷ later)
+    framed = subst Framed (an-entry .is) (c .framed)
+
+    is-frame : Frame (entry .kind) (entry .frame)
+    is-frame = first-framed framed
+
+    sizes : length (entries (c .rest)) ≡ length (entryBytes entry) + length (entries later)
+    sizes = ap (λ (es : List Entry). length (entries es)) (an-entry .is) ∙ length-entries entry later
+
+    pub head-in : place + 3 ≤ length s
+    head-in = omega (arith, c .place-in, sizes, length-entry entry)
+
+    stands : part place end s ≡ entryBytes entry ++ entries later
+    unfolding entries
+    stands = c .bytes ∙ ap entries (an-entry .is)
+
+    -- ---- what its head says
+
+    module _ {kind from behind : ℕ} (g : Heads s place kind from behind) where
+      says : (kind ≡ entry .kind) × (behind ≡ place + length (entryBytes entry)) × (behind ≤ end) × (part from behind s ≡ entry .frame) × (part behind end s ≡ entries later)
+      says = headed {e = entry} g (omega arith) (c .place-in) small (kind-byte is-frame) stands
+
+      pub frame-in : (from ≤ behind) × (behind ≤ length s)
+      frame-in = (g .forward, omega (arith, says .2, c .place-in))
+
+      noted : Noted places i (entry ∷ later)
+      noted = subst (Noted places i) (an-entry .is) (c .noted)
+
+      -- it was tested, and its payload's places are noted
+      pub tested-so : OneFrame kind (part from behind s) (record { from = getD places (2 * i) 0; to = getD places (2 * i + 1) 0 })
+      tested-so =
+          subst₂ (λ (k : ℕ) (f : List ℕ). OneFrame k f (record { from = getD places (2 * i) 0; to = getD places (2 * i + 1) 0 }))
+          (sym (says .0)) (sym (says .3)) (first-noted noted)
+
+      -- ---- its line
+
+      pub turned : {now : List ℕ} {then-at : ℕ} → PutsLine kind (part from behind s) place room₀ now next then-at
+          → Completes s places room now to then-at count (i + 1) behind
+      turned p =
+          let o = p .put in
+          let t = p .text in
+          let n : length (c .rest) ≡ length (entry ∷ later) = ap (λ (es : List Entry). length es) (an-entry .is) in
+          let w : behind ≡ place + length (entryBytes entry) = says .1 in
+          let z : behind + length (entries later) ≡ end = omega (arith, sizes) in
+          let own : LineOf (entry .kind) (entry .frame) place t =
+          subst₂ (λ (k : ℕ) (f : List ℕ). LineOf k f place t) (says .0) (says .3) (p .is) in
+          record {
+            rest = later;
+            noted = rest-noted noted;
+            framed = rest-framed framed;
+            left = omega (arith, c .left);
+            place-in = omega (arith, c .place-in);
+            bytes = ap (λ (e : ℕ). part behind e s) z ∙ says .4;
+            place = omega (arith, o .behind);
+            same = put-length o ∙ c .same;
+            whole =
+                λ end to ts ls q.
+                c .whole end to (t ++ ts)
+                (subst (λ (es : List Entry). EntryLines place es (t ++ ts)) (sym (an-entry .is))
+                (line own (subst (λ (a : ℕ). EntryLines a later ts) w ls)))
+                (o then q);
+          }
+
+  -- no entry is left
+  pub ended : length room₀ ≤ last → count ≤ i → PutsBookLines s room room₀ to next
+  ended l h = c .whole room₀ next [] (go (c .rest) (c .left)) (puts.none room₀ next l (c .place))
+    where
+      go : (es : List Entry) → i + length es ≡ count → EntryLines place es []
+      go [] e = none
+      go (x ∷ es) e = absurd (omega arith)

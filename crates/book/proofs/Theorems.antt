@@ -1,0 +1,159 @@
+-- What the definition of a book comes to, for a reader.
+-- Assumes nothing.
+use mathlib.Core.List.{List, [], _∷_, _++_, append-assoc}
+use mathlib.Core.Path.{_≡_, refl, sym, ap, _∙_, subst}
+use Prim.Native.Nat.{ℕ, _+_, _*_, _≤_, _<_}
+use native.Mathlib.Omega.{arith}
+use lib.ListN.{length, take, drop, length-append}
+use lib.Seq.{take-append-seam}
+use Rattle.digits.specs.Paper.Bytes.{part}
+use Rattle.digits.specs.Paper.Refusals as refusals
+use Rattle.digits.proofs.Laws.Refusals.{cause-at}
+use Rattle.lines.proofs.Theorems.{has-line}
+use Rattle.puts.specs.Paper.Right.{WroteRight, wrote, refused}
+use Rattle.puts.specs.Paper.Wrote.{writtenRefusal, writtenCount}
+use Rattle.puts.specs.declared.Written.{Written}
+use Rattle.book.specs.Paper.Answers.{Counts, Opens, EntryOf, TellsEntry, HandsFrame, EntryLine, BookLines, ListCause, no-book, short, WritesBookLines, Adds, WritesAdded}
+use Rattle.book.specs.Paper.Book.{Entry, head, entryBytes, entries, book, counted, trailer, Within, Book, Numbered}
+use Rattle.book.specs.declared.Kept.{Kept}
+use Rattle.book.specs.declared.Kept.the-variants.{Is}
+use Rattle.book.specs.declared.Opened.{Opened}
+use Rattle.book.specs.declared.Opened.the-variants.{Count}
+use Rattle.book.proofs.Laws.BookLines as lines
+use Rattle.book.proofs.Laws.Entries as its
+use Rattle.book.proofs.Laws.Layout as layout
+use Rattle.book.proofs.Laws.One as one
+use Rattle.book.proofs.Laws.Pieces as pieces
+use Rattle.book.proofs.Unique as unique
+
+-- ENTRIES WITHIN THE LIMITS HAVE A BOOK, AND IT IS VALID
+pub a-book : {es : List Entry} → Within es → Book (book es) es
+a-book w = record { within = w; is = refl }
+
+-- TWO LISTS OF ENTRIES WITH THE SAME BOOK ARE EQUAL
+pub same-book : {es ts : List Entry} → Within es → Within ts → book es ≡ book ts → es ≡ ts
+same-book v w e = one.one-book (a-book v) (record { within = w; is = e })
+
+-- so bytes are the book of one list of entries at most
+pub one-book : {s : List ℕ} {es ts : List Entry} → Book s es → Book s ts → es ≡ ts
+one-book = one.one-book
+
+-- THE DISTANCE BACK, from the book's end to the trailer's start, is the number that stands there
+pub distance : (es : List Entry) → length (trailer es) ≡ length (counted es) + 4
+distance = layout.length-trailer
+
+-- EVERY BOOK COMES OF ADDING ONE ENTRY AFTER THE OTHER: without its last entry a book is within the limits too, and adding that entry
+-- makes the book
+pub front-within : (es : List Entry) (e : Entry) → Within (es ++ e ∷ []) → Within es
+front-within es e w =
+    record {
+      framed = layout.framed-front es (e ∷ []) (w .framed);
+      few = omega (arith, w .few, length-append es (e ∷ []));
+      small = omega (arith, w .small, pieces.length-added es e);
+    }
+
+pub last-added : (es : List Entry) (e : Entry) → Within (es ++ e ∷ []) → Adds (book es) e (book (es ++ e ∷ []))
+last-added es e w = record { all = es; valid = a-book (front-within es e w); new = a-book w }
+
+-- ---- OPENING AND THE ENTRIES GIVE BACK WHAT WAS ADDED
+
+-- opening answers the count
+pub opens-count : {s : List ℕ} {es : List Entry} → Book s es → (r : Opened) → Opens s r → r ≡ Count (length es)
+opens-count {s} {es} b r a = unique.open-one r (Count (length es)) a there
+  where
+    there : Opens s (Count (length es))
+    there = refusals.answers {v = length es} (its.open-0 b) (record { all = es; valid = b; is = refl })
+
+-- every number below it has an entry
+pub has-entry : (es : List Entry) (number : ℕ) → number < length es → (e : Entry) × ((at : ℕ) × Numbered es number e at)
+has-entry = its.has-entry
+
+module _ {s : List ℕ} {es : List Entry} {number : ℕ} {e : Entry} {at : ℕ} (b : Book s es) (n : Numbered es number e at) where
+  -- which lies inside the book
+  pub entry-inside : at + length (entryBytes e) ≤ length s
+  entry-inside = its.numbered-inside b n
+
+  told : EntryOf s number (record { kind = e .kind; offset = at; from = at + length (head e); to = at + length (entryBytes e) })
+  told = record { all = es; valid = b; entry = e; numbered = n; kind-is = refl; from-is = refl; to-is = refl }
+
+  -- and its frame with it
+  pub frame-inside : part (at + length (head e)) (at + length (entryBytes e)) s ≡ e .frame
+  unfolding told
+  frame-inside = its.told-frame told
+
+  there : TellsEntry s number (Is (e .kind) at (at + length (head e)) (at + length (entryBytes e)))
+  there = refusals.answers (its.entry-0 b (omega (arith, its.numbered-below b n))) told
+
+  -- and is told as it was added
+  pub entry-back : (r : Kept) → TellsEntry s number r → r ≡ Is (e .kind) at (at + length (head e)) (at + length (entryBytes e))
+  entry-back r a = unique.entry-one r (Is (e .kind) at (at + length (head e)) (at + length (entryBytes e))) a there
+
+  -- with the frame that it was added with
+  pub frame-back : (p : List ℕ) → HandsFrame s number p → p ≡ e .frame
+  frame-back p a = unique.frame-one p _ a (its.hands-frame there refl) ∙ frame-inside
+
+-- ---- WHAT ADDING WRITES OPENS
+
+-- the old entries have their numbers and offsets still, and the new one stands behind them
+pub old-entry : {es : List Entry} {number : ℕ} {e : Entry} {at : ℕ} (new : Entry) → Numbered es number e at → Numbered (es ++ new ∷ []) number e at
+old-entry {e = e} new n =
+    record {
+      before = n .before;
+      behind = n .behind ++ new ∷ [];
+      is = ap (λ (us : List Entry). us ++ new ∷ []) (n .is) ∙ append-assoc (n .before) (e ∷ n .behind) (new ∷ []);
+      number-is = n .number-is;
+      offset-is = n .offset-is;
+    }
+
+pub new-entry : (es : List Entry) (e : Entry) → Numbered (es ++ e ∷ []) (length es) e (length (entries es))
+new-entry es e = record { before = es; behind = []; is = refl; number-is = refl; offset-is = refl }
+
+-- the bytes that were written stand in the room's front
+written : {Cause : ℕ → Type 0} {Right : List ℕ → Type 0} {room later : List ℕ} {number n : ℕ} → WroteRight Cause Right room number n later → number ≡ 0 → Right (take n later)
+written {Right = Right} {room = room} (wrote {bs = bs} f x) z = subst Right (sym (take-append-seam bs (drop (length bs) room))) x
+written (refused p f) z = absurd (omega arith)
+
+module _ {s room later : List ℕ} {es : List Entry} {e : Entry} (r : Written) (b : Book s es) (w : WritesAdded s e room r later) (z : writtenRefusal r ≡ 0) where
+  -- the old entries and the new one
+  pub added-book : Book (take (writtenCount r) later) (es ++ e ∷ [])
+  added-book =
+      let a = written w z in
+      subst (λ (us : List Entry). Book (take (writtenCount r) later) (us ++ e ∷ [])) (one.one-book (a .valid) b) (a .new)
+
+  pub added-opens : (o : Opened) → Opens (take (writtenCount r) later) o → o ≡ Count (length es + 1)
+  added-opens o a = opens-count added-book o a ∙ ap Count (length-append es (e ∷ []))
+
+-- ---- THE LINES OF A BOOK
+
+-- every book has lines, and only those
+pub book-lines : {s : List ℕ} {es : List Entry} → Book s es → (t : List ℕ) × BookLines s t
+book-lines = lines.book-lines
+
+pub one-book-lines : {s a b : List ℕ} → BookLines s a → BookLines s b → a ≡ b
+one-book-lines = lines.one-book-lines
+
+-- every entry has a line
+pub entry-line : {s : List ℕ} {es : List Entry} {number : ℕ} {e : Entry} {at : ℕ} → Book s es → Numbered es number e at → (l : List ℕ) × EntryLine s number l
+entry-line {es = es} {e = e} {at = at} b n =
+    let l = has-line at (its.numbered-frame b n) in
+    (l .0, record { all = es; valid = b; entry = e; offset = at; numbered = n; line = l .1 })
+
+-- and it stands in the lines of the book
+pub line-in : {s t l : List ℕ} {number : ℕ} → BookLines s t → EntryLine s number l → (x : List ℕ) × (y : List ℕ) × (t ≡ x ++ (l ++ y))
+line-in = lines.line-in
+
+-- ROOM ENOUGH: no lines of a book are longer than this, so a room of that size is never refused
+pub enough : {s room later : List ℕ} {es : List Entry} (r : Written) → Book s es → WritesBookLines s room r later → 8 * length s + 40 * length es ≤ length room
+    → writtenRefusal r ≡ 0
+enough {s} {room} {es = es} r b w h = of w
+  where
+    count : Counts s (length es)
+    count = record { all = es; valid = b; is = refl }
+
+    no-cause : {no : ℕ} → ListCause s (length room) no → ⊥
+    no-cause (no-book f) = f es b
+    no-cause (short l g) = omega (arith, lines.book-lines-most count l)
+
+    of : {no n : ℕ} {later : List ℕ} → WroteRight (ListCause s (length room)) (BookLines s) room no n later → no ≡ 0
+    of (wrote f x) = refl
+    of (refused p f) = absurd (no-cause (cause-at f p))

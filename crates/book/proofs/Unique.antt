@@ -1,0 +1,92 @@
+-- For each public function: two answers that meet its promise are the same answer, and the rooms afterwards are the same.
+-- Assumes nothing.
+use mathlib.Core.List.{List, [], _∷_, _++_}
+use mathlib.Core.Path.{_≡_, refl, sym, ap, ap₂, _∙_, subst}
+use Prim.Native.Nat.{ℕ, _+_}
+use lib.ListN.{length}
+use Rattle.digits.specs.Paper.Bytes.{part}
+use Rattle.digits.specs.declared.refusal.Refusal.{Refusal}
+use Rattle.digits.proofs.Laws.Refusals.{same-answer, one-answer}
+use Rattle.lines.proofs.Theorems.{one-line}
+use Rattle.puts.specs.declared.Written.{Written}
+use Rattle.puts.proofs.Laws.Right.{one-wrote}
+use Rattle.book.specs.Paper.Answers.{Counts, openedNumber, openedCount, Opens, Told, EntryOf, keptNumber, keptTold, TellsEntry, HandsFrame, EntryLine, WritesEntryLine, WritesBookLines, Adds, WritesAdded}
+use Rattle.book.specs.Paper.Book.{Entry, head, entryBytes, book, Numbered}
+use Rattle.book.specs.declared.Kept.{Kept}
+use Rattle.book.specs.declared.Kept.the-variants.{Is, Refused as Unkept}
+use Rattle.book.specs.declared.Opened.{Opened}
+use Rattle.book.specs.declared.Opened.the-variants.{Count, Refused}
+use Rattle.book.proofs.Laws.BookLines.{one-book-lines}
+use Rattle.book.proofs.Laws.EntryLines.{the-line}
+use Rattle.book.proofs.Laws.One.{one-book, one-numbered}
+
+-- ---- book::open
+
+pub counts-one : {s : List ℕ} (m n : ℕ) → Counts s m → Counts s n → m ≡ n
+counts-one m n a b = a .is ∙ ap (λ (es : List Entry). length es) (one-book (a .valid) (b .valid)) ∙ sym (b .is)
+
+opened-cases : (P : Opened → Type 0) → ((n : ℕ) → P (Count n)) → ((why : Refusal) → P (Refused why)) → (r : Opened) → P r
+opened-cases P f g (Count n) = f n
+opened-cases P f g (Refused why) = g why
+
+opened-answer : (r q : Opened) → openedNumber r ≡ openedNumber q → openedCount r ≡ openedCount q → r ≡ q
+opened-answer = same-answer Count Refused openedNumber openedCount (λ n. refl) (λ why. refl) (λ n. refl) opened-cases
+
+pub open-one : {s : List ℕ} (r q : Opened) → Opens s r → Opens s q → r ≡ q
+open-one r q a b = let e = one-answer counts-one a b in opened-answer r q (e .0) (e .1)
+
+-- ---- book::entry
+
+abbrev told : (kind offset from to : ℕ) → Told
+told k o x y = record { kind = k; offset = o; from = x; to = y }
+
+-- a number of a book has one entry, and all that is told is the entry's
+pub told-one : {s : List ℕ} {number : ℕ} (u v : Told) → EntryOf s number u → EntryOf s number v → u ≡ v
+told-one {s} {number} u v a b =
+    let n : Numbered (b .all) number (a .entry) (u .offset) = subst (λ (es : List Entry). Numbered es number (a .entry) (u .offset)) (one-book (a .valid) (b .valid)) (a .numbered) in
+    let q = one-numbered n (b .numbered) in
+    let k : u .kind ≡ v .kind = a .kind-is ∙ ap (λ (e : Entry). e .kind) (q .0) ∙ sym (b .kind-is) in
+    let x : u .from ≡ v .from = a .from-is ∙ ap₂ (λ (o : ℕ) (e : Entry). o + length (head e)) (q .1) (q .0) ∙ sym (b .from-is) in
+    let y : u .to ≡ v .to = a .to-is ∙ ap₂ (λ (o : ℕ) (e : Entry). o + length (entryBytes e)) (q .1) (q .0) ∙ sym (b .to-is) in
+    same (u .kind) (v .kind) (u .offset) (v .offset) (u .from) (v .from) (u .to) (v .to) k (q .1) x y
+  where
+    same : (k k′ o o′ x x′ y y′ : ℕ) → k ≡ k′ → o ≡ o′ → x ≡ x′ → y ≡ y′ → told k o x y ≡ told k′ o′ x′ y′
+    same k k′ o o′ x x′ y y′ c p q r = rw (c, p, q, r)
+
+kept-cases : (P : Kept → Type 0) → ((v : Told) → P (Is (v .kind) (v .offset) (v .from) (v .to))) → ((why : Refusal) → P (Unkept why)) → (r : Kept) → P r
+kept-cases P f g (Is k o x y) = f (told k o x y)
+kept-cases P f g (Unkept why) = g why
+
+kept-answer : (r q : Kept) → keptNumber r ≡ keptNumber q → keptTold r ≡ keptTold q → r ≡ q
+kept-answer = same-answer (λ (v : Told). Is (v .kind) (v .offset) (v .from) (v .to)) Unkept keptNumber keptTold (λ v. refl) (λ why. refl) (λ v. refl) kept-cases
+
+pub entry-one : {s : List ℕ} {number : ℕ} (r q : Kept) → TellsEntry s number r → TellsEntry s number q → r ≡ q
+entry-one r q a b = let e = one-answer told-one a b in kept-answer r q (e .0) (e .1)
+
+-- ---- book::frame
+
+pub frame-one : {s : List ℕ} {number : ℕ} (p q : List ℕ) → HandsFrame s number p → HandsFrame s number q → p ≡ q
+frame-one {s} p q a b =
+    one-answer (λ u v x y. x .2 ∙ ap (λ (t : Told). part (t .from) (t .to) s) (told-one (x .0) (y .0) (x .1) (y .1)) ∙ sym (y .2)) (a .answer) (b .answer) .1
+
+-- ---- book::line
+
+pub entry-line-one : {s : List ℕ} {number : ℕ} (t u : List ℕ) → EntryLine s number t → EntryLine s number u → t ≡ u
+entry-line-one t u a b = one-line t u (the-line (b .valid) (b .numbered) a) (b .line)
+
+pub line-one : {s : List ℕ} {number : ℕ} {room later end : List ℕ} (r q : Written) → WritesEntryLine s number room r later → WritesEntryLine s number room q end
+    → (r ≡ q) × (later ≡ end)
+line-one r q a b = one-wrote entry-line-one a b
+
+-- ---- book::list
+
+pub list-one : {s room later end : List ℕ} (r q : Written) → WritesBookLines s room r later → WritesBookLines s room q end → (r ≡ q) × (later ≡ end)
+list-one r q a b = one-wrote (λ t u x y. one-book-lines x y) a b
+
+-- ---- book::add
+
+pub adds-one : {s : List ℕ} {e : Entry} (x y : List ℕ) → Adds s e x → Adds s e y → x ≡ y
+adds-one {e = e} x y a b = a .new .is ∙ ap (λ (es : List Entry). book (es ++ e ∷ [])) (one-book (a .valid) (b .valid)) ∙ sym (b .new .is)
+
+pub add-one : {s : List ℕ} {e : Entry} {room later end : List ℕ} (r q : Written) → WritesAdded s e room r later → WritesAdded s e room q end → (r ≡ q) × (later ≡ end)
+add-one r q a b = one-wrote adds-one a b

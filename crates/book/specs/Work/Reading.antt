@@ -1,0 +1,87 @@
+-- What the code finds on its way through a book.
+-- Assumes nothing.
+use mathlib.Core.Bool.{Bool, true, false}
+use mathlib.Core.List.{List, [], _∷_, _++_}
+use mathlib.Core.Path.{_≡_}
+use Prim.Native.Nat.{ℕ, _+_, _-_, _*_, _≤_, _<_}
+use lib.ListN.{length, getD}
+use Rattle.digits.specs.Paper.Bytes.{part}
+use Rattle.digits.specs.Paper.LowFirst.{lowFirst}
+use Rattle.digits.specs.declared.refusal.Refusal.the-variants.{Book as NotBook}
+use Rattle.frames.specs.Paper.Kinds.{Frame}
+use Rattle.frames.specs.Paper.Whole.{OneFrame}
+use Rattle.book.specs.Paper.Book.{Entry, entryBytes, entries, offsets, Framed, mostEntries, mostBytes}
+use Rattle.book.specs.Paper.Answers.{NoBook, Counts}
+use Rattle.book.specs.declared.Opened.{Opened}
+use Rattle.book.specs.declared.Opened.the-variants.{Count, Refused}
+use Rattle.book.specs.declared.opening.Slot.{Slot}
+use Rattle.book.specs.declared.opening.Slot.the-variants.{Holds, Empty}
+
+-- the number of so many bytes, low byte first, that stands at a place
+pub record NumberAt (s : List ℕ) (at width n : ℕ) : Type 0 where
+  pub bytes : part at (at + width) s ≡ lowFirst width n
+
+-- what stands at a place, as an entry's head: the kind, and the places where the frame begins and ends
+pub record Heads (s : List ℕ) (at kind from to : ℕ) : Type 0 where
+  pub from-is : from ≡ at + 3
+  pub forward : from ≤ to
+  pub kind-byte : kind < 256
+  pub size : to - from < 65536
+  pub bytes : part at from s ≡ lowFirst 1 kind ++ lowFirst 2 (to - from)
+
+-- what stands at a place, up to the trailer: an entry, or none
+pub data Slots (s : List ℕ) (at end : ℕ) : Slot → Type 0 where
+  holds : {kind from to start stop : ℕ} → at ≤ from → from ≤ to → to ≤ end → OneFrame kind (part from to s) (record { from = start; to = stop })
+      → part at to s ≡ entryBytes (record { kind = kind; frame = part from to s }) → Slots s at end (Holds kind from to start stop)
+  empty : ((e : Entry) (rest : List ℕ) → Frame (e .kind) (e .frame) → part at end s ≡ entryBytes e ++ rest → ⊥) → Slots s at end Empty
+
+-- from the place `at` and the number i on, entries fill the book up to the trailer, and the trailer has their offsets
+pub record Fills (s : List ℕ) (count end i at : ℕ) : Type 0 where
+  pub rest : List Entry
+  pub framed : Framed rest
+  pub left : i + length rest ≡ count
+  pub bytes : part at end s ≡ entries rest
+  pub places : part (end + 4 * i) (end + 4 * count) s ≡ offsets at rest
+
+-- the places of the payloads of entries in their frames, two numbers an entry, those of the first from 2 i on
+pub data Noted (places : List ℕ) : ℕ → List Entry → Type 0 where
+  none : {i : ℕ} → Noted places i []
+  also : {i : ℕ} {e : Entry} {es : List Entry} → OneFrame (e .kind) (e .frame) (record { from = getD places (2 * i) 0; to = getD places (2 * i + 1) 0 })
+      → Noted places (i + 1) es → Noted places i (e ∷ es)
+
+-- such entries, with the places noted
+pub record FillsNoted (s : List ℕ) (count end i at : ℕ) (places : List ℕ) : Type 0 where
+  pub fills : Fills s count end i at
+  pub noted : Noted places i (fills .rest)
+
+-- a loop's turns so far: the rest fills the book exactly where the whole does, and what is noted of the rest completes what is noted
+pub record Turns (s : List ℕ) (count end : ℕ) (places₀ places : List ℕ) (i at : ℕ) : Type 0 where
+  pub place-in : at ≤ end
+  pub turn-in : i ≤ count
+  pub room : 2 * count ≤ length places
+  pub same : length places ≡ length places₀
+  pub onward : Fills s count end 0 0 → Fills s count end i at
+  pub whole : (later : List ℕ) → ((j : ℕ) → j < 2 * i → getD later j 0 ≡ getD places j 0) → FillsNoted s count end i at later → FillsNoted s count end 0 0 later
+
+-- r tells whether entries fill the book, and where they do, the places are noted
+pub data FillsNoting (s : List ℕ) (count end : ℕ) (places : List ℕ) : Bool → Type 0 where
+  noting : FillsNoted s count end 0 0 places → 2 * count ≤ length places → FillsNoting s count end places true
+  unfilled : (Fills s count end 0 0 → ⊥) → FillsNoting s count end places false
+
+-- s is a book of so many entries, and the places of their payloads are noted
+pub record Noting (s : List ℕ) (count : ℕ) (places : List ℕ) : Type 0 where
+  pub counts : Counts s count
+  pub room : 2 * count ≤ length places
+  pub noted : Noted places 0 (counts .all)
+
+-- what opening answers, with the places noted
+pub data OpensNoting (s places : List ℕ) : Opened → Type 0 where
+  opens : {n : ℕ} → Noting s n places → OpensNoting s places (Count n)
+  refuses : NoBook s → OpensNoting s places (Refused NotBook)
+
+-- the last six bytes of s are the end of a trailer that has its place there, of a book within the limits
+pub record Trailed (s : List ℕ) (count : ℕ) : Type 0 where
+  pub few : count ≤ mostEntries
+  pub small : length s ≤ mostBytes
+  pub room : 4 * count + 6 ≤ length s
+  pub bytes : part (length s - 6) (length s) s ≡ lowFirst 2 count ++ lowFirst 4 (4 * count + 6)

@@ -1,0 +1,121 @@
+// The capture book: frames kept in one string of bytes, each entry with its kind, and a trailer that says where they stand.
+mod adding;
+mod layout;
+mod listing;
+mod opening;
+
+use digits::refusal::Refusal;
+use puts::Written;
+ghost use Prim.Native.Nat.{_<_};
+ghost use Rattle.book.specs.Paper.Answers.{Opens, Counts, TellsEntry, HandsFrame, WritesEntryLine, WritesBookLines, WritesAdded};
+
+// What opening answers: how many entries a book has.
+pub enum Opened {
+    Count(usize),
+    Refused(Refusal),
+}
+
+// What is told of an entry: its kind, its offset, and the places in the book where its frame begins and ends.
+pub enum Kept {
+    Is {
+        kind: u8,
+        offset: usize,
+        from: usize,
+        to: usize,
+    },
+    Refused(Refusal),
+}
+
+// How many entries a book has. Refusals: 8 for anything else than a valid book.
+pub fn open(book: &[u8]) -> Opened
+    ensures { λ r. ⌜ Opens (now (book .entry)) r ⌝ }
+{
+    let mut places = [0usize; 2000];
+    opening::opened(book, &mut places)
+}
+
+// The entry of a number, counted from 0. Refusals: 8 for anything else than a valid book, 3 for a number that is not below the count.
+pub fn entry(book: &[u8], number: usize) -> Kept
+    ensures { λ r. ⌜ TellsEntry (now (book .entry)) number r ⌝ }
+{
+    match open(book) {
+        Opened::Count(count) => {
+            if count <= number {
+                return Kept::Refused(Refusal::Place);
+            }
+            told(book, count, number)
+        }
+        Opened::Refused(why) => Kept::Refused(why),
+    }
+}
+
+// That entry's frame, as a part of the book; empty for a refusal.
+pub fn frame(book: &[u8], number: usize) -> &[u8]
+    ensures { λ r. ⌜ HandsFrame (now (book .entry)) number (now r) ⌝ }
+{
+    match entry(book, number) {
+        Kept::Is {
+            kind,
+            offset,
+            from,
+            to,
+        } => &book[from..to],
+        Kept::Refused(why) => &book[..0],
+    }
+}
+
+// Writes that entry's line from the front of the room, `at` being the entry's offset. Refusals: 8 for anything else than a valid book,
+// 3 for a number that is not below the count, 4 for a room that is too short.
+pub fn line(book: &[u8], number: usize, room: &mut [u8]) -> Written
+    ensures { λ r. ⌜ WritesEntryLine (now (book .entry)) number (now (room .entry)) r (now (room .exit)) ⌝ }
+{
+    match entry(book, number) {
+        Kept::Is {
+            kind,
+            offset,
+            from,
+            to,
+        } => lines::write(kind, &book[from..to], offset, room),
+        Kept::Refused(why) => Written::Refused(why),
+    }
+}
+
+// Writes the lines of all entries from the front of the room: the book is opened once, and each frame tested once. Refusals: 8 for
+// anything else than a valid book, 4 for a room that is too short.
+pub fn list(book: &[u8], room: &mut [u8]) -> Written
+    ensures { λ r. ⌜ WritesBookLines (now (book .entry)) (now (room .entry)) r (now (room .exit)) ⌝ }
+{
+    let mut places = [0usize; 2000];
+    match opening::opened(book, &mut places) {
+        Opened::Count(count) => listing::write(book, count, &places, room),
+        Opened::Refused(why) => Written::Refused(why),
+    }
+}
+
+// Writes the whole new book, with an entry more, from the front of the room; the book itself is only read. Refusals: 8 for anything else
+// than a valid book, 2 for a kind that is not known, 5 for anything else than one frame, or for a new book that is outside the limits,
+// 4 for a room that is too short.
+pub fn add(book: &[u8], kind: u8, frame: &[u8], room: &mut [u8]) -> Written
+    ensures { λ r. ⌜ WritesAdded (now (book .entry)) (record { kind = kind; frame = now (frame .entry) }) (now (room .entry)) r (now (room .exit)) ⌝ }
+{
+    match open(book) {
+        Opened::Count(count) => adding::write(book, count, kind, frame, room),
+        Opened::Refused(why) => Written::Refused(why),
+    }
+}
+
+// The entry of a number below the count: where the trailer says that it stands.
+fn told(book: &[u8], count: usize, number: usize) -> Kept
+    requires { ⌜ Counts (now book) count ⌝ }
+    requires { ⌜ number < count ⌝ }
+    ensures { λ r. ⌜ TellsEntry (now (book .entry)) number r ⌝ }
+{
+    let offset = layout::offset(book, count, number);
+    let head = layout::head_at(book, offset);
+    Kept::Is {
+        kind: head.kind,
+        offset: offset,
+        from: head.from,
+        to: head.to,
+    }
+}
