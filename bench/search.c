@@ -2,8 +2,8 @@
    compiler, in the same run. The two take turns, so that what else the machine does falls on both; the least time of each counts. */
 #include "../include/bolsterweft.h"
 #include "../tests/frames_in_c.h"
+#include "../tests/longest.h"
 #include "clock.h"
-#include "longest.h"
 
 enum { SIZE = 65536 };
 

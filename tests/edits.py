@@ -15,7 +15,7 @@ import sys
 os.chdir(os.path.join(os.path.dirname(os.path.abspath(__file__)), ".."))
 
 # These repeat promises of other crates, one call each, for C to call: the edits of those crates are their own.
-REPEATS = {"probe", "probe_list"}
+REPEATS = {"probe", "probe_list", "probe_book"}
 
 
 def public_functions(crate):

@@ -1,8 +1,8 @@
-/* The longest frame of a kind, for the benchmarks; answers its length. */
+/* The longest frame of a kind, for the tests and the benchmarks; answers its length. */
 #ifndef LONGEST_H
 #define LONGEST_H
 
-#include "../tests/frames_made.h"
+#include "frames_made.h"
 
 static usize longest(u8 *f, u8 kind, int spoilt) {
     switch (kind) {
