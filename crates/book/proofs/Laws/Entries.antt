@@ -16,7 +16,7 @@ use Rattle.digits.specs.declared.refusal.Refusal.the-variants.{Place, Book as N
 use Rattle.digits.proofs.Laws.LowFirst.{length-low}
 use Rattle.digits.proofs.Laws.Refusals.{answered, cause-of, cause-at, pass-over, some-number}
 use Rattle.frames.specs.Paper.Kinds.{Frame}
-use Rattle.book.specs.Paper.Book.{Entry, head, entryBytes, entries, offsets, Framed, also, Book, Numbered}
+use Rattle.book.specs.Paper.Book.{Entry, head, entryBytes, entries, offsets, Framed, Book, Numbered}
 use Rattle.book.specs.Paper.Answers.{NoBook, OpenCause, Counts, Opens, EntryCause, no-book, no-entry, Told, EntryOf, TellsEntry, HandsFrame}
 use Rattle.book.specs.Paper.Answers as paper
 use Rattle.book.specs.Work.Reading.{NumberAt, Heads, Fills, FillsNoted, Noting, OpensNoting, Trailed}
@@ -25,19 +25,16 @@ use Rattle.book.specs.declared.Kept.{Kept}
 use Rattle.book.specs.declared.Kept.the-variants.{Is, Refused as Unkept}
 use Rattle.book.specs.declared.Opened.{Opened}
 use Rattle.book.specs.declared.Opened.the-variants.{Count, Refused}
-use Rattle.book.proofs.Laws.Layout.{length-head, length-entry, length-offsets, entries-append, offsets-append, length-book, framed-back}
+use Rattle.book.proofs.Laws.Layout.{length-head, length-entry, length-offsets, entries-append, offsets-append, length-book, first-framed, framed-back}
 use Rattle.book.proofs.Laws.One.{kind-byte, one-book}
 use Rattle.book.proofs.Laws.Opening.{pieces-of, trailerAt, trailer-place, book-trailed, book-filled, filled-book, the-count}
 use Rattle.book.proofs.Laws.Reading.{part-cut, one-number, headed}
 
 -- ---- where it stands
 
-framed-first : {e : Entry} {es : List Entry} → Framed (e ∷ es) → Frame (e .kind) (e .frame)
-framed-first (also r g) = r
-
 module _ {s : List ℕ} {es : List Entry} {number : ℕ} {e : Entry} {at : ℕ} (b : Book s es) (n : Numbered es number e at) where
   pub numbered-frame : Frame (e .kind) (e .frame)
-  numbered-frame = framed-first (framed-back (n .before) (e ∷ n .behind) (subst Framed (n .is) (b .within .framed)))
+  numbered-frame = first-framed (framed-back (n .before) (e ∷ n .behind) (subst Framed (n .is) (b .within .framed)))
 
   pub numbered-below : length es ≡ number + suc (length (n .behind))
   numbered-below = ap length (n .is) ∙ length-append (n .before) (e ∷ n .behind) ∙ ap (λ (x : ℕ). x + suc (length (n .behind))) (sym (n .number-is))

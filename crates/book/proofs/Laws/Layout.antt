@@ -7,6 +7,7 @@ use native.Mathlib.Omega.{arith}
 use lib.ListN.{length, length-append}
 use Rattle.digits.specs.Paper.LowFirst.{lowFirst}
 use Rattle.digits.proofs.Laws.LowFirst.{length-low}
+use Rattle.frames.specs.Paper.Kinds.{Frame}
 use Rattle.book.specs.Paper.Book.{Entry, head, entryBytes, entries, offsets, counted, trailer, book, Framed, none, also}
 
 -- ---- an entry
@@ -31,6 +32,13 @@ entries-append (e ∷ a) b = ap (λ (t : List ℕ). entryBytes e ++ t) (entries-
 pub length-entries : (e : Entry) (es : List Entry) → length (entries (e ∷ es)) ≡ length (entryBytes e) + length (entries es)
 unfolding entries
 length-entries e es = length-append (entryBytes e) (entries es)
+
+-- the first of entries has a frame, and the others have theirs
+pub first-framed : {e : Entry} {es : List Entry} → Framed (e ∷ es) → Frame (e .kind) (e .frame)
+first-framed (also f r) = f
+
+pub rest-framed : {e : Entry} {es : List Entry} → Framed (e ∷ es) → Framed es
+rest-framed (also f r) = r
 
 pub framed-append : {a b : List Entry} → Framed a → Framed b → Framed (a ++ b)
 framed-append none g = g

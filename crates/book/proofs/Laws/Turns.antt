@@ -13,10 +13,10 @@ use Rattle.puts.specs.Paper.Put.{last}
 use Rattle.puts.proofs.Laws.Puts.{_then_, put-length}
 use Rattle.puts.proofs.Laws.Puts as puts
 use Rattle.book.specs.Paper.Answers.{EntryLines, none, line}
-use Rattle.book.specs.Paper.Book.{Entry, entryBytes, entries, Framed, also}
+use Rattle.book.specs.Paper.Book.{Entry, entryBytes, entries, Framed}
 use Rattle.book.specs.Work.Reading.{Heads, Noted, also as noted-also, Noting}
 use Rattle.book.specs.Work.Writing.{PutsBookLines, Completes}
-use Rattle.book.proofs.Laws.Layout.{length-entry, length-entries}
+use Rattle.book.proofs.Laws.Layout.{length-entry, length-entries, first-framed, rest-framed}
 use Rattle.book.proofs.Laws.One.{kind-byte}
 use Rattle.book.proofs.Laws.Opening.{pieces-of}
 use Rattle.book.proofs.Laws.Pieces.{book-size}
@@ -39,12 +39,6 @@ started {s} {count = count} x h =
     }
 
 -- ---- what stands there
-
-first-framed : {e : Entry} {es : List Entry} → Framed (e ∷ es) → Frame (e .kind) (e .frame)
-first-framed (also f r) = f
-
-rest-framed : {e : Entry} {es : List Entry} → Framed (e ∷ es) → Framed es
-rest-framed (also f r) = r
 
 -- what is noted of them
 first-noted : {places : List ℕ} {i : ℕ} {e : Entry} {es : List Entry} → Noted places i (e ∷ es)
