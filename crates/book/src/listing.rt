@@ -50,8 +50,8 @@ fn put(book: &[u8], count: usize, places: &[usize], room: &mut [u8], to: usize) 
         let kind = head.kind;
         let from = head.from;
         let behind = head.to;
-        let start = places[2 * i];
-        let stop = places[2 * i + 1];
+        let start = places[i];
+        let stop = places[layout::MOST_ENTRIES + i];
         next = lines::tested(kind, &book[from..behind], start, stop, at, room, next);
         at = behind;
         i += 1;

@@ -26,7 +26,8 @@ pub(crate) enum Slot {
     Empty,
 }
 
-// How many entries a book has; and, in `places`, where the payload of each begins and ends in its frame.
+// How many entries a book has; and, in `places`, where the payload of each begins in its frame, from 0 on, and where it ends, from
+// `MOST_ENTRIES` on.
 pub(crate) fn opened(book: &[u8], places: &mut [usize]) -> Opened
     requires { ⌜ 2000 ≤ length (now places) ⌝ }
     ensures { λ r. ⌜ OpensNoting (now (book .entry)) (now (places .exit)) r ⌝ }
@@ -66,11 +67,13 @@ fn trailed(s: &[u8]) -> bool
 }
 
 // Whether so many entries fill the book up to the trailer, from offset 0 without gaps, and the trailer has their offsets. Where the payload
-// of each begins and ends in its frame is noted in `places`, so that no frame has to be tested twice.
+// of each begins and ends in its frame is noted in `places`, so that no frame has to be tested twice. The two do not stand side by side:
+// a compiler would then move both at once, in one read of what has just been written in two, and the processor waits for that.
 fn filled(s: &[u8], count: usize, end: usize, places: &mut [usize]) -> bool
     requires { ⌜ end + 4 * count ≤ length (now s) ⌝ }
     requires { ⌜ length (now s) ≤ 65536 ⌝ }
-    requires { ⌜ 2 * count ≤ length (now places) ⌝ }
+    requires { ⌜ count ≤ 1000 ⌝ }
+    requires { ⌜ 2000 ≤ length (now places) ⌝ }
     ensures { λ r. ⌜ FillsNoting (now (s .entry)) count end (now (places .exit)) r ⌝ }
 {
     let mut at = 0;
@@ -87,8 +90,8 @@ fn filled(s: &[u8], count: usize, end: usize, places: &mut [usize]) -> bool
                 start,
                 stop,
             } => {
-                places[2 * i] = start;
-                places[2 * i + 1] = stop;
+                places[i] = start;
+                places[layout::MOST_ENTRIES + i] = stop;
                 at = to;
             }
             Slot::Empty => {
