@@ -3,17 +3,15 @@
 use mathlib.Core.Path.{_≡_, sym, _∙_, ap}
 use mathlib.Core.List.{List}
 use Prim.Native.Nat.{ℕ}
-use Rattle.layouts.specs.Paper.Made.{Wire, homiqOf}
-use Rattle.layouts.proofs.Theorems.{one-homiq}
 use Rattle.puts.specs.declared.Written.{Written}
 use Rattle.puts.proofs.Laws.Right.{one-wrote}
 use Rattle.messages.specs.Paper.Says.{Says}
 use Rattle.messages.specs.Paper.Table.{bytes}
-use Rattle.messages.specs.Work.Look.{wireOf}
 use Rattle.messages.specs.declared.Message.{Message as Coded}
 use Rattle.messages.proofs.Laws.Says.{one-said}
-use Rattle.commands.specs.Paper.Acknowledge.{FrameOf, acknowledgement, AcknowledgementOf, Acknowledges}
+use Rattle.commands.specs.Paper.Acknowledge.{acknowledgement, AcknowledgementOf, Acknowledges}
 use Rattle.commands.specs.Paper.Answers.{MeantBytes, Encodes}
+use Rattle.commands.proofs.Laws.Acknowledged.{one-frame-of}
 
 -- encode
 one-bytes : (e : Coded) (s : List ℕ) (a b : List ℕ) → MeantBytes (Says e s) a → MeantBytes (Says e s) b → a ≡ b
@@ -23,11 +21,8 @@ pub encode : (k : ℕ) (e : Coded) (s room : List ℕ) {t u : List ℕ} (r q : W
 encode k e s room r q a b = one-wrote (one-bytes e s) {r = r} {q = q} a b
 
 -- acknowledge
-one-fields : {f : List ℕ} {v w : Wire} → FrameOf f v → FrameOf f w → v ≡ w
-one-fields {f} {v} {w} a b = ap wireOf (one-homiq (homiqOf v) (homiqOf w) (a .limits) (b .limits) (sym (a .frame) ∙ b .frame))
-
 one-answer : (f a b : List ℕ) → AcknowledgementOf f a → AcknowledgementOf f b → a ≡ b
-one-answer f a b p q = p .is ∙ ap acknowledgement (one-fields (p .frame) (q .frame)) ∙ sym (q .is)
+one-answer f a b p q = p .is ∙ ap acknowledgement (one-frame-of (p .frame) (q .frame)) ∙ sym (q .is)
 
 pub acknowledge : (f room : List ℕ) {t u : List ℕ} (r q : Written) → Acknowledges f room r t → Acknowledges f room q u → (r ≡ q) × (t ≡ u)
 acknowledge f room r q a b = one-wrote (one-answer f) {r = r} {q = q} a b

@@ -13,7 +13,7 @@ ghost use Rattle.puts.specs.Paper.Put.{Put};
 ghost use Rattle.messages.specs.Paper.Homiq.{fieldAt};
 ghost use Rattle.messages.specs.Paper.Says.{SaysHomiq};
 ghost use Rattle.commands.specs.Paper.Acknowledge.{Acknowledges};
-ghost use Rattle.commands.specs.Paper.Answers.{WritesMessage};
+ghost use Rattle.commands.specs.Work.Answers.{WritesMessage};
 ghost use Rattle.commands.specs.Work.Homiq.{Laid, Answered, relaid, exchanged};
 
 // Writes the frame of a message with CMD to TYPE beside it.

@@ -13,8 +13,7 @@ ghost use Rattle.numbers.specs.Paper.ByteValues.{valueBytes};
 ghost use Rattle.messages.specs.Paper.Message.{command, climate, state, break, end, text, response};
 ghost use Rattle.messages.specs.Paper.Says.{ofResponse};
 ghost use Rattle.messages.specs.Paper.Table.{textIds};
-ghost use Rattle.commands.specs.Paper.Answers.{WritesMessage};
-ghost use Rattle.commands.specs.Work.Answers.{Only};
+ghost use Rattle.commands.specs.Work.Answers.{WritesMessage, Only};
 
 // Writes the frame of a command.
 pub(crate) fn write_command(id: u16, payload: &[u8], room: &mut [u8]) -> Written

@@ -13,8 +13,7 @@ ghost use Rattle.digits.specs.Paper.Read.{Tells};
 ghost use Rattle.messages.specs.Paper.Message.{ask, reply, put, done, nibe};
 ghost use Rattle.messages.specs.Paper.Says.{ofNibe};
 ghost use Rattle.messages.specs.Paper.Table.{valued};
-ghost use Rattle.commands.specs.Paper.Answers.{WritesMessage};
-ghost use Rattle.commands.specs.Work.Answers.{Only, NibeWidth};
+ghost use Rattle.commands.specs.Work.Answers.{WritesMessage, Only, NibeWidth};
 
 // Whether a message's value has a width that there is.
 pub(crate) fn has_width(message: Nibe) -> bool

@@ -15,8 +15,7 @@ ghost use Rattle.messages.specs.Paper.Message.{read, set, answer, press, tail, 
 ghost use Rattle.messages.specs.Paper.Says.{six, SaysNikobus};
 ghost use Rattle.messages.specs.Paper.Table.{Group, codeOf};
 ghost use Rattle.messages.specs.declared.nikobus.Nikobus.the-variants.{Link};
-ghost use Rattle.commands.specs.Paper.Answers.{WritesMessage};
-ghost use Rattle.commands.specs.Work.Answers.{Only};
+ghost use Rattle.commands.specs.Work.Answers.{WritesMessage, Only};
 ghost use Rattle.commands.specs.Work.Nikobus.{Unhexed};
 
 // Writes the frame of a message with this beside it.

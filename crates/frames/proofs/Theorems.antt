@@ -4,7 +4,7 @@ use mathlib.Core.List.{List}
 use mathlib.Core.Path.{_≡_, refl, _∙_, ap, subst}
 use Prim.Native.Nat.{ℕ, _+_, _*_, _%_, _≤_, _<_}
 use native.Mathlib.Omega.{arith}
-use lib.ListN.{length, take, length-append}
+use lib.ListN.{length}
 use Rattle.digits.specs.Paper.Bytes.{part}
 use Rattle.digits.specs.Paper.Hex.{hexByte}
 use Rattle.digits.specs.Paper.LowFirst.{lowFirst}
@@ -15,6 +15,7 @@ use Rattle.frames.specs.Work.Seek.{searched}
 use Rattle.frames.specs.declared.Found.{Found}
 use Rattle.layouts.specs.declared.nest.Direction.{Direction}
 use Rattle.layouts.specs.declared.nest.Direction.the-variants.{Command, Response}
+use Rattle.layouts.proofs.Laws.Nest.{nest-size}
 use Rattle.layouts.proofs.Laws.Nikobus.{link-size}
 use Rattle.layouts.specs.Paper.Layout as layout
 use Rattle.layouts.specs.Paper.Nikobus as N
@@ -91,21 +92,12 @@ pub record NestLength (d : Direction) (f : List ℕ) : Type 0 where
 
 pub nest-length : (d : Direction) {f : List ℕ} (r : layout.Form (nests.nest d) f) → NestLength d f
 unfolding lowFirst
-nest-length Command r =
+nest-length d r =
     let m = r .fields in
     rw (layout.Form.laid r)
-    (record {
-      payload-length = length (m .payload);
-      stands = refl;
-      most = r .limits .short;
-      frame-length = omega (arith, length-append (m .payload) (lowFirst 2 (m .crc)));
-    })
-nest-length Response r =
-    let m = r .fields in
-    rw (layout.Form.laid r)
-    (record {
-      payload-length = length (m .payload);
-      stands = refl;
-      most = r .limits .short;
-      frame-length = omega (arith, length-append (m .payload) (lowFirst 2 (m .crc)));
-    })
+    (record { payload-length = length (m .payload); stands = stands d m; most = r .limits .short; frame-length = nest-size (nests.preamble d) m })
+  where
+    stands : (d : Direction) (m : nests.Nest)
+        → part (length (nests.preamble d) + 2) (length (nests.preamble d) + 4) (layout.bytesOf (nests.nest d) m) ≡ lowFirst 2 (length (m .payload))
+    stands Command m = refl
+    stands Response m = refl

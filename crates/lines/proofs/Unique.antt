@@ -9,7 +9,7 @@ use Rattle.frames.specs.declared.Found.the-variants.{At as Hit, Refused as NoHi
 use Rattle.frames.proofs.Unique.{searched-one, hit-or-none}
 use Rattle.puts.specs.Paper.Put.{Put}
 use Rattle.puts.specs.declared.Written.{Written}
-use Rattle.puts.proofs.Laws.Right.{one-wrote}
+use Rattle.puts.proofs.Laws.Right.{one-wrote, one-puts}
 use Rattle.puts.proofs.Unique.{one-put}
 use Rattle.lines.specs.Paper.Answers.{LineOf, WritesLine, PutsLine, PutsNext, line-of, none}
 use Rattle.lines.specs.declared.Listed.{Listed}
@@ -22,8 +22,7 @@ write k f at room a b = one-wrote one-line a b
 
 -- tested: a frame has one line
 pub tested : {k : ℕ} {f : List ℕ} {at : ℕ} {room : List ℕ} {place b c : ℕ} {x y : List ℕ} → PutsLine k f at room x place b → PutsLine k f at room y place c → (b ≡ c) × (x ≡ y)
-tested {room = room} {place = place} {b = b} {x = x} p q =
-    one-put (subst (λ (t : List ℕ). Put room x place b t) (one-line (p .text) (q .text) (p .is) (q .is)) (p .put)) (q .put)
+tested p q = one-puts one-line p q
 
 -- next: what the search finds is the same, and then its line, and then what is put
 abbrev with : ℕ → Found → Listed

@@ -1,3 +1,4 @@
 pub mod Puts
 pub mod Wrote
 pub mod Right
+pub mod Sizes

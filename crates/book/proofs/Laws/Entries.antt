@@ -171,7 +171,7 @@ module _ {s : List ℕ} {n : ℕ} (few : n < 65536) (p : NumberAt s (length s - 
 pub counts-trailed : {s : List ℕ} {n : ℕ} → Counts s n → Trailed s n
 counts-trailed {s} c = subst (Trailed s) (sym (c .is)) (book-trailed (c .valid))
 
-pub opened : {s : List ℕ} {n size : ℕ} {places : List ℕ} → Trailed s n → size ≡ 4 * n + 6 → FillsNoted s n (length s - size) 0 0 places → 2 * n ≤ length places
+pub opened : {s : List ℕ} {n size : ℕ} {places : List ℕ} → Trailed s n → size ≡ 4 * n + 6 → FillsNoted s n (length s - size) 0 0 places → 2000 ≤ length places
     → OpensNoting s places (Count n)
 opened {s} {n = n} {places = places} t e noted h =
     let f = subst (λ (k : ℕ). FillsNoted s n (length s - k) 0 0 places) e noted in

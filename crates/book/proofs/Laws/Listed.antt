@@ -2,12 +2,11 @@
 -- Assumes nothing.
 use mathlib.Core.Bool.{Bool, true, false, _||_, true≢false}
 use mathlib.Core.List.{List}
-use mathlib.Core.Path.{_≡_, sym, ap, _∙_, subst}
-use Prim.Native.Nat.{ℕ, _+_, _*_, _≤_, _<_}
+use mathlib.Core.Path.{_≡_, subst}
+use Prim.Native.Nat.{ℕ, _+_, _*_, _≤_}
 use native.Mathlib.Omega.{arith}
-use lib.Dec.{leb, eqb, lit<}
+use lib.Dec.{eqb, lit<}
 use lib.ListN.{length}
-use borrow.Author.Tests.{leb-true, leb-false, le-leb}
 use Rattle.digits.specs.Paper.Refusals.{order, First, clear, here, after}
 use Rattle.digits.specs.declared.refusal.Refusal.{Refusal}
 use Rattle.digits.specs.declared.refusal.Refusal.the-variants.{Room}
@@ -15,6 +14,8 @@ use Rattle.digits.proofs.Laws.Refusals.{some-number, pass-over}
 use Rattle.puts.specs.Paper.Right.{refused}
 use Rattle.puts.specs.declared.Written.the-variants.{Bytes, Refused}
 use Rattle.puts.proofs.Laws.Right.{as-right}
+use Rattle.puts.proofs.Laws.Sizes.{too-small, large-enough}
+use Rattle.puts.proofs.Laws.Sizes as sizes
 use Rattle.puts.proofs.Laws.Wrote.{wrote-by}
 use Rattle.book.specs.Paper.Answers.{Counts, BookLines, ListCause, short, WritesBookLines}
 use Rattle.book.specs.Paper.Answers as answers
@@ -30,21 +31,10 @@ use Rattle.book.proofs.Laws.Entries.{counts-trailed, unopened, opens-so
 module _ {s : List ℕ} {count : ℕ} (k : Counts s count) where
   -- a place behind the lines in a room of any size
   pub measured : {room later : List ℕ} {n : ℕ} → PutsBookLines s room later 0 n → Sized s n
-  measured p =
-      record {
-        text = p .text;
-        lists = p .lists;
-        size = omega (arith, p .put .behind, book-lines-most k (p .lists), counts-trailed k .few, counts-trailed k .small);
-      }
+  measured p = sizes.measured p (omega (arith, book-lines-most k (p .right), counts-trailed k .few, counts-trailed k .small))
 
   pub always-fits : (n : ℕ) → 8 * length s + 40 * count ≤ n → Fits s n true
-  always-fits n h =
-      let l = book-lines (k .valid) in
-      let m : length (l .0) ≤ n = omega (arith, book-lines-most k (l .1)) in
-      record { text = l .0; lists = l .1; fits = sym (le-leb (length (l .0)) n m) }
-
-pub sized-fits : {s : List ℕ} {m : ℕ} (n : ℕ) → Sized s m → Fits s n (leb m n)
-sized-fits n l = record { text = l .text; lists = l .lists; fits = ap (λ (m : ℕ). leb m n) (l .size) }
+  always-fits n h = let l = book-lines (k .valid) in sizes.always-fits (l .0) (l .1) (omega (arith, book-lines-most k (l .1)))
 
 -- ---- the answers
 
@@ -60,19 +50,18 @@ module _ {s : List ℕ} {room : ℕ} where
   valid-book l (answers.no-book f) = f (l .all) (l .valid)
 
 pub list-refused-4 : {s room : List ℕ} → Fits s (length room) false → WritesBookLines s room (Refused Room) room
-list-refused-4 {s} {room} f =
-    let h : length room < length (f .text) = leb-false (length (f .text)) (length room) (sym (f .fits)) in
-    refused (lit< tt) (pass-over ours only order (after (valid-book (f .lists)) (here (short (f .lists) h))))
+list-refused-4 f = refused (lit< tt) (pass-over ours only order (after (valid-book (f .right)) (here (short (f .right) (too-small f)))))
 
 pub list-written : {s room later : List ℕ} {n : ℕ} → Fits s (length room) true → PutsBookLines s room later 0 n → WritesBookLines s room (Bytes n) later
 list-written {s} {room} f p =
-    let t = p .text in
-    let e : f .text ≡ t = one-book-lines (f .lists) (p .lists) in
-    let l : length t ≤ length room = leb-true (length t) (length room) (ap (λ (u : List ℕ). leb (length u) (length room)) (sym e) ∙ sym (f .fits)) in
-    as-right (p .lists) (wrote-by (pass-over ours only order (after (valid-book (p .lists)) (after (has-room t (p .lists) l) clear))) (p .put) l)
+    let l = has-room (p .right) in
+    as-right (p .right) (wrote-by (pass-over ours only order (after (valid-book (p .right)) (after not-short clear))) (p .put) l)
   where
-    has-room : (t : List ℕ) → BookLines s t → length t ≤ length room → ListCause s (length room) 4 → ⊥
-    has-room t b l (short {t = u} o g) = let e : length u ≡ length t = ap length (one-book-lines o b) in omega arith
+    has-room : {t : List ℕ} → BookLines s t → length t ≤ length room
+    has-room b = large-enough (λ x y. one-book-lines) f b
+
+    not-short : ListCause s (length room) 4 → ⊥
+    not-short (short b h) = omega (arith, has-room b)
 
 -- anything else than a valid book
 pub unopened-list : {s places : List ℕ} {r : Opened} {why : Refusal} (room : List ℕ) → OpensNoting s places r → r ≡ Unopened why → WritesBookLines s room (Refused why) room

@@ -22,7 +22,7 @@ use Rattle.frames.specs.declared.Whole.{Whole}
 use Rattle.frames.specs.declared.Whole.the-variants.{Is, Refused}
 use Rattle.frames.proofs.Laws.Kinds.{frame-known}
 use Rattle.book.specs.Paper.Book.{Entry, head, entryBytes, entries, offsets, book, Framed, none, also, Book}
-use Rattle.book.specs.Work.Reading.{NumberAt, Heads, Slots, holds as filled-slot, empty, Fills, Noted, none as noted-none, also as noted-also, FillsNoted, Turns, FillsNoting, noting, unfilled, Trailed}
+use Rattle.book.specs.Work.Reading.{NumberAt, Heads, Slots, holds as filled-slot, empty, Fills, Noted, none as noted-none, also as noted-also, FillsNoted, Agree, Turns, FillsNoting, noting, unfilled, Trailed}
 use Rattle.book.specs.declared.opening.Slot.the-variants.{Holds, Empty}
 use Rattle.book.proofs.Laws.Layout.{length-entry, length-offsets, ending, book-pieces, length-book}
 use Rattle.book.proofs.Laws.One.{kind-byte, entry-cut}
@@ -83,8 +83,8 @@ next-fill s count end i at places e es n r g l b p = record { fills = record { r
 
 module _ {s : List ℕ} {count end : ℕ} {places₀ places : List ℕ} {i at : ℕ} (inside : end + 4 * count ≤ length s) (small : length s ≤ 65536) (t : Turns s count end places₀ places i at) (more : i < count) where
   -- there is room for both places
-  pub second-place : (start : ℕ) → 2 * i + 1 < length (set places (2 * i) start)
-  second-place start = omega (arith, t .room, length-set places (2 * i) start)
+  pub second-place : (start : ℕ) → 1000 + i < length (set places i start)
+  second-place start = omega (arith, t .few, t .room, length-set places i start)
 
   next-of : Fills s count end i at → Next s count end i at
   next-of f = next-in (f .rest) more (f .framed) (f .left) (f .bytes) (f .places)
@@ -139,27 +139,32 @@ module _ {s : List ℕ} {count end : ℕ} {places₀ places : List ℕ} {i at : 
 
       -- what is noted in this turn
       abbrev newly : List ℕ
-      newly = set (set places (2 * i) start) (2 * i + 1) stop
+      newly = set (set places i start) (1000 + i) stop
 
-      module _ (later : List ℕ) (agree : (j : ℕ) → j < 2 * (i + 1) → getD later j 0 ≡ getD newly j 0) where
-        agree-before : (j : ℕ) → j < 2 * i → getD later j 0 ≡ getD places j 0
-        agree-before j h =
-            agree j (omega arith) ∙ getD-set-other (set places (2 * i) start) (2 * i + 1) j stop 0 (λ e. absurd (omega arith)) ∙ getD-set-other places (2 * i) j start 0 (λ e. absurd (omega arith))
+      module _ (later : List ℕ) (agree : Agree later newly (i + 1)) where
+        -- what is noted at another place is as it was
+        kept : (j : ℕ) → (j ≡ i → ⊥) → (j ≡ 1000 + i → ⊥) → getD newly j 0 ≡ getD places j 0
+        kept j a b = getD-set-other (set places i start) (1000 + i) j stop 0 b ∙ getD-set-other places i j start 0 a
 
-        this-start : getD later (2 * i) 0 ≡ start
+        agree-before : Agree later places i
+        agree-before =
+            record {
+              starts = λ j h. agree .starts j (omega arith) ∙ kept j (λ e. absurd (omega arith)) (λ e. absurd (omega arith));
+              stops = λ j h. agree .stops j (omega arith) ∙ kept (1000 + j) (λ e. absurd (omega (arith, t .few))) (λ e. absurd (omega arith));
+            }
+
+        this-start : getD later i 0 ≡ start
         this-start =
-            agree (2 * i) (omega arith) ∙ getD-set-other (set places (2 * i) start) (2 * i + 1) (2 * i) stop 0 (λ e. absurd (omega arith))
-            ∙ getD-set-same places (2 * i) start 0 (omega (arith, t .room))
+            agree .starts i (omega arith) ∙ getD-set-other (set places i start) (1000 + i) i stop 0 (λ e. absurd (omega arith))
+            ∙ getD-set-same places i start 0 (omega (arith, t .few, t .room))
 
-        this-stop : getD later (2 * i + 1) 0 ≡ stop
-        this-stop =
-            agree (2 * i + 1) (omega arith)
-            ∙ getD-set-same (set places (2 * i) start) (2 * i + 1) stop 0 (omega (arith, t .room, length-set places (2 * i) start))
+        this-stop : getD later (1000 + i) 0 ≡ stop
+        this-stop = agree .stops i (omega arith) ∙ getD-set-same (set places i start) (1000 + i) stop 0 (second-place start)
 
-        this-noted : OneFrame kind (part from to s) (record { from = getD later (2 * i) 0; to = getD later (2 * i + 1) 0 })
+        this-noted : OneFrame kind (part from to s) (record { from = getD later i 0; to = getD later (1000 + i) 0 })
         this-noted = subst₂ (λ (x y : ℕ). OneFrame kind (part from to s) (record { from = x; to = y })) (sym this-start) (sym this-stop) o
 
-      turn-back : (later : List ℕ) → ((j : ℕ) → j < 2 * (i + 1) → getD later j 0 ≡ getD newly j 0) → FillsNoted s count end (i + 1) to later
+      turn-back : (later : List ℕ) → Agree later newly (i + 1) → FillsNoted s count end (i + 1) to later
           → FillsNoted s count end i at later
       turn-back later agree g =
           let f = g .fills in
@@ -168,21 +173,22 @@ module _ {s : List ℕ} {count end : ℕ} {places₀ places : List ℕ} {i at : 
           (sym (part-join (end + 4 * i) (end + 4 * i + 4) (end + 4 * count) s (omega arith) (omega arith))
           ∙ ap₂ (λ (x y : List ℕ). x ++ y) here (ap (λ (x : ℕ). part x (end + 4 * count) s) over ∙ f .places ∙ ap (λ (x : ℕ). offsets x (f .rest)) size))
 
-    pub turn : Slots s at end (Holds kind from to start stop) → Turns s count end places₀ (set (set places (2 * i) start) (2 * i + 1) stop) (i + 1) to
+    pub turn : Slots s at end (Holds kind from to start stop) → Turns s count end places₀ (set (set places i start) (1000 + i) stop) (i + 1) to
     turn (filled-slot forward forth l o b) =
         record {
           place-in = l;
           turn-in = omega arith;
-          room = omega (arith, t .room, length-set places (2 * i) start, length-set (set places (2 * i) start) (2 * i + 1) stop);
-          same = length-set (set places (2 * i) start) (2 * i + 1) stop ∙ length-set places (2 * i) start ∙ t .same;
+          few = t .few;
+          room = omega (arith, t .room, length-set places i start, length-set (set places i start) (1000 + i) stop);
+          same = length-set (set places i start) (1000 + i) stop ∙ length-set places i start ∙ t .same;
           onward = λ f. next-turn forward forth l o b (t .onward f);
           whole = λ later agree f. t .whole later (agree-before forward forth l o b later agree) (turn-back forward forth l o b later agree f);
         }
 
 -- ---- all of them
 
-pub no-turns : (s : List ℕ) (count end : ℕ) (places : List ℕ) → 2 * count ≤ length places → Turns s count end places places 0 0
-no-turns s count end places h = record { place-in = omega arith; turn-in = omega arith; room = h; same = refl; onward = λ f. f; whole = λ later agree f. f }
+pub no-turns : (s : List ℕ) (count end : ℕ) (places : List ℕ) → count ≤ 1000 → 2000 ≤ length places → Turns s count end places places 0 0
+no-turns s count end places few h = record { place-in = omega arith; turn-in = omega arith; few = few; room = h; same = refl; onward = λ f. f; whole = λ later agree f. f }
 
 none-left : (s : List ℕ) (end at : ℕ) (rest : List Entry) → at ≤ end → end ≤ length s → length rest ≡ 0 → part at end s ≡ entries rest → at ≡ end
 unfolding entries
@@ -201,11 +207,11 @@ pub turns-end : {s : List ℕ} {count end : ℕ} {places₀ places : List ℕ} {
 turns-end {s} {count} {end} {places = places} {i = i} {at = at} inside t h = go (eqb at end) refl
   where
     go : (b : Bool) → eqb at end ≡ b → FillsNoting s count end places b
-    go true e = noting (t .whole places (λ j l. refl) (all-left s count end i at places (eqb-true at end e) (omega (arith, t .turn-in)))) (t .room)
+    go true e = noting (t .whole places (record { starts = λ j l. refl; stops = λ j l. refl }) (all-left s count end i at places (eqb-true at end e) (omega (arith, t .turn-in)))) (t .room)
     go false e = unfilled (λ f. let g = t .onward f in eqb-false at end e (none-left s end at (g .rest) (t .place-in) (omega arith) (omega (arith, g .left)) (g .bytes)))
 
 -- what the loop answers
-pub noted-in : {s : List ℕ} {count end : ℕ} {places : List ℕ} {b : Bool} → FillsNoting s count end places b → b ≡ true → (f : FillsNoted s count end 0 0 places) × (2 * count ≤ length places)
+pub noted-in : {s : List ℕ} {count end : ℕ} {places : List ℕ} {b : Bool} → FillsNoting s count end places b → b ≡ true → (f : FillsNoted s count end 0 0 places) × (2000 ≤ length places)
 noted-in (noting f h) e = (f, h)
 noted-in (unfilled f) e = absurd (true≢false (sym e))
 

@@ -2,7 +2,7 @@
 -- Assumes nothing.
 use mathlib.Core.List.{List, [], _∷_, _++_}
 use mathlib.Core.Path.{_≡_, refl, sym, ap, _∙_, subst, subst₂}
-use Prim.Native.Nat.{ℕ, _+_, _*_, _≤_, _<_}
+use Prim.Native.Nat.{ℕ, _+_, _≤_, _<_}
 use native.Mathlib.Omega.{arith}
 use lib.ListN.{length, getD}
 use Rattle.digits.specs.Paper.Bytes.{part}
@@ -35,14 +35,14 @@ started {s} {count = count} x h =
       bytes = pieces-of s es (0 + length (entries es)) (k .valid .is) (omega (arith, book-size (k .valid))) .0;
       place = h;
       same = refl;
-      whole = λ later behind t l p. record { text = t; lists = record { all = es; valid = k .valid; lines = l }; put = p };
+      whole = λ later behind t l p. record { text = t; right = record { all = es; valid = k .valid; lines = l }; put = p };
     }
 
 -- ---- what stands there
 
 -- what is noted of them
 first-noted : {places : List ℕ} {i : ℕ} {e : Entry} {es : List Entry} → Noted places i (e ∷ es)
-    → OneFrame (e .kind) (e .frame) (record { from = getD places (2 * i) 0; to = getD places (2 * i + 1) 0 })
+    → OneFrame (e .kind) (e .frame) (record { from = getD places i 0; to = getD places (1000 + i) 0 })
 first-noted (noted-also o n) = o
 
 rest-noted : {places : List ℕ} {i : ℕ} {e : Entry} {es : List Entry} → Noted places i (e ∷ es) → Noted places (i + 1) es
@@ -101,9 +101,9 @@ module _ {s places room room₀ : List ℕ} {to next count i place : ℕ} (c : C
       noted = subst (Noted places i) (an-entry .is) (c .noted)
 
       -- it was tested, and its payload's places are noted
-      pub tested-so : OneFrame kind (part from behind s) (record { from = getD places (2 * i) 0; to = getD places (2 * i + 1) 0 })
+      pub tested-so : OneFrame kind (part from behind s) (record { from = getD places i 0; to = getD places (1000 + i) 0 })
       tested-so =
-          subst₂ (λ (k : ℕ) (f : List ℕ). OneFrame k f (record { from = getD places (2 * i) 0; to = getD places (2 * i + 1) 0 }))
+          subst₂ (λ (k : ℕ) (f : List ℕ). OneFrame k f (record { from = getD places i 0; to = getD places (1000 + i) 0 }))
           (sym (says .0)) (sym (says .3)) (first-noted noted)
 
       -- ---- its line
@@ -117,7 +117,7 @@ module _ {s places room room₀ : List ℕ} {to next count i place : ℕ} (c : C
           let w : behind ≡ place + length (entryBytes entry) = says .1 in
           let z : behind + length (entries later) ≡ end = omega (arith, sizes) in
           let own : LineOf (entry .kind) (entry .frame) place t =
-          subst₂ (λ (k : ℕ) (f : List ℕ). LineOf k f place t) (says .0) (says .3) (p .is) in
+          subst₂ (λ (k : ℕ) (f : List ℕ). LineOf k f place t) (says .0) (says .3) (p .right) in
           record {
             rest = later;
             noted = rest-noted noted;

@@ -43,10 +43,10 @@ pub record Fills (s : List ℕ) (count end i at : ℕ) : Type 0 where
   pub bytes : part at end s ≡ entries rest
   pub places : part (end + 4 * i) (end + 4 * count) s ≡ offsets at rest
 
--- the places of the payloads of entries in their frames, two numbers an entry, those of the first from 2 i on
+-- the places of the payloads of entries in their frames: where that of the first begins stands at i, and where it ends, `mostEntries` behind
 pub data Noted (places : List ℕ) : ℕ → List Entry → Type 0 where
   none : {i : ℕ} → Noted places i []
-  also : {i : ℕ} {e : Entry} {es : List Entry} → OneFrame (e .kind) (e .frame) (record { from = getD places (2 * i) 0; to = getD places (2 * i + 1) 0 })
+  also : {i : ℕ} {e : Entry} {es : List Entry} → OneFrame (e .kind) (e .frame) (record { from = getD places i 0; to = getD places (mostEntries + i) 0 })
       → Noted places (i + 1) es → Noted places i (e ∷ es)
 
 -- such entries, with the places noted
@@ -54,24 +54,30 @@ pub record FillsNoted (s : List ℕ) (count end i at : ℕ) (places : List ℕ) 
   pub fills : Fills s count end i at
   pub noted : Noted places i (fills .rest)
 
+-- what is noted of the first i entries is the same in both
+pub record Agree (later places : List ℕ) (i : ℕ) : Type 0 where
+  pub starts : (j : ℕ) → j < i → getD later j 0 ≡ getD places j 0
+  pub stops : (j : ℕ) → j < i → getD later (mostEntries + j) 0 ≡ getD places (mostEntries + j) 0
+
 -- a loop's turns so far: the rest fills the book exactly where the whole does, and what is noted of the rest completes what is noted
 pub record Turns (s : List ℕ) (count end : ℕ) (places₀ places : List ℕ) (i at : ℕ) : Type 0 where
   pub place-in : at ≤ end
   pub turn-in : i ≤ count
-  pub room : 2 * count ≤ length places
+  pub few : count ≤ mostEntries
+  pub room : 2000 ≤ length places
   pub same : length places ≡ length places₀
   pub onward : Fills s count end 0 0 → Fills s count end i at
-  pub whole : (later : List ℕ) → ((j : ℕ) → j < 2 * i → getD later j 0 ≡ getD places j 0) → FillsNoted s count end i at later → FillsNoted s count end 0 0 later
+  pub whole : (later : List ℕ) → Agree later places i → FillsNoted s count end i at later → FillsNoted s count end 0 0 later
 
 -- r tells whether entries fill the book, and where they do, the places are noted
 pub data FillsNoting (s : List ℕ) (count end : ℕ) (places : List ℕ) : Bool → Type 0 where
-  noting : FillsNoted s count end 0 0 places → 2 * count ≤ length places → FillsNoting s count end places true
+  noting : FillsNoted s count end 0 0 places → 2000 ≤ length places → FillsNoting s count end places true
   unfilled : (Fills s count end 0 0 → ⊥) → FillsNoting s count end places false
 
 -- s is a book of so many entries, and the places of their payloads are noted
 pub record Noting (s : List ℕ) (count : ℕ) (places : List ℕ) : Type 0 where
   pub counts : Counts s count
-  pub room : 2 * count ≤ length places
+  pub room : 2000 ≤ length places
   pub noted : Noted places 0 (counts .all)
 
 -- what opening answers, with the places noted

@@ -4,10 +4,11 @@ use mathlib.Core.Bool.{Bool}
 use mathlib.Core.List.{List, [], _∷_, _++_}
 use mathlib.Core.Path.{_≡_}
 use Prim.Native.Nat.{ℕ, suc, _+_, _≤_}
-use lib.Dec.{leb}
 use lib.ListN.{length}
 use Rattle.digits.specs.Paper.Bytes.{part}
 use Rattle.puts.specs.Paper.Put.{Put, last}
+use Rattle.puts.specs.Paper.Right.{PutsRight}
+use Rattle.puts.specs.Work.Right.{SizedRight, FitsRight}
 use Rattle.book.specs.Paper.Book.{Entry, entries, book, Framed, mostEntries, mostBytes, Book}
 use Rattle.book.specs.Paper.Answers.{EntryLines, BookLines}
 use Rattle.book.specs.Work.Reading.{Noted}
@@ -28,10 +29,8 @@ pub record PutsAdded (s : List ℕ) (e : Entry) (room later : List ℕ) (next : 
 -- ---- the lines
 
 -- the lines of a book are put at a place of the room
-pub record PutsBookLines (s room later : List ℕ) (at next : ℕ) : Type 0 where
-  pub text : List ℕ
-  pub lists : BookLines s text
-  pub put : Put room later at next text
+abbrev pub PutsBookLines : List ℕ → List ℕ → List ℕ → ℕ → ℕ → Type 0
+PutsBookLines s room later at next = PutsRight (BookLines s) room later at next
 
 -- a loop's turns so far: the entries that are left, and that their lines, put from here on, complete the lines of the book
 pub record Completes (s places room room₀ : List ℕ) (to next count i at : ℕ) : Type 0 where
@@ -46,13 +45,9 @@ pub record Completes (s places room room₀ : List ℕ) (to next count i at : �
   pub whole : (later : List ℕ) (behind : ℕ) (t : List ℕ) → EntryLines at rest t → Put room₀ later next behind t → PutsBookLines s room later to behind
 
 -- the lines of a book are n bytes long
-pub record Sized (s : List ℕ) (n : ℕ) : Type 0 where
-  pub text : List ℕ
-  pub lists : BookLines s text
-  pub size : n ≡ length text
+abbrev pub Sized : List ℕ → ℕ → Type 0
+Sized s n = SizedRight (BookLines s) n
 
 -- r tells whether a room of n bytes has room for them
-pub record Fits (s : List ℕ) (n : ℕ) (r : Bool) : Type 0 where
-  pub text : List ℕ
-  pub lists : BookLines s text
-  pub fits : r ≡ leb (length text) n
+abbrev pub Fits : List ℕ → ℕ → Bool → Type 0
+Fits s n r = FitsRight (BookLines s) n r

@@ -9,8 +9,7 @@ use native.Mathlib.Omega.{arith}
 use lib.Dec.{T}
 use lib.ListN.{length, take, getD, length-append}
 use lib.Seq.{take-suc, take-all}
-use Rattle.digits.proofs.Laws.Hex.{place-lt}
-use Rattle.digits.proofs.Laws.LowFirst.{length-low}
+use Rattle.digits.proofs.Laws.Hex.{length-hex, place-lt}
 use Rattle.digits.proofs.Laws.Parts.{part-front, take-ats}
 use Rattle.digits.proofs.Laws.Reads.{answered, refused}
 use Rattle.digits.proofs.Laws.Tests.{T-true}
@@ -27,13 +26,14 @@ use Rattle.checks.proofs.Laws.Feed.{feed-append}
 use Rattle.checks.specs.Paper.Buses.{nikobusCrc16, nikobusCrc8, nestCrc, nibeXor, homiqCrc}
 use Rattle.checks.specs.Paper.Check.{Check, feed, check}
 use Rattle.layouts.proofs.Laws.HexDigits.{digit-place, digit-hex, no-hex, length-byte, length-word, hex-append}
+use Rattle.layouts.proofs.Laws.Nest.{nest-size}
+use Rattle.layouts.proofs.Laws.Nibe.{nibe-size}
+use Rattle.layouts.proofs.Laws.Nikobus.{link-size}
 use Rattle.layouts.specs.Paper.Chars.{isHex, CR, LF}
 use Rattle.layouts.specs.Paper.Homiq.{kept}
 use Rattle.layouts.specs.Paper.Layout.{bytesOf}
 use Rattle.layouts.specs.Paper.Made.{linkOf, nestOf, nibeOf}
-use Rattle.layouts.specs.Paper.Nest as nests
 use Rattle.layouts.specs.Paper.Nest.{nestWith}
-use Rattle.layouts.specs.Paper.Nibe as nibes
 use Rattle.layouts.specs.Paper.Nibe.{nibe}
 use Rattle.layouts.specs.Paper.Nikobus.{link, press, linkChecked, nikobus}
 use Rattle.puts.specs.Paper.Put.{Put}
@@ -41,11 +41,6 @@ use Rattle.puts.proofs.Laws.Puts.{put-length, _then_, puts-as, front-count, fro
 use Rattle.builds.specs.Work.Homiq.{around}
 
 -- ---- Nikobus
-
-length-hex : (p : List ℕ) → length (hexBytes p) ≡ length p * 2
-unfolding hexBytes
-length-hex [] = refl
-length-hex (b ∷ p) = omega (arith, length-append (hexByte b) (hexBytes p), length-byte b, length-hex p)
 
 module _ (p : List ℕ) where
   pub length-checked : (crc16 : ℕ) → length (linkChecked p crc16) ≡ length p * 2 + 7
@@ -62,12 +57,7 @@ module _ (p : List ℕ) where
       regroup a b c d = simp append-assoc
 
   pub length-link : length p * 2 + 10 ≡ length (bytesOf nikobus (linkOf p))
-  length-link = go (check nikobusCrc16 p) (check nikobusCrc8 (linkChecked p (check nikobusCrc16 p)))
-    where
-      go : (crc16 crc8 : ℕ) → length p * 2 + 10 ≡ length (bytesOf nikobus (link p crc16 crc8))
-      go crc16 crc8 =
-          let a : List ℕ = linkChecked p crc16 in
-          omega (arith, ap length (link-closed crc16 crc8), length-append (a ++ hexByte crc8) (CR ∷ []), length-append a (hexByte crc8), length-byte crc8, length-checked crc16)
+  length-link = sym (link-size p (check nikobusCrc16 p) (check nikobusCrc8 (linkChecked p (check nikobusCrc16 p))))
 
 -- no byte, in digits, and one byte more
 pub no-digits : [] ≡ hexBytes []
@@ -85,12 +75,7 @@ digits-step s i h p q =
 
 module _ (mark : List ℕ) (i : ℕ) (p : List ℕ) where
   pub length-nest : length mark + 4 + length p + 2 ≡ length (bytesOf (nestWith mark) (nestOf i p))
-  length-nest =
-      let n = length p in
-      let x = check nestCrc (nests.covered i p) in
-      let a : List ℕ = mark ++ lowFirst 2 i in
-      let b : List ℕ = a ++ lowFirst 2 n in
-      omega (arith, length-append (b ++ p) (lowFirst 2 x), length-append b p, length-append a (lowFirst 2 n), length-append mark (lowFirst 2 i), length-low 2 i, length-low 2 n, length-low 2 x)
+  length-nest = omega (arith, nest-size mark (nestOf i p))
 
 -- a check in two pieces
 two-fed : (c : Check) (v x y : ℕ) (a b : List ℕ) → v ≡ c .start → x ≡ feed c v a → y ≡ feed c x b → y ≡ check c (a ++ b)
@@ -99,10 +84,7 @@ two-fed c v x y a b ev ex ey = ey ∙ ap (λ (k : ℕ). feed c k b) (ex ∙ ap (
 -- ---- Nibe
 
 pub length-nibe : (c : ℕ) (d : List ℕ) → length d + 4 ≡ length (bytesOf nibe (nibeOf c d))
-length-nibe c d =
-    let x = check nibeXor (nibes.covered d) in
-    let b : List ℕ = 0xC0 ∷ c ∷ length d ∷ [] in
-    omega (arith, length-append (b ++ d) (x ∷ []), length-append b d)
+length-nibe c d = sym (nibe-size (nibeOf c d))
 
 -- ---- the parts as the code puts them
 

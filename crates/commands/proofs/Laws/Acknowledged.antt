@@ -98,7 +98,7 @@ only k e (no-frame g) = true≢false e
 only k e (answered q t) = true≢false e
 only k e (short q h) = true≢false e
 
-one-frame-of : {f : List ℕ} {v w : Wire} → FrameOf f v → FrameOf f w → v ≡ w
+pub one-frame-of : {f : List ℕ} {v w : Wire} → FrameOf f v → FrameOf f w → v ≡ w
 one-frame-of {f} {v} {w} q r = ap wireOf (one-homiq (homiqOf v) (homiqOf w) (q .limits) (r .limits) (sym (q .frame) ∙ r .frame))
 
 module _ {p f : List ℕ} {w : Wire} (x : Payload p w) (is : FrameOf f w) where

@@ -1,9 +1,9 @@
 -- A frame read again: the row of what it is decoded to says whether a message above has its content.
 -- Assumes nothing.
 use mathlib.Core.Path.{_≡_, refl, sym, _∙_, ap, subst}
-use mathlib.Core.Bool.{true, false, true≢false}
-use mathlib.Core.List.{List, []}
-use mathlib.Core.Logic.{_⊎_, ⊎-elim}
+use mathlib.Core.Bool.{true, true≢false}
+use mathlib.Core.List.{List}
+use mathlib.Core.Logic.{⊎-elim}
 use Prim.Native.Nat.{ℕ, _≤_, _<_}
 use native.Mathlib.Omega.{arith}
 use Rattle.digits.proofs.Laws.Refusals.{cause-at, some-number}
@@ -12,21 +12,14 @@ use Rattle.frames.specs.Paper.Kinds.{Frame, known}
 use Rattle.messages.specs.Paper.Answers.{Stands, DecodeCause, no-kind, no-message, Decodes, is, refused}
 use Rattle.messages.specs.Paper.Fields.{Fields, onNikobus, asCommand, asResponse, onNibe, onHomiq, kindOf}
 use Rattle.messages.specs.Paper.Message.{Message, row}
-use Rattle.messages.specs.Paper.Says.{ofNikobus, ofResponse, ofNibe, ofHomiq, SaysNikobus, digits, fixed, Says}
+use Rattle.messages.specs.Paper.Says.{ofHomiq, Says}
 use Rattle.messages.specs.Paper.Table.{fields, bytes, Limits, Above}
 use Rattle.messages.specs.Work.Look.{look}
 use Rattle.messages.specs.declared.Decoded.{Decoded}
 use Rattle.messages.specs.declared.Message.{Message as Coded}
-use Rattle.messages.specs.declared.Message.the-variants.{Nikobus as OnNikobus, Command, Response as AsResponse, Nibe as OnNibe, Homiq as OnHomiq}
-use Rattle.messages.specs.declared.nikobus.Nikobus.{Nikobus}
-use Rattle.messages.specs.declared.nikobus.Nikobus.the-variants.{Read, Set, Answer, Press, Tail, Link}
-use Rattle.messages.specs.declared.nest.Response.{Response}
-use Rattle.messages.specs.declared.nest.Response.the-variants.{Climate, State, Break, End, Text, Response as Other}
-use Rattle.messages.specs.declared.nibe.Nibe.{Nibe}
-use Rattle.messages.specs.declared.nibe.Nibe.the-variants.{Ask, Reply, Put, Done, Nibe as Plain}
 use Rattle.messages.specs.declared.homiq.Homiq.{Homiq}
-use Rattle.messages.specs.declared.homiq.Homiq.the-variants.{Output, Input, Shutter, Beat, Homiq as Rest}
 use Rattle.messages.proofs.Laws.Frames.{one-fields}
+use Rattle.messages.proofs.Laws.Says.{homiq-case, case-of}
 use Rattle.messages.proofs.Laws.Table.{found, fit, only}
 use Rattle.messages.proofs.Theorems.{has-message, bytes-frame}
 use Rattle.puts.specs.Paper.Wrote.{RoomCause, Writes}
@@ -35,51 +28,17 @@ use Rattle.puts.specs.declared.Written.the-variants.{Refused as NotWritten}
 use Rattle.digits.specs.declared.refusal.Refusal.the-variants.{Above as TakenAbove}
 use lib.ListN.{length}
 use Rattle.commands.specs.Work.Answers.{WritesFront}
-use Rattle.commands.specs.Work.Places.{nikobusRow, responseRow, nibeRow, homiqRow, rowIn, rowOf}
+use Rattle.commands.specs.Work.Places.{homiqRow, rowIn, rowOf}
+use Rattle.commands.proofs.Laws.Kinds.{case-told}
 use Rattle.commands.proofs.Laws.Written.{has-above, fronted, the-only}
 
--- ---- the row of what the code says is the message's
-
-nikobus-row : (e : Nikobus) (p : List ℕ) → row (ofNikobus e p) ≡ nikobusRow e
-nikobus-row (Read g a) p = refl
-nikobus-row (Set g a out) p = refl
-nikobus-row (Answer a third out) p = refl
-nikobus-row (Press d) p = refl
-nikobus-row Tail p = refl
-nikobus-row Link p = refl
-
-response-row : (e : Response) (p : List ℕ) → row (ofResponse e p) ≡ responseRow e
-response-row (Climate t h) p = refl
-response-row State p = refl
-response-row Break p = refl
-response-row End p = refl
-response-row (Text i) p = refl
-response-row (Other i) p = refl
-
-nibe-row : (e : Nibe) (d : List ℕ) → row (ofNibe e d) ≡ nibeRow e
-nibe-row (Ask r) d = refl
-nibe-row (Reply v) d = refl
-nibe-row (Put v) d = refl
-nibe-row (Done ok) d = refl
-nibe-row (Plain c) d = refl
+-- ---- what the code says has the message's row
 
 pub homiq-row : (e : Homiq) (w : Wire) → row (ofHomiq e w) ≡ homiqRow e
-homiq-row Output w = refl
-homiq-row Input w = refl
-homiq-row Shutter w = refl
-homiq-row Beat w = refl
-homiq-row Rest w = refl
-
-said-nikobus : (e : Nikobus) (s : List ℕ) (m : Message) → SaysNikobus e s m → row m ≡ nikobusRow e
-said-nikobus e s m (digits h b d i) = ap row i ∙ ap nikobusRow (sym h)
-said-nikobus e s m (fixed h i) = ap row i ∙ nikobus-row e []
+homiq-row e w = case-told (ofHomiq e w) .0 ∙ ap rowIn (homiq-case e w)
 
 pub said-row : (e : Coded) (s : List ℕ) (m : Message) → Says e s m → row m ≡ rowIn e
-said-row (OnNikobus e) s m a = said-nikobus e s m a
-said-row (Command i) s m a = ap row a
-said-row (AsResponse e) s m a = ap row a ∙ response-row e s
-said-row (OnNibe e) s m a = ap row a ∙ nibe-row e s
-said-row (OnHomiq e) s m a = ap row (a .is) ∙ homiq-row e (a .wire)
+said-row e s m a = case-told m .0 ∙ ap rowIn (case-of e s m a)
 
 -- ---- the frame of a message within its limits
 

@@ -37,7 +37,8 @@ use Rattle.messages.proofs.Laws.HomiqRows.{homiq-found}
 use Rattle.messages.proofs.Laws.HomiqTests.{output-which, input-which, shutter-which, beat-which}
 use Rattle.messages.proofs.Laws.Says.{one-said}
 use Rattle.messages.proofs.Theorems.{one-message-of}
-use Rattle.commands.specs.Paper.Answers.{outside, WritesMessage}
+use Rattle.commands.specs.Paper.Answers.{outside}
+use Rattle.commands.specs.Work.Answers.{WritesMessage}
 use Rattle.commands.specs.Work.Places.{homiqRow, rowOf}
 use Rattle.commands.proofs.Laws.Again.{homiq-row, said-row, never-refused, above-of}
 use Rattle.commands.proofs.Laws.Aside.{in-front}

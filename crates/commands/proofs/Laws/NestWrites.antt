@@ -42,8 +42,7 @@ use Rattle.messages.specs.Paper.Table.{fields, Sized, textIds}
 use Rattle.messages.specs.Work.Look.{look}
 use Rattle.messages.specs.declared.nest.Response.{Response as Coded}
 use Rattle.messages.specs.declared.nest.Response.the-variants.{Climate}
-use Rattle.commands.specs.Paper.Answers.{WritesMessage}
-use Rattle.commands.specs.Work.Answers.{Only, WritesFront}
+use Rattle.commands.specs.Work.Answers.{WritesMessage, Only, WritesFront}
 use Rattle.commands.proofs.Laws.Aside.{as-message, sized-sure, built-aside, refused-aside}
 use Rattle.commands.proofs.Laws.NikobusWrites.{low-two, behind-address}
 use Rattle.commands.proofs.Laws.Written.{not-within, the-only}

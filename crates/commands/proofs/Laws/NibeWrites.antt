@@ -12,7 +12,7 @@ use Rattle.digits.specs.Paper.LowFirst.{Width, four, Held, lowFirst}
 use Rattle.digits.specs.Paper.Read.{Tells, holds, fails}
 use Rattle.digits.specs.declared.refusal.Refusal.{Refusal}
 use Rattle.digits.specs.declared.refusal.Refusal.the-variants.{Limits as OutsideLimits}
-use Rattle.digits.proofs.Laws.LowFirst.{low-take, no-width}
+use Rattle.digits.proofs.Laws.LowFirst.{width-most, low-take, no-width}
 use Rattle.digits.proofs.Laws.Parts.{part-front}
 use Rattle.digits.proofs.Laws.Refusals.{some-number}
 use Rattle.puts.specs.declared.Written.{Written}
@@ -31,10 +31,9 @@ use Rattle.messages.specs.Paper.Says.{ofNibe}
 use Rattle.messages.specs.Paper.Table.{valued, fields, Limits}
 use Rattle.messages.specs.Work.Look.{look}
 use Rattle.messages.specs.declared.nibe.Nibe.{Nibe}
-use Rattle.messages.proofs.Laws.NibeRows.{at-most-four, ask-found, reply-found, put-found, done-found}
+use Rattle.messages.proofs.Laws.NibeRows.{ask-found, reply-found, put-found, done-found}
 use Rattle.messages.proofs.Laws.Table.{fit}
-use Rattle.commands.specs.Paper.Answers.{WritesMessage}
-use Rattle.commands.specs.Work.Answers.{Only, WritesFront}
+use Rattle.commands.specs.Work.Answers.{WritesMessage, Only, WritesFront}
 use Rattle.commands.proofs.Laws.Aside.{as-message, sized-sure, built-aside, refused-aside}
 use Rattle.commands.proofs.Laws.Written.{not-within, the-only}
 
@@ -63,11 +62,11 @@ module _ {s : List ℕ} {w : ℕ} (reg v : ℕ) (e : s ≡ valued reg 4 v) (k : 
   valued-part =
       let z : w + 2 ≡ suc (suc w) = omega arith in
       part-front (w + 2) s ∙ ap (take (w + 2)) e ∙ ap (λ (n : ℕ). take n (valued reg 4 v)) z
-      ∙ ap (λ (l : List ℕ). lowFirst 2 reg ++ l) (low-take w 4 v (at-most-four k))
+      ∙ ap (λ (l : List ℕ). lowFirst 2 reg ++ l) (low-take w 4 v (width-most k))
 
   pub valued-inside : w + 2 ≤ length s
   unfolding lowFirst
-  valued-inside = let n : length s ≡ 6 = ap length e in omega (arith, at-most-four k)
+  valued-inside = let n : length s ≡ 6 = ap length e in omega (arith, width-most k)
 
 -- ---- frames built in the room
 

@@ -1,7 +1,7 @@
 -- What the functions that write Nikobus messages answer: the payload of each row, the bytes that digits are, and a link.
 -- Assumes nothing.
 use mathlib.Core.Path.{_≡_, refl, sym, ap, ap₂, _∙_, subst}
-use mathlib.Core.Bool.{Bool, true, false, not, true≢false}
+use mathlib.Core.Bool.{Bool, true, false, not}
 use mathlib.Core.List.{List, [], _∷_, _++_, append-assoc, append-nil}
 use Prim.Native.Nat.{ℕ, zero, suc, _+_, _*_, _/_, _%_, _≤_, _<_}
 use native.Mathlib.Numerals.{add-one}
@@ -20,7 +20,7 @@ use Rattle.digits.specs.declared.refusal.Refusal.{Refusal}
 use Rattle.digits.specs.declared.refusal.Refusal.the-variants.{Limits as OutsideLimits}
 use Rattle.digits.proofs.Laws.Refusals.{some-number}
 use Rattle.digits.proofs.Laws.Bytes.{bytes-nil, bytes-cons, bytes-append}
-use Rattle.digits.proofs.Laws.Hex.{length-hex, hex-inj}
+use Rattle.digits.proofs.Laws.Hex.{length-hex, digits-at, hex-inj}
 use Rattle.digits.proofs.Laws.Parts.{part-front}
 use Rattle.digits.proofs.Laws.Reads.{answered, refused}
 use Rattle.digits.proofs.Laws.Tests.{told, untold}
@@ -35,15 +35,16 @@ use Rattle.puts.specs.declared.Written.the-variants.{Bytes as Counted, Refused}
 use Rattle.builds.proofs.Laws.Bytes.{length-link}
 use Rattle.puts.proofs.Laws.Right.{refused-5}
 use Rattle.builds.specs.Paper.Builds.{Builds}
+use Rattle.messages.proofs.Laws.Links as links
 use Rattle.messages.proofs.Laws.NikobusRows.{read-found, set-found, answer-found, read-fit, set-fit, answer-fit}
 use Rattle.messages.specs.Paper.Message.{Message, read, set as setting, answer, press, tail, link}
 use Rattle.messages.specs.Paper.Says.{ofNikobus, SaysNikobus, digits, fixed}
 use Rattle.messages.specs.Paper.Table.{codeOf, fields, bytes, Group, SixBytes, Sized, Limits}
 use Rattle.messages.specs.Work.Look.{look}
 use Rattle.messages.specs.declared.nikobus.Nikobus.{Nikobus}
-use Rattle.messages.specs.declared.nikobus.Nikobus.the-variants.{Read, Set, Answer, Press, Tail, Link}
-use Rattle.commands.specs.Paper.Answers.{outside, WritesMessage}
-use Rattle.commands.specs.Work.Answers.{Only, WritesFront}
+use Rattle.messages.specs.declared.nikobus.Nikobus.the-variants.{Link}
+use Rattle.commands.specs.Paper.Answers.{outside}
+use Rattle.commands.specs.Work.Answers.{WritesMessage, Only, WritesFront}
 use Rattle.commands.specs.Work.Nikobus.{Unhexed, are, none}
 use Rattle.commands.proofs.Laws.Aside.{as-message, sized-sure, built-aside, refused-aside}
 use Rattle.commands.proofs.Laws.Written.{first-5, not-within, the-only, meant-as}
@@ -144,16 +145,6 @@ take-two d i h =
     ∙ ap₂ (λ (s : List ℕ) (x : ℕ). s ++ (x ∷ [])) (take-suc d (i * 2) 0 (omega arith)) (ap (λ (n : ℕ). getD d n 0) f)
     ∙ append-assoc (take (i * 2) d) (getD d (i * 2) 0 ∷ []) (getD d (i * 2 + 1) 0 ∷ [])
 
--- the digits of the byte at a place
-pair-at : (p : List ℕ) (i : ℕ) → i < length p → hexByte (getD p i 0) ≡ getD (hexBytes p) (i * 2) 0 ∷ getD (hexBytes p) (i * 2 + 1) 0 ∷ []
-unfolding hexBytes hexByte
-pair-at [] i h = absurd (omega arith)
-pair-at (b ∷ s) zero h = refl
-pair-at (b ∷ s) (suc i) h =
-    let e : suc (suc (i * 2)) ≡ suc i * 2 = omega arith in
-    let f : suc (suc (i * 2 + 1)) ≡ suc i * 2 + 1 = omega arith in
-    pair-at s i (omega arith) ∙ ap₂ (λ (m n : ℕ). getD (hexBytes (b ∷ s)) m 0 ∷ getD (hexBytes (b ∷ s)) n 0 ∷ []) e f
-
 one-byte : (b : ℕ) → hexBytes (b ∷ []) ≡ hexByte b
 unfolding hexBytes
 one-byte b = append-nil (hexByte b)
@@ -196,7 +187,7 @@ module _ (d : List ℕ) {most : ℕ} {room : List ℕ} where
       (λ p b f.
       let k : i < length p = omega (arith, counted p f) in
       let g : hexByte (getD p i 0) ≡ getD d (i * 2) 0 ∷ getD d (i * 2 + 1) 0 ∷ [] =
-      pair-at p i k ∙ ap (λ (s : List ℕ). getD s (i * 2) 0 ∷ getD s (i * 2 + 1) 0 ∷ []) (sym f) in
+      digits-at p i k ∙ ap (λ (s : List ℕ). getD s (i * 2) 0 ∷ getD s (i * 2 + 1) 0 ∷ []) (sym f) in
       refused (omega arith) (subst (ReadsByte (getD d (i * 2) 0) (getD d (i * 2 + 1) 0)) e digit) refl (getD p i 0) (b .bytes .each i) g)
       refl
 
@@ -239,24 +230,13 @@ link-by-digits {s} {buffer} {later} {n} room r (are {p = p} b d e f) z w = meant
 
 -- ---- the others take nothing from what stands beside them
 
-abbrev pub isLink : Nikobus → Bool
-isLink (Read g a) = false
-isLink (Set g a out) = false
-isLink (Answer a third out) = false
-isLink (Press d) = false
-isLink Tail = false
-isLink Link = true
-
-pub as-said : {e : Nikobus} (f : Nikobus) {s room later : List ℕ} (r : Written) → e ≡ f → isLink f ≡ false
+pub as-said : {e : Nikobus} (f : Nikobus) {s room later : List ℕ} (r : Written) → e ≡ f → links.isLink f ≡ false
     → WritesMessage (Only (ofNikobus f [])) room r later → WritesMessage (SaysNikobus e s) room r later
 as-said {e} f {s} {room} {later} r is h w =
-    subst (λ (x : Nikobus). WritesMessage (SaysNikobus x s) room r later) (sym is) (meant-as {room = room} (λ m q. fixed no q) back w)
+    subst (λ (x : Nikobus). WritesMessage (SaysNikobus x s) room r later) (sym is) (meant-as {room = room} (λ m q. fixed (links.no-link f h) q) back w)
   where
-    no : f ≡ Link → ⊥
-    no q = true≢false (sym (ap isLink q) ∙ h)
-
     back : (m : Message) → SaysNikobus f s m → Only (ofNikobus f []) m
-    back m (digits q b d i) = absurd (no q)
+    back m (digits q b d i) = absurd (links.no-link f h q)
     back m (fixed q i) = i
 
 pub link-said : {e : Nikobus} {s room later : List ℕ} (r : Written) → e ≡ Link → WritesMessage (SaysNikobus Link s) room r later → WritesMessage (SaysNikobus e s) room r later

@@ -1,13 +1,12 @@
 -- What a call answers that writes a message, way by way.
 -- Assumes nothing.
 use mathlib.Core.Path.{_≡_, refl, ap, subst}
-use mathlib.Core.Bool.{Bool, true, false, _||_, true≢false}
+use mathlib.Core.Bool.{Bool, false, _||_, true≢false}
 use mathlib.Core.List.{List}
 use Prim.Native.Nat.{ℕ, _≤_, _<_}
 use native.Mathlib.Omega.{arith}
-use lib.Dec.{eqb, leb, lit<}
+use lib.Dec.{eqb, lit<}
 use lib.ListN.{length}
-use borrow.Author.Tests.{leb-true, leb-false}
 use Rattle.digits.specs.Paper.Refusals.{order, First, clear, here, after}
 use Rattle.digits.specs.declared.refusal.Refusal.the-variants.{Limits as OutsideLimits, Above as TakenAbove}
 use Rattle.digits.proofs.Laws.Refusals.{cause-at, one-first, pass-over}
@@ -20,11 +19,12 @@ use Rattle.builds.specs.Paper.Builds.{BuildCause}
 use Rattle.puts.specs.Paper.Right.{WroteRight, wrote, refused}
 use Rattle.builds.proofs.Laws.Built.{is-outside, is-short}
 use Rattle.puts.proofs.Laws.Right.{recast, fronted-right}
+use Rattle.puts.proofs.Laws.Wrote.{by-size}
 use Rattle.messages.specs.Paper.Message.{Message}
 use Rattle.messages.proofs.Laws.Decode.{first-same}
 use Rattle.messages.specs.Paper.Table.{bytes, Limits, Above}
-use Rattle.commands.specs.Paper.Answers.{MessageCause, outside, taken, short, MeantBytes, WritesMessage}
-use Rattle.commands.specs.Work.Answers.{Only}
+use Rattle.commands.specs.Paper.Answers.{MessageCause, outside, taken, short, MeantBytes}
+use Rattle.commands.specs.Work.Answers.{WritesMessage, Only}
 
 -- ---- the first cause
 
@@ -77,13 +77,6 @@ module _ {Means : Message → Type 0} {n : ℕ} (m : Message) (meant : Means m) 
 bytes-of : {Means : Message → Type 0} (m : Message) → Means m → MeantBytes Means (bytes m)
 bytes-of m meant = record { message = m; meant = meant; is = refl }
 
-by-size : {b r : ℕ} {C : Type 0} → (b ≤ r → C) → (r < b → C) → C
-by-size {b} {r} {C} f g = go (leb b r) refl
-  where
-    go : (t : Bool) → leb b r ≡ t → C
-    go true e = f (leb-true b r e)
-    go false e = g (leb-false b r e)
-
 module _ {Means : Message → Type 0} (room : List ℕ) (m : Message) (meant : Means m) (one : (q : Message) → Means q → q ≡ m) where
   -- refused: outside its limits
   pub not-within : (Limits m → ⊥) → WritesMessage Means room (Refused OutsideLimits) room
@@ -110,7 +103,7 @@ module _ {Means : Message → Type 0} (room : List ℕ) (m : Message) (meant : M
 
     fits : First (BuildCause L (length room) (length (bytes m))) order 0 → length (bytes m) ≤ length room
     fits f =
-        by-size {b = length (bytes m)} {r = length room} (λ h. h)
+        by-size {r = length room} {b = length (bytes m)} (λ h. h)
         (λ h. absurd (not-outside f (λ e. omega arith) (λ l. let e = one-first f (is-short (to l) h) in omega arith)))
 
     refusing : (no : ℕ) → First (BuildCause L (length room) (length (bytes m))) order no → BuildCause L (length room) (length (bytes m)) no → First (MessageCause Means (length room)) order no

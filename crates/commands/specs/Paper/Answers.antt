@@ -34,10 +34,6 @@ pub record MeantBytes (Means : Message → Type 0) (bs : List ℕ) : Type 0 wher
   pub meant : Means message
   pub is : bs ≡ bytes message
 
--- r is the right answer, and `later` the right room afterwards, of writing the message that is meant
-abbrev pub WritesMessage : (Message → Type 0) → List ℕ → Written → List ℕ → Type 0
-WritesMessage Means room r later = WritesRight (MessageCause Means (length room)) (MeantBytes Means) room r later
-
--- and of encoding e, with s beside it, as a frame of kind k
+-- r is the right answer, and `later` the right room afterwards, of encoding e, with s beside it, as a frame of kind k
 abbrev pub Encodes : ℕ → Coded → List ℕ → List ℕ → Written → List ℕ → Type 0
 Encodes k e s room r later = WritesRight (EncodeCause k e s (length room)) (MeantBytes (Says e s)) room r later

@@ -3,7 +3,7 @@
 use mathlib.Core.Path.{_≡_, refl, sym, ap, ap₂, _∙_, subst}
 use mathlib.Core.Bool.{Bool, true, false, _&&_, _||_, cond}
 use mathlib.Core.List.{List, [], _∷_, _++_}
-use Prim.Native.Nat.{ℕ, _+_, _*_, _/_, _%_, _<_}
+use Prim.Native.Nat.{ℕ, zero, suc, _+_, _*_, _/_, _%_, _<_}
 use native.Mathlib.Omega.{arith}
 use lib.Dec.{T, eqb, leb, ltb, eqb→eq}
 use lib.ListN.{length, getD}
@@ -125,6 +125,16 @@ pub length-hex : (s : List ℕ) → length (hexBytes s) ≡ length s * 2
 unfolding hexBytes hexByte
 length-hex [] = refl
 length-hex (b ∷ s) = let h : length (hexBytes s) ≡ length s * 2 = length-hex s in omega arith
+
+-- the digits of the byte at a place
+pub digits-at : (p : List ℕ) (i : ℕ) → i < length p → hexByte (getD p i 0) ≡ getD (hexBytes p) (i * 2) 0 ∷ getD (hexBytes p) (i * 2 + 1) 0 ∷ []
+unfolding hexBytes hexByte
+digits-at [] i h = absurd (omega arith)
+digits-at (b ∷ p) zero h = refl
+digits-at (b ∷ p) (suc i) h =
+    let e : suc i * 2 ≡ suc (suc (i * 2)) = omega arith in
+    let f : suc (suc (i * 2)) + 1 ≡ suc (suc (i * 2 + 1)) = omega arith in
+    rw (e, f) (digits-at p i (omega arith))
 
 pub hex-inj : (s t : List ℕ) → Bytes s → Bytes t → hexBytes s ≡ hexBytes t → s ≡ t
 unfolding hexBytes hexByte

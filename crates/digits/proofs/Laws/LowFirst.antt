@@ -15,6 +15,11 @@ use Rattle.digits.specs.Work.LowFirst.{lowValue}
 use Rattle.digits.proofs.Laws.Reads.{refused}
 use Rattle.digits.proofs.Laws.Bytes.{bytes-nil, bytes-cons, bytes-head, bytes-tail, bytes-drop}
 
+pub width-most : {w : ℕ} → Width w → w ≤ 4
+width-most one = omega arith
+width-most two = omega arith
+width-most four = omega arith
+
 pub length-low : (w n : ℕ) → length (lowFirst w n) ≡ w
 unfolding lowFirst
 length-low zero n = refl

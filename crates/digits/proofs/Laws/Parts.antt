@@ -3,6 +3,7 @@
 use mathlib.Core.Path.{_≡_, refl, sym, ap, _∙_}
 use Prim.Native.Nat.{ℕ, zero, suc, _+_, _-_, _≤_, _<_}
 use mathlib.Core.List.{List, [], _∷_, _++_}
+use native.Mathlib.Numerals.{add-one}
 use native.Mathlib.Omega.{arith}
 use lib.ListN.{length, getD, take, drop, length-take, length-drop}
 use lib.Seq.{take-nil, take-all, take-add, take-take, take-at, drop-at, drop-drop, getD-take, getD-drop, drop-cons}
@@ -23,6 +24,10 @@ part-front e s = let z : e - 0 ≡ e = omega arith in rw z
 
 pub part-rest : (a : ℕ) (s : List ℕ) → part a (length s) s ≡ drop a s
 part-rest a s = take-all (length s - a) (drop a s) (omega (arith, length-drop a s))
+
+-- the element at a place, and what is left behind it
+pub next : (s : List ℕ) (i : ℕ) → i < length s → drop i s ≡ getD s i 0 ∷ drop (i + 1) s
+next s i h = rw (add-one, drop-cons s i 0)
 
 -- what the front of a list has from a place on
 pub front-rest : (a e : ℕ) (s : List ℕ) → a ≤ e → drop a (take e s) ≡ part a e s

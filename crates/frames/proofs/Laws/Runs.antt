@@ -2,11 +2,10 @@
 -- Assumes nothing.
 use mathlib.Core.List.{List, _∷_}
 use mathlib.Core.Path.{_≡_, refl}
-use Prim.Native.Nat.{ℕ, _+_, _≤_, _<_}
+use Prim.Native.Nat.{ℕ, _+_, _≤_}
 use native.Mathlib.Decide.{decLe}
 use native.Mathlib.Omega.{arith}
-use Rattle.digits.proofs.Laws.Refusals.{answered, cause-of}
-use Rattle.digits.specs.Paper.Refusals.{First, clear, here, after}
+use Rattle.digits.proofs.Laws.Refusals.{answered, cause-of, cause-at}
 use Rattle.digits.specs.declared.refusal.Refusal.the-variants.{NoFrame}
 use Rattle.frames.specs.Paper.Runs.{Run, InOrder, TakenUp}
 use Rattle.frames.specs.Paper.Search.{FrameAt, Hit, Leftmost, SearchCause, no-frame, no-kind, no-place, Searches}
@@ -18,13 +17,8 @@ pub leftmost : {k : ℕ} {s : List ℕ} {place start len from to : ℕ} → Sear
     → Leftmost k s place (record { start = start; len = len; from = from; to = to })
 leftmost a = answered a refl
 
-applies : {C : ℕ → Type 0} {l : List ℕ} {n : ℕ} → First C l n → 0 < n → C n
-applies clear h = absurd (omega arith)
-applies (here c) h = c
-applies (after f r) h = applies r h
-
 pub none-found : {k : ℕ} {s : List ℕ} {place : ℕ} → Searches k s place (Refused NoFrame) → (j m : ℕ) → place ≤ j → FrameAt k s j m → ⊥
-none-found {k} {s} {place} a = of 1 (applies (cause-of a) (omega arith)) refl
+none-found {k} {s} {place} a = of 1 (cause-at (cause-of a) (omega arith)) refl
   where
     of : (n : ℕ) → SearchCause k s place n → n ≡ 1 → (j m : ℕ) → place ≤ j → FrameAt k s j m → ⊥
     of n (no-frame f) e = f

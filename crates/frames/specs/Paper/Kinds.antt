@@ -23,14 +23,7 @@ pub data Frame : ℕ → List ℕ → Type 0 where
   nibe : {f : List ℕ} → layout.Frame nibes.nibe f → Frame 4 f
   homiq : {f : List ℕ} → layout.Frame homiqs.homiq f → Frame 5 f
 
--- its payload, and where that begins and ends in it
-abbrev pub payload : {k : ℕ} {f : List ℕ} → Frame k f → List ℕ
-payload (nikobus r) = nikobuses.payload (r .form .fields)
-payload (command r) = nests.payload (r .form .fields)
-payload (response r) = nests.payload (r .form .fields)
-payload (nibe r) = nibes.payload (r .form .fields)
-payload (homiq r) = homiqs.payload (r .form .fields)
-
+-- where its payload begins and ends in it
 abbrev pub payloadFrom : {k : ℕ} {f : List ℕ} → Frame k f → ℕ
 payloadFrom (nikobus r) = layout.payloadFrom nikobuses.nikobus (r .form .fields)
 payloadFrom (command r) = layout.payloadFrom (nests.nest Command) (r .form .fields)

@@ -6,11 +6,12 @@ use Prim.Native.Nat.{ℕ, suc, _+_, _*_, _≤_, _<_}
 use native.Mathlib.Numerals.{add-one}
 use native.Mathlib.Omega.{arith}
 use lib.ListN.{length, take, drop, getD, set}
-use lib.Seq.{sets, take-suc, drop-cons}
+use lib.Seq.{sets, take-suc}
 use borrow.Author.Tests.{lt-ltb, le-ltb, ne-eqb}
 use Rattle.digits.specs.Paper.Ascii.{ascii}
 use Rattle.digits.specs.Paper.Hex.{hexByte, hexBytes}
 use Rattle.digits.proofs.Laws.Hex.{length-hex}
+use Rattle.digits.proofs.Laws.Parts.{next}
 use Rattle.puts.specs.Paper.Put.{Put, last}
 use Rattle.puts.proofs.Laws.Puts.{_then_, puts-as}
 use Rattle.json.specs.Paper.Json.{escaped, eachEscaped}
@@ -68,8 +69,7 @@ two-stored s room two a i h e w =
     let y : ℕ = getD two 1 0 in
     let f : a + 2 * i + 1 ≡ suc (a + 2 * i) = omega arith in
     let g : a + 2 * (i + 1) ≡ suc (suc (a + 2 * i)) = omega arith in
-    let d : drop i s ≡ getD s i 0 ∷ drop (i + 1) s = drop-cons s i 0 h ∙ ap (λ (j : ℕ). getD s i 0 ∷ drop j s) (sym (add-one i)) in
-    let v : x ∷ y ∷ rest ≡ hexBytes (drop i s) = ap (λ (t : List ℕ). getD t 0 0 ∷ getD t 1 0 ∷ rest) e ∙ ap hexBytes (sym d) in
+    let v : x ∷ y ∷ rest ≡ hexBytes (drop i s) = ap (λ (t : List ℕ). getD t 0 0 ∷ getD t 1 0 ∷ rest) e ∙ ap hexBytes (sym (next s i h)) in
     ap (λ (j : ℕ). sets (set (set room (a + 2 * i) x) j y) (a + 2 * (i + 1)) rest) f
     ∙ ap (λ (j : ℕ). sets (set (set room (a + 2 * i) x) (suc (a + 2 * i)) y) j rest) g
     ∙ ap (sets room (a + 2 * i)) v

@@ -18,12 +18,15 @@ unfolding all isByte
 all-bytes [] h = refl
 all-bytes (x ∷ s) h = rw (lt-ltb x 256 (bytes-head h)) (all-bytes s (bytes-tail h))
 
+-- elements that pass a test that only bytes pass
+pub bytes-by : (f : ℕ → Bool) → ((x : ℕ) → T (f x) → x < 256) → (s : List ℕ) → T (all f s) → Bytes s
+unfolding all
+bytes-by f h [] t = bytes-nil
+bytes-by f h (x ∷ s) t = let q = T-and (f x) (all f s) t in bytes-cons (h x (q .0)) (bytes-by f h s (q .1))
+
 pub bytes-all : (s : List ℕ) → T (all isByte s) → Bytes s
-unfolding all isByte
-bytes-all [] h = bytes-nil
-bytes-all (x ∷ s) h =
-    let q = T-and (isByte x) (all isByte s) h in
-    bytes-cons (ltb→lt x 256 (q .0)) (bytes-all s (q .1))
+unfolding isByte
+bytes-all = bytes-by isByte (λ x t. ltb→lt x 256 t)
 
 -- what holds of all of some elements holds of one of them
 pub one-of-all : (f : ℕ → Bool) (l : List ℕ) (x : ℕ) → T (all f l) → T (oneOf l x) → T (f x)

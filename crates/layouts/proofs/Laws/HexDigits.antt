@@ -10,6 +10,7 @@ use lib.ListN.{length, getD, drop, length-drop}
 use borrow.Author.Tests.{lt-ltb, le-ltb, leb-true, leb-false, not-true, not-false}
 use Rattle.digits.proofs.Laws.Bytes.{bytes-nil, bytes-cons, bytes-head, bytes-tail}
 use Rattle.digits.proofs.Laws.Hex.{place-digit, place-lt, digit-upper, byte-of, byte-parts}
+use Rattle.digits.proofs.Laws.Parts.{next}
 use Rattle.digits.proofs.Laws.Reads.{answered, refused}
 use Rattle.digits.proofs.Laws.Table.{at}
 use Rattle.digits.proofs.Laws.Tests.{T-and, T-true}
@@ -24,7 +25,6 @@ use Rattle.checks.proofs.Laws.Feed.{feed-append, feed-nil}
 use Rattle.checks.specs.Paper.Check.{Check, feed}
 use Rattle.layouts.specs.Paper.Chars.{oneOf, all, isHex}
 use Rattle.layouts.specs.Work.Nikobus.{hexPair, bytesOf}
-use Rattle.layouts.proofs.Laws.Runs.{next}
 
 -- ---- one digit
 

@@ -9,6 +9,7 @@ use lib.Dec.{T, eqb, eqb→eq}
 use lib.ListN.{length, getD, take, drop, length-append, drop-of-length-le}
 use lib.Seq.{drop-append-seam, take-at, append-snoc}
 use borrow.Author.Tests.{eq-eqb, eqb-true}
+use Rattle.digits.proofs.Laws.Parts.{next}
 use Rattle.digits.proofs.Laws.Tests.{T-and}
 use Rattle.digits.specs.Paper.Ascii.{ascii}
 use Rattle.digits.specs.Paper.Bytes.{part}
@@ -23,7 +24,6 @@ use Rattle.layouts.specs.Work.Homiq.{numberIn, headLen, homiqFormLen, ho
 use Rattle.layouts.proofs.Laws.Buses.{Bus}
 use Rattle.layouts.proofs.Laws.Heads.{Right, Then, join, glue, word-right, then-right, same-right}
 use Rattle.layouts.proofs.Laws.HomiqFields.{Fielded, Numbered, Typed, field-right, number-right, type-right, number-read, char-bounds, decimal-chars}
-use Rattle.layouts.proofs.Laws.Runs.{next}
 
 -- ---- the head: `<;` and the six fields, each with its `;`
 

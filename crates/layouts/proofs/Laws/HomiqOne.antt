@@ -7,8 +7,7 @@ use native.Mathlib.Omega.{arith}
 use lib.Dec.{T}
 use lib.ListN.{length, getD, drop}
 use lib.Seq.{drop-append-seam}
-use Rattle.digits.proofs.Laws.Bytes.{bytes-nil, bytes-cons, bytes-append}
-use Rattle.digits.proofs.Laws.Tests.{T-and}
+use Rattle.digits.proofs.Laws.Bytes.{bytes-append}
 use Rattle.digits.specs.Paper.Ascii.{ascii}
 use Rattle.digits.specs.Paper.Bytes.{Bytes}
 use Rattle.digits.specs.Paper.Decimal.{decimal}
@@ -16,6 +15,7 @@ use Rattle.layouts.specs.Paper.Chars.{all}
 use Rattle.layouts.specs.Paper.Homiq.{Homiq, fieldChar, Field, firstId, lastId, Limits, joined, homiq, kept}
 use Rattle.layouts.specs.Paper.Layout.{bytesOf}
 use Rattle.layouts.specs.Work.Homiq.{numberIn}
+use Rattle.layouts.proofs.Laws.ByteRuns.{bytes-by}
 use Rattle.layouts.proofs.Laws.Heads.{Right, one-word}
 use Rattle.layouts.proofs.Laws.Homiq.{frontOf, head-right, closing, front-homiq, kept-closed, type-chars}
 use Rattle.layouts.proofs.Laws.HomiqFields.{field-right, number-right, number-read, char-bounds, decimal-chars}
@@ -73,13 +73,8 @@ homiq-one m n p q e =
 
 -- ---- bytes
 
-field-bytes : (w : List ℕ) → T (all fieldChar w) → Bytes w
-unfolding all
-field-bytes [] h = bytes-nil
-field-bytes (x ∷ w) h =
-    let q = T-and (fieldChar x) (all fieldChar w) h in
-    let b = char-bounds x (q .0) .0 in
-    bytes-cons (omega arith) (field-bytes w (q .1))
+pub field-bytes : (w : List ℕ) → T (all fieldChar w) → Bytes w
+field-bytes = bytes-by fieldChar (λ x t. let b = char-bounds x t .0 in omega arith)
 
 pub joined-bytes : (m : Homiq) → Limits m → Bytes (joined m)
 joined-bytes m l =

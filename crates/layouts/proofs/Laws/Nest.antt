@@ -4,7 +4,7 @@ use mathlib.Core.List.{List, [], _∷_, _++_, append-assoc, append-nil}
 use mathlib.Core.Path.{_≡_, refl, sym, _∙_, ap, ap₂, subst}
 use Prim.Native.Nat.{ℕ, _+_, _-_, _*_, _/_, _%_, _≤_, _<_}
 use native.Mathlib.Omega.{arith}
-use lib.Dec.{T, leb, leb→le}
+use lib.Dec.{T, leb→le}
 use lib.ListN.{length, getD, take, drop, length-append, length-drop, take-append-drop, List·getD-append}
 use lib.Seq.{take-append-seam, drop-append-seam, length-take-le}
 use borrow.Author.Tests.{le-leb, lt-leb}
@@ -23,6 +23,21 @@ use Rattle.layouts.specs.Work.Nest.{payloadLen, bodyLen, nestFormLen, cr
 use Rattle.layouts.proofs.Laws.Buses.{Bus, found-length}
 use Rattle.layouts.proofs.Laws.ByteRuns.{all-bytes, bytes-all, bytes-short, bytes-there}
 use Rattle.layouts.proofs.Laws.Heads.{Head, Right, Then, Run, run-right, only-test, only-eq, only-yes, only-no, only-zero, inside, word-right, then-right, same-right, join, glue, starts-same, same-starts, cut-same}
+
+-- a frame is as long as its preamble, its payload and six bytes more
+pub nest-size : (mark : List ℕ) (m : Nest) → length (bytesOf (nestWith mark) m) ≡ length mark + length (m .payload) + 6
+nest-size mark m =
+    let b : List ℕ = mark ++ lowFirst 2 (m .id) ++ lowFirst 2 (length (m .payload)) in
+    omega (
+      arith,
+      length-append (b ++ m .payload) (lowFirst 2 (m .crc)),
+      length-append b (m .payload),
+      length-append (mark ++ lowFirst 2 (m .id)) (lowFirst 2 (length (m .payload))),
+      length-append mark (lowFirst 2 (m .id)),
+      length-low 2 (m .id),
+      length-low 2 (length (m .payload)),
+      length-low 2 (m .crc),
+    )
 
 -- ---- id, length, payload and CRC
 
@@ -243,21 +258,7 @@ module _ (mark : List ℕ) (some : 0 < length mark) (s : List ℕ) (n : ℕ) (e 
   pub nest-room : (n ≡ 0 → ⊥) → length mark + 6 ≤ n
   nest-room nz =
       let k = forms mark some .sound s (omega (arith, e)) in
-      let m = k .is .fields in
-      let b : List ℕ = mark ++ lowFirst 2 (m .id) ++ lowFirst 2 (length (m .payload)) in
-      omega (
-        arith,
-        e,
-        k .size,
-        ap length (k .is .laid),
-        length-append (b ++ m .payload) (lowFirst 2 (m .crc)),
-        length-append b (m .payload),
-        length-low 2 (m .crc),
-        length-append (mark ++ lowFirst 2 (m .id)) (lowFirst 2 (length (m .payload))),
-        length-append mark (lowFirst 2 (m .id)),
-        length-low 2 (m .id),
-        length-low 2 (length (m .payload)),
-      )
+      omega (arith, e, k .size, ap length (k .is .laid), nest-size mark (k .is .fields))
 
   pub nest-inside : n ≤ length s
   nest-inside = rw e (inside (forms mark some) s)

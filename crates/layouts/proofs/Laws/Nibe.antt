@@ -54,15 +54,15 @@ frame-bytes m l =
     (bytes-cons (one-of-bytes commands (m .command) tt (l .command))
     (bytes-cons {b = length (m .content)} (omega arith) (bytes-append (m .content) (m .xor ∷ []) (l .bytes) (bytes-cons (l .xor) bytes-nil))))
 
+pub nibe-size : (m : Nibe) → length (bytesOf nibe m) ≡ length (m .content) + 4
+nibe-size m = omega (arith, length-append (m .content) (m .xor ∷ []))
+
 forms : Right (Form nibe) nibeFormLen
 unfolding nibeFormLen
 forms = record { some = some; sound = sound; complete = complete }
   where
-    size : (m : Nibe) → length (bytesOf nibe m) ≡ length (m .content) + 4
-    size m = omega (arith, length-append (m .content) (m .xor ∷ []))
-
     some : {w : List ℕ} → Form nibe w → 0 < length w
-    some r = rw (r .laid) (omega (arith, size (r .fields)))
+    some r = rw (r .laid) (omega (arith, nibe-size (r .fields)))
 
     found : (s : List ℕ) (n : ℕ) → getD s 0 0 ≡ 0xC0 → T (oneOf commands (getD s 1 0)) → n ≡ getD s 2 0 → Head (Run isByte (n + 4)) s (n + 4) → Head (Form nibe) s (n + 4)
     found s n a o e h =
@@ -94,7 +94,7 @@ forms = record { some = some; sound = sound; complete = complete }
     complete r t =
         let m = r .fields in
         let w = bytesOf nibe m in
-        let run : Run isByte (length (m .content) + 4) w = record { size = size m; each = rw (all-bytes w (frame-bytes m (r .limits))) tt } in
+        let run : Run isByte (length (m .content) + 4) w = record { size = nibe-size m; each = rw (all-bytes w (frame-bytes m (r .limits))) tt } in
         rw (r .laid)
         (only-yes _ _ refl ∙ only-yes _ _ (T-true _ (r .limits .command)) ∙ run-right isByte (length (m .content) + 4) (omega arith) .complete run t)
 

@@ -3,21 +3,17 @@
 use mathlib.Core.Bool.{Bool, true, false, and-false, cond}
 use mathlib.Core.List.{List, [], _∷_, _++_}
 use mathlib.Core.Path.{_≡_, refl}
-use Prim.Native.Nat.{ℕ, zero, suc, _+_, _-_, _≤_, _<_}
+use Prim.Native.Nat.{ℕ, zero, suc, _+_, _≤_, _<_}
 use native.Mathlib.Nat.{le-of-suc-le-suc}
-use native.Mathlib.Numerals.{add-one}
 use native.Mathlib.Omega.{arith}
 use lib.Dec.{T, eqb}
 use lib.ListN.{length, getD, drop, take, drop-of-length-le, length-take}
-use lib.Seq.{drop-cons, take-take}
+use lib.Seq.{take-take}
 use borrow.Author.Tests.{eq-eqb, ne-eqb}
+use Rattle.digits.proofs.Laws.Parts.{next}
 use Rattle.digits.proofs.Laws.Tests.{T-and, T-true}
 use Rattle.layouts.specs.Paper.Chars.{oneOf, all}
 use Rattle.layouts.specs.Work.Heads.{starts, leading}
-
--- the element at i, and the rest
-pub next : (s : List ℕ) (i : ℕ) → i < length s → drop i s ≡ getD s i 0 ∷ drop (i + 1) s
-next s i h = rw (add-one, drop-cons s i 0)
 
 module _ (p s : List ℕ) (i : ℕ) (h : i < length p) (k : i < length s) where
   pub starts-hit : getD s i 0 ≡ getD p i 0 → starts (drop (i + 1) p) (drop (i + 1) s) ≡ starts (drop i p) (drop i s)

@@ -21,7 +21,6 @@ use Rattle.messages.proofs.Laws.Find.{in-buffer, behind-start, payloaded}
 use Rattle.messages.proofs.Theorems.{beside}
 use Rattle.lines.specs.Paper.Answers.{LineOf, PutsLine, PutsNext, line-of}
 use Rattle.lines.specs.Paper.Answers as answers
-use Rattle.lines.specs.Paper.Line.{line}
 use Rattle.lines.specs.Work.Put.{put}
 use Rattle.lines.specs.declared.Listed.the-variants.{At, Refused}
 use Rattle.lines.proofs.Laws.Said.{put-said}
@@ -40,7 +39,7 @@ line-of-said {k} {f} {e} place c x same =
 pub tested-line : {k : ℕ} {f : List ℕ} {e : Coded} {from to place : ℕ} {room later : List ℕ} {there behind : ℕ} → Said k f e from to
     → Put room later there behind (put e (part from to f) place (length f)) → PutsLine k f place room later there behind
 tested-line {f = f} {e = e} {from = from} {to = to} {place = place} s p =
-    record { text = put e (part from to f) place (length f); is = line-of-said place (part from to f) s refl; put = p }
+    record { text = put e (part from to f) place (length f); right = line-of-said place (part from to f) s refl; put = p }
 
 -- ---- what is found
 

@@ -14,7 +14,7 @@ use Rattle.json.proofs.Laws.Tokens.{number-token, quoted-token, next-member, fi
 use Rattle.lines.specs.Paper.Answers.{LineOf}
 use Rattle.lines.specs.Paper.Line.{members, line}
 use Rattle.lines.specs.Work.Values.{Of, Column, Values, membersOf, Form, formOf, values, formNamed}
-use Rattle.lines.proofs.Laws.Values.{form-named, name-unquoted, members-spelt, made, token, AllProper, proper}
+use Rattle.lines.proofs.Laws.Values.{spelt-as, made, token, AllProper, proper}
 
 -- values of the same columns
 same-values : (cs : List Column) (u v : Values cs) (s t : List ℕ) → AllProper cs u → AllProper cs v
@@ -34,9 +34,9 @@ same-form A B e u =
 
 same-message : (m n : Message) (s t : List ℕ) → Limits m → Limits n → name m ≡ name n → further (members m) ++ s ≡ further (members n) ++ t → m ≡ n
 same-message m n s t l k e f =
-    let g : formOf m ≡ formOf n = sym (form-named m) ∙ ap formNamed e ∙ form-named n in
+    let g : formOf m ≡ formOf n = sym (spelt-as m .named) ∙ ap formNamed e ∙ spelt-as n .named in
     let h : further (membersOf (formOf m .columns) (values m)) ++ s ≡ further (membersOf (formOf n .columns) (values n)) ++ t
-    = ap (λ (x : List Member). further x ++ s) (sym (members-spelt m)) ∙ f ∙ ap (λ (x : List Member). further x ++ t) (members-spelt n) in
+    = ap (λ (x : List Member). further x ++ s) (sym (spelt-as m .spelling)) ∙ f ∙ ap (λ (x : List Member). further x ++ t) (spelt-as n .spelling) in
     sym (made m) ∙ same-form (formOf m) (formOf n) g (values m) (values n) s t (proper m l) (proper n k) h ∙ made n
 
 -- what stands behind `at` and behind `len`
@@ -54,7 +54,7 @@ one-line at there m n l k e =
     let b = length (bytes n) in
     let f = first-member number-token (ascii "at") at there tt tt (sized a m) (sized b n) (ascii "\n") (ascii "\n") e in
     let g = next-member number-token (ascii "len") a b tt tt (fromMsg m) (fromMsg n) (ascii "\n") (ascii "\n") (f .1) in
-    let h = next-member quoted-token (ascii "msg") (name m) (name n) (name-unquoted m) (name-unquoted n) (members m) (members n) (ascii "\n") (ascii "\n") (g .1) in
+    let h = next-member quoted-token (ascii "msg") (name m) (name n) (spelt-as m .plain) (spelt-as n .plain) (members m) (members n) (ascii "\n") (ascii "\n") (g .1) in
     (f .0, same-message m n (ascii "\n") (ascii "\n") l k (h .0) (h .1))
 
 -- SO THE SAME LINE AT THE SAME PLACE IS THE SAME MESSAGE

@@ -12,30 +12,29 @@ use lib.ListN.{length, length-append}
 use Rattle.digits.specs.Paper.Ascii.{ascii}
 use Rattle.digits.specs.Paper.Bytes.{Bytes}
 use Rattle.digits.specs.Paper.Decimal.{decimal}
-use Rattle.digits.specs.Paper.Hex.{hexByte, hexBytes, hexWord}
 use Rattle.digits.specs.Paper.LowFirst.{Width, one, two, four, Held, lowFirst}
 use Rattle.digits.proofs.Laws.Decimal.{length-some, length-decimal}
-use Rattle.digits.proofs.Laws.Hex as hexes
-use Rattle.digits.proofs.Laws.LowFirst.{length-low}
+use Rattle.digits.proofs.Laws.LowFirst.{width-most, length-low}
 use Rattle.numbers.specs.Paper.ByteValues.{valueBytes}
 use Rattle.numbers.proofs.Laws.Signs.{magnitude-lt}
 use Rattle.numbers.proofs.Theorems.ByteValues.{value-width, value-raw}
-use Rattle.checks.specs.Paper.Buses.{nikobusCrc16, nikobusCrc8, nestCrc, nibeXor, homiqCrc}
+use Rattle.checks.specs.Paper.Buses.{nikobusCrc16, nikobusCrc8, homiqCrc}
 use Rattle.checks.specs.Paper.Check.{check}
 use Rattle.checks.proofs.Laws.Feed.{check-lt}
 use Rattle.layouts.specs.Paper.Chars.{all, CR, LF}
 use Rattle.layouts.specs.Paper.Homiq as homiqs
 use Rattle.layouts.specs.Paper.Homiq.{joined}
-use Rattle.layouts.specs.Paper.Layout.{bytesOf}
 use Rattle.layouts.specs.Paper.Made.{linkOf, nestOf, nibeOf, Wire, closed, homiqOf}
 use Rattle.layouts.specs.Paper.Nest as nests
-use Rattle.layouts.specs.Paper.Nibe as nibes
 use Rattle.layouts.specs.Paper.Nibe.{commands}
 use Rattle.layouts.specs.Paper.Nikobus as nikobuses
 use Rattle.layouts.specs.Paper.Nikobus.{linkChecked}
 use Rattle.layouts.specs.Work.Heads.{isByte}
 use Rattle.layouts.proofs.Laws.ByteRuns.{one-of-bytes}
-use Rattle.layouts.proofs.Laws.HexDigits.{length-byte, length-word}
+use Rattle.layouts.proofs.Laws.Nest.{nest-size}
+use Rattle.layouts.proofs.Laws.Nibe.{nibe-size}
+use Rattle.layouts.proofs.Laws.Nikobus.{link-size}
+use Rattle.layouts.specs.declared.nest.Direction.the-variants.{Command, Response}
 use Rattle.messages.specs.Paper.Fields.{onNikobus, asCommand, asResponse, onNibe, onHomiq, laid}
 use Rattle.messages.specs.Paper.Message.{Message, read, set, answer, press, tail, link, command, climate, state, break, end, text, response, ask, reply, put, done, nibe, output, input, shutter, beat, homiq, name}
 use Rattle.messages.specs.Paper.Table.{codeOf, valued, fields, bytes, Group, textIds, Limits, u16At, vIn, vOp, vBat}
@@ -47,54 +46,19 @@ use Rattle.lines.specs.Paper.Line.{highFirst, wired, members, line, line
 -- ---- frames
 
 length-link : (p : List ℕ) → length (laid (onNikobus (linkOf p))) ≡ length p * 2 + 10
-length-link p =
-    let c = check nikobusCrc16 p in
-    let d = check nikobusCrc8 (linkChecked p c) in
-    let a : List ℕ = ascii "$" ++ hexByte (length p * 2 + 10) in
-    let b : List ℕ = hexWord c ++ hexByte d in
-    omega (
-      arith,
-      length-append (a ++ hexBytes p) (b ++ (CR ∷ [])),
-      length-append a (hexBytes p),
-      length-append (ascii "$") (hexByte (length p * 2 + 10)),
-      length-append b (CR ∷ []),
-      length-append (hexWord c) (hexByte d),
-      length-byte (length p * 2 + 10),
-      hexes.length-hex p,
-      length-word c,
-      length-byte d,
-    )
+length-link p = link-size p (check nikobusCrc16 p) (check nikobusCrc8 (linkChecked p (check nikobusCrc16 p)))
 
 length-press : (d : List ℕ) → length (laid (onNikobus (nikobuses.press d))) ≡ length d + 3
 length-press d = omega (arith, length-append (ascii "#N" ++ d) (CR ∷ []), length-append (ascii "#N") d)
 
-length-nest : (mark : List ℕ) (i : ℕ) (p : List ℕ) → length (bytesOf (nests.nestWith mark) (nestOf i p)) ≡ length mark + length p + 6
-length-nest mark i p =
-    let n = length p in
-    let x = check nestCrc (nests.covered i p) in
-    let a : List ℕ = mark ++ lowFirst 2 i in
-    let b : List ℕ = a ++ lowFirst 2 n in
-    omega (
-      arith,
-      length-append (b ++ p) (lowFirst 2 x),
-      length-append b p,
-      length-append a (lowFirst 2 n),
-      length-append mark (lowFirst 2 i),
-      length-low 2 i,
-      length-low 2 n,
-      length-low 2 x,
-    )
-
 length-response : (i : ℕ) (p : List ℕ) → length (laid (asResponse (nestOf i p))) ≡ length p + 10
-length-response i p = length-nest (0xD5 ∷ 0xD5 ∷ 0xAA ∷ 0x96 ∷ []) i p ∙ omega arith
+length-response i p = omega (arith, nest-size (nests.preamble Response) (nestOf i p))
 
 length-command : (i : ℕ) (p : List ℕ) → length (laid (asCommand (nestOf i p))) ≡ length p + 9
-length-command i p = length-nest (0xD5 ∷ 0xAA ∷ 0x96 ∷ []) i p ∙ omega arith
+length-command i p = omega (arith, nest-size (nests.preamble Command) (nestOf i p))
 
 length-nibe : (c : ℕ) (d : List ℕ) → length (laid (onNibe (nibeOf c d))) ≡ length d + 4
-length-nibe c d =
-    let b : List ℕ = 0xC0 ∷ c ∷ length d ∷ [] in
-    omega (arith, length-append (b ++ d) (check nibeXor (nibes.covered d) ∷ []), length-append b d)
+length-nibe c d = nibe-size (nibeOf c d)
 
 length-valued : (r w v : ℕ) → length (valued r w v) ≡ w + 2
 length-valued r w v = omega (arith, length-append (lowFirst 2 r) (lowFirst w v), length-low 2 r, length-low w v)
@@ -139,11 +103,6 @@ word-digits {n} h = length-decimal 4 n (omega arith)
 
 byte-digits : {n : ℕ} → n < 256 → length (decimal n) ≤ 3
 byte-digits {n} h = length-decimal 2 n (omega arith)
-
-width-most : {w : ℕ} → Width w → w ≤ 4
-width-most one = omega arith
-width-most two = omega arith
-width-most four = omega arith
 
 width-least : {w : ℕ} → Width w → 1 ≤ w
 width-least one = omega arith

@@ -1,6 +1,5 @@
 -- The table of forms is the paper's: its members, its names, and its values, which make their message again.
 -- Assumes nothing.
-use mathlib.Core.Bool.{Bool}
 use mathlib.Core.List.{List, [], _∷_}
 use mathlib.Core.Path.{_≡_, refl, ap}
 use Prim.Native.Nat.{ℕ, _<_}
@@ -9,14 +8,12 @@ use lib.Dec.{T}
 use Rattle.digits.specs.Paper.Ascii.{ascii}
 use Rattle.digits.specs.Paper.Bytes.{Bytes}
 use Rattle.digits.proofs.Laws.Bytes.{bytes-nil, bytes-cons}
-use Rattle.digits.proofs.Laws.Tests.{T-and}
 use Rattle.layouts.specs.Paper.Chars.{all, isHex}
 use Rattle.layouts.specs.Paper.Homiq as homiqs
-use Rattle.layouts.specs.Paper.Homiq.{fieldChar}
 use Rattle.layouts.specs.Paper.Made.{Wire, homiqOf}
 use Rattle.layouts.specs.Work.Heads.{isByte}
-use Rattle.layouts.proofs.Laws.ByteRuns.{one-of-bytes}
-use Rattle.layouts.proofs.Laws.HomiqFields.{char-bounds}
+use Rattle.layouts.proofs.Laws.ByteRuns.{bytes-by, one-of-bytes}
+use Rattle.layouts.proofs.Laws.HomiqOne.{field-bytes}
 use Rattle.messages.specs.Paper.Message.{Message, read, set, answer, press, tail, link, command, climate, state, break, end, text, response, ask, reply, put, done, nibe, output, input, shutter, beat, homiq, name}
 use Rattle.messages.specs.Paper.Table.{Limits}
 use Rattle.json.proofs.Laws.Tokens.{unquoted, Token, number-token, hex-token, chars-token, truth-token, reading-token}
@@ -25,83 +22,37 @@ use Rattle.lines.specs.Work.Values.{Spelling, asNumber, asHex, asChars, 
 
 -- ---- names and members
 
-pub form-named : (m : Message) → formNamed (name m) ≡ formOf m
-unfolding formIn sameText
-form-named (read g a) = refl
-form-named (set g a out) = refl
-form-named (answer a third out) = refl
-form-named (press d) = refl
-form-named tail = refl
-form-named (link p) = refl
-form-named (command i p) = refl
-form-named (climate t h) = refl
-form-named (state p) = refl
-form-named break = refl
-form-named end = refl
-form-named (text i p) = refl
-form-named (response i p) = refl
-form-named (ask r) = refl
-form-named (reply r w v) = refl
-form-named (put r w v) = refl
-form-named (done ok) = refl
-form-named (nibe c d) = refl
-form-named (output w) = refl
-form-named (input w) = refl
-form-named (shutter w) = refl
-form-named (beat w) = refl
-form-named (homiq w) = refl
+-- a message's name is that of its form and needs no escape, and its members are spelt by the form's columns
+pub record SpeltAs (m : Message) : Type 0 where
+  pub named : formNamed (name m) ≡ formOf m
+  pub plain : T (unquoted (name m))
+  pub spelling : members m ≡ membersOf (formOf m .columns) (values m)
 
-pub name-unquoted : (m : Message) → T (unquoted (name m))
-unfolding unquoted
-name-unquoted (read g a) = tt
-name-unquoted (set g a out) = tt
-name-unquoted (answer a third out) = tt
-name-unquoted (press d) = tt
-name-unquoted tail = tt
-name-unquoted (link p) = tt
-name-unquoted (command i p) = tt
-name-unquoted (climate t h) = tt
-name-unquoted (state p) = tt
-name-unquoted break = tt
-name-unquoted end = tt
-name-unquoted (text i p) = tt
-name-unquoted (response i p) = tt
-name-unquoted (ask r) = tt
-name-unquoted (reply r w v) = tt
-name-unquoted (put r w v) = tt
-name-unquoted (done ok) = tt
-name-unquoted (nibe c d) = tt
-name-unquoted (output w) = tt
-name-unquoted (input w) = tt
-name-unquoted (shutter w) = tt
-name-unquoted (beat w) = tt
-name-unquoted (homiq w) = tt
-
-pub members-spelt : (m : Message) → members m ≡ membersOf (formOf m .columns) (values m)
-unfolding members
-members-spelt (read g a) = refl
-members-spelt (set g a out) = refl
-members-spelt (answer a third out) = refl
-members-spelt (press d) = refl
-members-spelt tail = refl
-members-spelt (link p) = refl
-members-spelt (command i p) = refl
-members-spelt (climate t h) = refl
-members-spelt (state p) = refl
-members-spelt break = refl
-members-spelt end = refl
-members-spelt (text i p) = refl
-members-spelt (response i p) = refl
-members-spelt (ask r) = refl
-members-spelt (reply r w v) = refl
-members-spelt (put r w v) = refl
-members-spelt (done ok) = refl
-members-spelt (nibe c d) = refl
-members-spelt (output w) = refl
-members-spelt (input w) = refl
-members-spelt (shutter w) = refl
-members-spelt (beat w) = refl
-members-spelt (homiq w) = refl
+pub spelt-as : (m : Message) → SpeltAs m
+unfolding formIn sameText unquoted members
+spelt-as (read g a) = record { named = refl; plain = tt; spelling = refl }
+spelt-as (set g a out) = record { named = refl; plain = tt; spelling = refl }
+spelt-as (answer a third out) = record { named = refl; plain = tt; spelling = refl }
+spelt-as (press d) = record { named = refl; plain = tt; spelling = refl }
+spelt-as tail = record { named = refl; plain = tt; spelling = refl }
+spelt-as (link p) = record { named = refl; plain = tt; spelling = refl }
+spelt-as (command i p) = record { named = refl; plain = tt; spelling = refl }
+spelt-as (climate t h) = record { named = refl; plain = tt; spelling = refl }
+spelt-as (state p) = record { named = refl; plain = tt; spelling = refl }
+spelt-as break = record { named = refl; plain = tt; spelling = refl }
+spelt-as end = record { named = refl; plain = tt; spelling = refl }
+spelt-as (text i p) = record { named = refl; plain = tt; spelling = refl }
+spelt-as (response i p) = record { named = refl; plain = tt; spelling = refl }
+spelt-as (ask r) = record { named = refl; plain = tt; spelling = refl }
+spelt-as (reply r w v) = record { named = refl; plain = tt; spelling = refl }
+spelt-as (put r w v) = record { named = refl; plain = tt; spelling = refl }
+spelt-as (done ok) = record { named = refl; plain = tt; spelling = refl }
+spelt-as (nibe c d) = record { named = refl; plain = tt; spelling = refl }
+spelt-as (output w) = record { named = refl; plain = tt; spelling = refl }
+spelt-as (input w) = record { named = refl; plain = tt; spelling = refl }
+spelt-as (shutter w) = record { named = refl; plain = tt; spelling = refl }
+spelt-as (beat w) = record { named = refl; plain = tt; spelling = refl }
+spelt-as (homiq w) = record { named = refl; plain = tt; spelling = refl }
 
 -- ---- the message that its values make
 
@@ -154,17 +105,9 @@ abbrev pub AllProper : (cs : List Column) → Values cs → Type 0
 AllProper [] v = Unit
 AllProper (c ∷ cs) v = Proper (c .spelling) (v .0) × AllProper cs (v .1)
 
-bytes-by : (f : ℕ → Bool) → ((c : ℕ) → T (f c) → c < 256) → (s : List ℕ) → T (all f s) → Bytes s
-unfolding all
-bytes-by f h [] t = bytes-nil
-bytes-by f h (c ∷ s) t = let q = T-and (f c) (all f s) t in bytes-cons (h c (q .0)) (bytes-by f h s (q .1))
-
 hex-bytes : (s : List ℕ) → T (all isHex s) → Bytes s
 unfolding isHex all isByte
 hex-bytes = bytes-by isHex (λ c t. one-of-bytes (ascii "0123456789ABCDEF") c tt t)
-
-field-bytes : (s : List ℕ) → T (all fieldChar s) → Bytes s
-field-bytes = bytes-by fieldChar (λ c t. let b = char-bounds c t .0 in omega arith)
 
 address-bytes : (a : ℕ) → a < 65536 → Bytes (highFirst a)
 address-bytes a h = bytes-cons (omega arith) (bytes-cons (omega arith) bytes-nil)

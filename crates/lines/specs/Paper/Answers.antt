@@ -8,7 +8,7 @@ use lib.ListN.{length}
 use Rattle.digits.specs.Paper.Bytes.{part}
 use Rattle.digits.specs.declared.refusal.Refusal.{Refusal}
 use Rattle.puts.specs.Paper.Put.{Put}
-use Rattle.puts.specs.Paper.Right.{WritesRight}
+use Rattle.puts.specs.Paper.Right.{WritesRight, PutsRight}
 use Rattle.puts.specs.declared.Written.{Written}
 use Rattle.frames.specs.Paper.Kinds.{known, Frame}
 use Rattle.frames.specs.Paper.Search.{Searches}
@@ -40,10 +40,8 @@ WritesLine k f at room r later = WritesRight (LineCause k f at (length room)) (L
 -- ---- tested
 
 -- the line of f is put at a place of a lent room, and `behind` is the place behind it
-pub record PutsLine (k : ℕ) (f : List ℕ) (at : ℕ) (room later : List ℕ) (place behind : ℕ) : Type 0 where
-  pub text : List ℕ
-  pub is : LineOf k f at text
-  pub put : Put room later place behind text
+abbrev pub PutsLine : ℕ → List ℕ → ℕ → List ℕ → List ℕ → ℕ → ℕ → Type 0
+PutsLine k f at room later place behind = PutsRight (LineOf k f at) room later place behind
 
 -- ---- next
 

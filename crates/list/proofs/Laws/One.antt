@@ -1,24 +1,19 @@
 -- An input has one listing: its kind and its capture are one, so are the frames that the searches find, and so is each frame's message.
 -- Assumes nothing.
 use mathlib.Core.List.{List, _++_}
-use mathlib.Core.Path.{_≡_, refl, sym, ap, ap₂, _∙_, subst}
+use mathlib.Core.Path.{_≡_, refl, sym, ap₂, _∙_, subst}
 use Prim.Native.Nat.{ℕ, _-_}
 use native.Mathlib.Omega.{arith}
 use lib.ListN.{length}
 use Rattle.frames.specs.Paper.Search.{Hit}
 use Rattle.frames.proofs.Theorems.{one-run}
-use Rattle.messages.proofs.Theorems.{one-message-of}
-use Rattle.lines.specs.Paper.Answers.{LineOf}
-use Rattle.lines.specs.Paper.Line as paper
+use Rattle.lines.proofs.Theorems.{one-line}
 use Rattle.list.specs.Paper.Listing.{Lines, none, line, inside, lastLine, Lists, Listing, bad-start, too-long, listed}
 use Rattle.list.proofs.Laws.Inputs.{same-kind, same-capture}
 
-line-one : {k : ℕ} {f : List ℕ} {at : ℕ} {a b : List ℕ} → LineOf k f at a → LineOf k f at b → a ≡ b
-line-one {f = f} {at = at} x y = x .is ∙ ap (paper.line at (length f)) (one-message-of (x .message) (y .message) (x .stands) (y .stands)) ∙ sym (y .is)
-
 lines-one : {k : ℕ} {s : List ℕ} {hits : List Hit} {a b : List ℕ} → Lines k s hits a → Lines k s hits b → a ≡ b
 lines-one none none = refl
-lines-one (line x r) (line y q) = ap₂ (λ (u v : List ℕ). u ++ v) (line-one x y) (lines-one r q)
+lines-one (line x r) (line y q) = ap₂ (λ (u v : List ℕ). u ++ v) (one-line _ _ x y) (lines-one r q)
 
 pub lists-one : {k : ℕ} {s a b : List ℕ} → Lists k s a → Lists k s b → a ≡ b
 lists-one {k} {s} x y =

@@ -82,7 +82,7 @@ started =
       few = omega arith;
       within-place = omega arith;
       same = refl;
-      whole = λ later behind t r p. record { listing = t; lists = from-start r; put = p };
+      whole = λ later behind t r p. record { text = t; right = from-start r; put = p };
     }
 
 -- what is next, where the answer is known

@@ -3,20 +3,21 @@
 use mathlib.Core.Bool.{true, false}
 use mathlib.Core.List.{List, _++_, append-assoc}
 use mathlib.Core.Path.{_≡_, sym, ap, _∙_, subst}
-use Prim.Native.Nat.{ℕ, _+_, _-_, _≤_, _<_}
+use Prim.Native.Nat.{ℕ, _-_, _≤_, _<_}
 use native.Mathlib.Omega.{arith}
-use lib.Dec.{leb, lit<}
+use lib.Dec.{lit<}
 use lib.ListN.{length, getD}
-use borrow.Author.Tests.{leb-true, leb-false, le-leb}
 use Rattle.digits.specs.Paper.Ascii.{ascii}
 use Rattle.digits.specs.Paper.Bytes.{part}
 use Rattle.digits.specs.Paper.Decimal.{decimal, decimalIn, enough}
 use Rattle.digits.specs.declared.refusal.Refusal.the-variants.{Room}
 use Rattle.digits.proofs.Laws.Parts.{part-rest}
 use Rattle.json.specs.Paper.Json.{number, further, object}
-use Rattle.puts.specs.Paper.Put.{Put, last}
+use Rattle.puts.specs.Paper.Put.{Put}
 use Rattle.puts.specs.Paper.Wrote.{refused}
 use Rattle.puts.specs.declared.Written.the-variants.{Bytes, Refused}
+use Rattle.puts.proofs.Laws.Sizes.{too-small, large-enough}
+use Rattle.puts.proofs.Laws.Sizes as sizes
 use Rattle.puts.proofs.Laws.Wrote.{wrote-by, too-short, room-for}
 use Rattle.list.specs.Paper.Answers.{WritesListing}
 use Rattle.list.specs.Paper.Listing.{lastLine, Lists, Input, mostInput, refusedWith, bad-start, too-long, listed}
@@ -40,49 +41,35 @@ last-line n m = sym (ap (λ (x : List ℕ). ascii "{\"frames\":" ++ x) (regroup 
 module _ {s room later : List ℕ} {at next : ℕ} where
   pub puts-2 : (Input s → ⊥) → Put room later at next (ascii "{\"refused\":2}\n") → PutsListing s room later at next
   unfolding object further decimal decimalIn enough
-  puts-2 f p = record { listing = refusedWith 2; lists = bad-start f; put = p }
+  puts-2 f p = record { text = refusedWith 2; right = bad-start f; put = p }
 
   pub puts-5 : Input s → mostInput < length s → Put room later at next (ascii "{\"refused\":5}\n") → PutsListing s room later at next
   unfolding object further decimal decimalIn enough
-  puts-5 i h p = record { listing = refusedWith 5; lists = too-long i h; put = p }
+  puts-5 i h p = record { text = refusedWith 5; right = too-long i h; put = p }
 
   -- the capture, as the code takes it out of the input
   pub puts-capture : Input s → length s ≤ mostInput → PutsLists (getD s 0 0 - 48) (part 2 (length s) s) room later at next → PutsListing s room later at next
   puts-capture i h l =
       let k : getD s 0 0 - 48 ≡ i .kind = omega (arith, digit i) in
       let e : part 2 (length s) s ≡ i .capture = part-rest 2 s ∙ behind-start i in
-      let x : Lists (i .kind) (part 2 (length s) s) (l .listing) = subst (λ (n : ℕ). Lists n (part 2 (length s) s) (l .listing)) k (l .lists) in
-      record { listing = l .listing; lists = listed i h (subst (λ (c : List ℕ). Lists (i .kind) c (l .listing)) e x); put = l .put }
+      let x : Lists (i .kind) (part 2 (length s) s) (l .text) = subst (λ (n : ℕ). Lists n (part 2 (length s) s) (l .text)) k (l .right) in
+      record { text = l .text; right = listed i h (subst (λ (c : List ℕ). Lists (i .kind) c (l .text)) e x); put = l .put }
 
 -- ---- its size
 
 -- a place behind the listing in a room of any size
 pub measured : {s room later : List ℕ} {n : ℕ} → PutsListing s room later 0 n → Sized s n
-measured p = record { listing = p .listing; lists = p .lists; size = omega (arith, p .put .behind, listing-most (p .lists)) }
+measured p = sizes.measured p (omega (arith, listing-most (p .right)))
 
 pub always-fits : (s : List ℕ) (n : ℕ) → 2097202 ≤ n → Fits s n true
-always-fits s n h =
-    let l = some-listing s in
-    let k : length (l .0) ≤ n = omega (arith, listing-most (l .1)) in
-    record { listing = l .0; lists = l .1; fits = sym (le-leb (length (l .0)) n k) }
-
-pub sized-fits : {s : List ℕ} {m : ℕ} (n : ℕ) → Sized s m → Fits s n (leb m n)
-sized-fits n l = record { listing = l .listing; lists = l .lists; fits = ap (λ (m : ℕ). leb m n) (l .size) }
+always-fits s n h = let l = some-listing s in sizes.always-fits (l .0) (l .1) (omega (arith, listing-most (l .1)))
 
 -- ---- the answer
 
 pub refused-4 : {s room : List ℕ} → Fits s (length room) false → WritesListing s room (Refused Room) room
-refused-4 {s} {room} f =
-    let t = f .listing in
-    record {
-      listing = t;
-      lists = f .lists;
-      written = refused (lit< tt) (too-short (leb-false (length t) (length room) (sym (f .fits))));
-    }
+refused-4 f = record { listing = f .text; lists = f .right; written = refused (lit< tt) (too-short (too-small f)) }
 
 pub all-written : {s room later : List ℕ} {n : ℕ} → Fits s (length room) true → PutsListing s room later 0 n → WritesListing s room (Bytes n) later
-all-written {s} {room} f p =
-    let t = p .listing in
-    let e : f .listing ≡ t = listing-one (f .lists) (p .lists) in
-    let l : length t ≤ length room = leb-true (length t) (length room) (ap (λ (u : List ℕ). leb (length u) (length room)) (sym e) ∙ sym (f .fits)) in
-    record { listing = t; lists = p .lists; written = wrote-by (room-for l) (p .put) l }
+all-written f p =
+    let l = large-enough (λ a b. listing-one) f (p .right) in
+    record { listing = p .text; lists = p .right; written = wrote-by (room-for l) (p .put) l }

@@ -1,6 +1,7 @@
 -- `list::fits` meets its contract: no listing is longer than 2,097,202 bytes.
 -- Assumes nothing.
-use Rattle.list.proofs.Laws.Written.{always-fits, sized-fits}
+use Rattle.puts.proofs.Laws.Sizes.{sized-fits}
+use Rattle.list.proofs.Laws.Written.{always-fits}
 use borrow.Author.Needs.{needs}
 use Rattle.list.proofs.fits.Statement.{statement}
 use Rattle.list.proofs.fits.Tie as tie

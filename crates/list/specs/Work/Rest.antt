@@ -4,11 +4,12 @@ use mathlib.Core.Bool.{Bool}
 use mathlib.Core.List.{List, _++_}
 use mathlib.Core.Path.{_≡_}
 use Prim.Native.Nat.{ℕ, _+_, _-_, _≤_}
-use lib.Dec.{leb}
 use lib.ListN.{length}
 use Rattle.frames.specs.Paper.Runs.{Run}
 use Rattle.frames.specs.Paper.Search.{Hit}
 use Rattle.puts.specs.Paper.Put.{Put}
+use Rattle.puts.specs.Paper.Right.{PutsRight}
+use Rattle.puts.specs.Work.Right.{SizedRight, FitsRight}
 use Rattle.list.specs.Paper.Listing.{Lines, inside, lastLine, Lists, Listing}
 
 -- t is what is left behind `count` frames with `within` bytes: the lines of the frames that one search after the other finds from the
@@ -23,16 +24,12 @@ pub record Rest (k : ℕ) (s : List ℕ) (place count within : ℕ) (t : List �
 -- ---- what is put
 
 -- the listing of a capture is put at a place of the room
-pub record PutsLists (k : ℕ) (s room later : List ℕ) (at next : ℕ) : Type 0 where
-  pub listing : List ℕ
-  pub lists : Lists k s listing
-  pub put : Put room later at next listing
+abbrev pub PutsLists : ℕ → List ℕ → List ℕ → List ℕ → ℕ → ℕ → Type 0
+PutsLists k s room later at next = PutsRight (Lists k s) room later at next
 
 -- the listing of an input is
-pub record PutsListing (s room later : List ℕ) (at next : ℕ) : Type 0 where
-  pub listing : List ℕ
-  pub lists : Listing s listing
-  pub put : Put room later at next listing
+abbrev pub PutsListing : List ℕ → List ℕ → List ℕ → ℕ → ℕ → Type 0
+PutsListing s room later at next = PutsRight (Listing s) room later at next
 
 -- a loop's turns so far: whatever is left, put from here on, completes the listing of the capture
 pub record Completes (k : ℕ) (s room room₀ : List ℕ) (at next place count within : ℕ) : Type 0 where
@@ -45,13 +42,9 @@ pub record Completes (k : ℕ) (s room room₀ : List ℕ) (at next place count 
 -- ---- how long it is
 
 -- the listing of an input has n bytes
-pub record Sized (s : List ℕ) (n : ℕ) : Type 0 where
-  pub listing : List ℕ
-  pub lists : Listing s listing
-  pub size : n ≡ length listing
+abbrev pub Sized : List ℕ → ℕ → Type 0
+Sized s n = SizedRight (Listing s) n
 
 -- r tells whether a room of n bytes has room for it
-pub record Fits (s : List ℕ) (n : ℕ) (r : Bool) : Type 0 where
-  pub listing : List ℕ
-  pub lists : Listing s listing
-  pub fits : r ≡ leb (length listing) n
+abbrev pub Fits : List ℕ → ℕ → Bool → Type 0
+Fits s n r = FitsRight (Listing s) n r

@@ -23,7 +23,7 @@ use Rattle.frames.specs.Paper.Whole.{WholeCause, TestsWhole}
 use Rattle.frames.specs.declared.Whole.{Whole}
 use Rattle.frames.specs.declared.Whole.the-variants.{Is as WholeIs, Refused as WholeRefused}
 use Rattle.frames.proofs.Laws.Kinds.{payload-inside}
-use Rattle.messages.specs.Paper.Answers.{Stands, DecodeCause, no-kind, no-message, Said, is, refused, Contents}
+use Rattle.messages.specs.Paper.Answers.{Stands, DecodeCause, no-kind, no-message, Said, Contents}
 use Rattle.messages.specs.Paper.Fields.{Fields, onNikobus, asCommand, asResponse, onNibe, onHomiq, kindOf, laid, payloadIn, payloadFrom, payloadTo}
 use Rattle.messages.specs.Work.Fields.{Fit}
 use Rattle.messages.specs.Paper.Message.{Message}
@@ -32,7 +32,7 @@ use Rattle.messages.specs.Paper.Table.{fields}
 use Rattle.messages.specs.Work.Answers.{Payloaded}
 use Rattle.messages.specs.Work.Look.{look}
 use Rattle.messages.specs.declared.Message.{Message as Coded}
-use Rattle.messages.proofs.Laws.Frames.{fields-in, from-in, to-in, frame-of}
+use Rattle.messages.proofs.Laws.Frames.{fields-in, ends-in, frame-of}
 use Rattle.messages.proofs.Laws.Table.{reads, fit, good}
 
 -- ---- the first cause
@@ -101,10 +101,10 @@ module _ {k : ℕ} {f : List ℕ} where
     its-fit = fields-in (o .frame) .fit
 
     starts-at : from ≡ payloadFrom its
-    starts-at = o .from-is ∙ from-in (o .frame)
+    starts-at = o .from-is ∙ ends-in (o .frame) .0
 
     ends-at : to ≡ payloadTo its
-    ends-at = o .to-is ∙ to-in (o .frame)
+    ends-at = o .to-is ∙ ends-in (o .frame) .1
 
     pub the-part : part from to f ≡ payloadIn its
     the-part =

@@ -10,7 +10,7 @@ use Rattle.layouts.specs.Paper.Layout as layout
 use Rattle.layouts.specs.declared.nest.Direction.the-variants.{Command, Response}
 use Rattle.frames.specs.Paper.Kinds.{Frame, nikobus, command, response, nibe, homiq}
 use Rattle.frames.specs.Paper.Kinds as kinds
-use Rattle.messages.specs.Paper.Fields.{Fields, onNikobus, asCommand, asResponse, onNibe, onHomiq, kindOf, laid, payloadIn, payloadFrom, payloadTo}
+use Rattle.messages.specs.Paper.Fields.{Fields, onNikobus, asCommand, asResponse, onNibe, onHomiq, kindOf, laid, payloadFrom, payloadTo}
 use Rattle.messages.specs.Work.Fields.{Passing, Fit}
 
 -- the fields of a frame
@@ -30,27 +30,14 @@ fields-in (response r) = record { fields = asResponse (r .form .fields); fit = p
 fields-in (nibe r) = record { fields = onNibe (r .form .fields); fit = passing r; kind = refl; same = sym (r .form .laid) }
 fields-in (homiq r) = record { fields = onHomiq (r .form .fields); fit = passing r; kind = refl; same = sym (r .form .laid) }
 
--- with the frame's payload
-pub payload-in : {k : ℕ} {f : List ℕ} (r : Frame k f) → kinds.payload r ≡ payloadIn (fields-in r .fields)
-payload-in (nikobus r) = refl
-payload-in (command r) = refl
-payload-in (response r) = refl
-payload-in (nibe r) = refl
-payload-in (homiq r) = refl
-
-pub from-in : {k : ℕ} {f : List ℕ} (r : Frame k f) → kinds.payloadFrom r ≡ payloadFrom (fields-in r .fields)
-from-in (nikobus r) = refl
-from-in (command r) = refl
-from-in (response r) = refl
-from-in (nibe r) = refl
-from-in (homiq r) = refl
-
-pub to-in : {k : ℕ} {f : List ℕ} (r : Frame k f) → kinds.payloadTo r ≡ payloadTo (fields-in r .fields)
-to-in (nikobus r) = refl
-to-in (command r) = refl
-to-in (response r) = refl
-to-in (nibe r) = refl
-to-in (homiq r) = refl
+-- where its payload begins and ends
+pub ends-in : {k : ℕ} {f : List ℕ} (r : Frame k f)
+    → (kinds.payloadFrom r ≡ payloadFrom (fields-in r .fields)) × (kinds.payloadTo r ≡ payloadTo (fields-in r .fields))
+ends-in (nikobus r) = (refl, refl)
+ends-in (command r) = (refl, refl)
+ends-in (response r) = (refl, refl)
+ends-in (nibe r) = (refl, refl)
+ends-in (homiq r) = (refl, refl)
 
 -- the frame of fields
 framed : {l : layout.Layout} (m : l .Fields) → Passing l m → layout.Frame l (layout.bytesOf l m)

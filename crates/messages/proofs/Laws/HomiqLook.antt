@@ -10,19 +10,19 @@ use lib.Dec.{eqb}
 use lib.ListN.{length, getD, take, drop, drop-of-length-le, length-append, take-append-drop}
 use lib.Seq.{take-append-seam, drop-append-seam, drop-drop}
 use Rattle.digits.proofs.Laws.Decimal.{decimal-inj}
-use Rattle.digits.proofs.Laws.Parts.{part-front, part-rest}
+use Rattle.digits.proofs.Laws.Parts.{part-front, part-rest, next}
+use Rattle.digits.proofs.Unique.{test}
 use Rattle.digits.specs.Paper.Ascii.{ascii}
 use Rattle.digits.specs.Paper.Bytes.{part}
 use Rattle.digits.specs.Paper.Decimal.{decimal}
 use Rattle.digits.specs.Paper.Read.{Tells, holds, fails}
-use Rattle.layouts.proofs.Laws.Runs.{next}
 use Rattle.layouts.specs.Paper.Chars.{oneOf}
 use Rattle.messages.specs.Paper.Homiq.{upTo, past, fieldAt}
 use Rattle.messages.specs.Paper.Table.{Numbered, Letter}
 use Rattle.messages.specs.Work.Homiq.{same, isNumbered, isLetter, whichOf}
 use Rattle.messages.specs.declared.homiq.Homiq.the-variants.{Output, Input, Shutter, Beat, Homiq as Rest}
 use Rattle.messages.proofs.Laws.HomiqTests.{same-tells, numbered-tells, letter-tells}
-use Rattle.messages.proofs.Laws.Telling.{one-answer, both-tell}
+use Rattle.messages.proofs.Laws.Telling.{both-tell}
 
 -- ---- where a field ends
 
@@ -138,16 +138,16 @@ letter-by letters val {b} l e =
 
 module _ (cmd val : List ℕ) where
   output-test : {a : Bool} → Tells (Numbered (ascii "O.") 9 cmd × Letter (ascii "01") val) a → (isNumbered (ascii "O.") 9 cmd && isLetter (ascii "01") val) ≡ a
-  output-test t = one-answer (both-tell (numbered-tells (ascii "O.") 9 cmd) (letter-tells (ascii "01") val)) t
+  output-test t = test (both-tell (numbered-tells (ascii "O.") 9 cmd) (letter-tells (ascii "01") val)) t
 
   input-test : {a : Bool} → Tells (Numbered (ascii "I.") 15 cmd × Letter (ascii "01") val) a → (isNumbered (ascii "I.") 15 cmd && isLetter (ascii "01") val) ≡ a
-  input-test t = one-answer (both-tell (numbered-tells (ascii "I.") 15 cmd) (letter-tells (ascii "01") val)) t
+  input-test t = test (both-tell (numbered-tells (ascii "I.") 15 cmd) (letter-tells (ascii "01") val)) t
 
   shutter-test : {a : Bool} → Tells ((cmd ≡ ascii "UD") × Letter (ascii "uds") val) a → (same (ascii "UD") cmd && isLetter (ascii "uds") val) ≡ a
-  shutter-test t = one-answer (both-tell (same-tells (ascii "UD") cmd) (letter-tells (ascii "uds") val)) t
+  shutter-test t = test (both-tell (same-tells (ascii "UD") cmd) (letter-tells (ascii "uds") val)) t
 
   beat-test : {a : Bool} → Tells ((cmd ≡ ascii "HB") × Letter (ascii "1") val) a → (same (ascii "HB") cmd && isLetter (ascii "1") val) ≡ a
-  beat-test t = one-answer (both-tell (same-tells (ascii "HB") cmd) (letter-tells (ascii "1") val)) t
+  beat-test t = test (both-tell (same-tells (ascii "HB") cmd) (letter-tells (ascii "1") val)) t
 
   module _ {a : Bool} (p : Tells (Numbered (ascii "O.") 9 cmd × Letter (ascii "01") val) a) where
     pub look-output : a ≡ true → Output ≡ whichOf cmd val

@@ -4,12 +4,12 @@
 use mathlib.Core.Bool.{Bool, true, false, cond, _&&_, _||_, true≢false}
 use mathlib.Core.List.{List, [], _∷_}
 use mathlib.Core.Path.{_≡_, refl, sym, ap, ap₂, _∙_, subst}
-use Prim.Native.Nat.{ℕ, zero, suc, _+_, _*_, _/_, _≤_, _<_}
+use Prim.Native.Nat.{ℕ, _+_, _*_, _/_, _≤_}
 use native.Mathlib.Omega.{arith}
 use lib.Dec.{eqb, lit<}
 use lib.ListN.{length, getD}
 use borrow.Author.Tests.{eq-eqb, ne-eqb}
-use Rattle.digits.proofs.Laws.Hex.{byte-inj, length-hex, hex-inj}
+use Rattle.digits.proofs.Laws.Hex.{byte-inj, length-hex, digits-at, hex-inj}
 use Rattle.digits.proofs.Laws.Parts.{take-ats}
 use Rattle.digits.proofs.Laws.Reads.{answered, refused}
 use Rattle.digits.specs.Paper.Answers.{ReadsByte}
@@ -30,15 +30,6 @@ use Rattle.messages.specs.declared.nikobus.Nikobus.the-variants.{Read, S
 use Rattle.messages.specs.declared.nikobus.Six.{Six}
 
 -- ---- bytes and their digits
-
-digits-at : (p : List ℕ) (i : ℕ) → i < length p → hexByte (getD p i 0) ≡ getD (hexBytes p) (i * 2) 0 ∷ getD (hexBytes p) (i * 2 + 1) 0 ∷ []
-unfolding hexBytes hexByte
-digits-at [] i h = absurd (omega arith)
-digits-at (b ∷ p) zero h = refl
-digits-at (b ∷ p) (suc i) h =
-    let e : suc i * 2 ≡ suc (suc (i * 2)) = omega arith in
-    let f : suc (suc (i * 2)) + 1 ≡ suc (suc (i * 2 + 1)) = omega arith in
-    rw (e, f) (digits-at p i (omega arith))
 
 -- the two characters there are the digits of the byte with this number
 digits-are : (d p : List ℕ) (i : ℕ) → i * 2 + 2 ≤ length d → d ≡ hexBytes p → hexByte (getD p i 0) ≡ getD d (i * 2) 0 ∷ getD d (i * 2 + 1) 0 ∷ []
@@ -166,7 +157,7 @@ module _ {d : List ℕ} (l : LinkDigits d) where
 
 -- ---- a frame, by its first two characters
 
-isLink : Nikobus → Bool
+abbrev pub isLink : Nikobus → Bool
 isLink (Read g a) = false
 isLink (Set g a o) = false
 isLink (Answer a t o) = false
@@ -174,12 +165,10 @@ isLink (Press o) = false
 isLink Tail = false
 isLink Link = true
 
-no-link : (e : Nikobus) → isLink e ≡ false → e ≡ Link → ⊥
-unfolding isLink
+pub no-link : (e : Nikobus) → isLink e ≡ false → e ≡ Link → ⊥
 no-link e f g = true≢false (sym (ap isLink g) ∙ f)
 
 says-of : (e : Nikobus) (p s : List ℕ) {m : Message} → Bytes p → s ≡ hexBytes p → ofNikobus e p ≡ m → SaysNikobus e s m
-unfolding isLink
 says-of (Read g a) p s b h k = fixed (no-link (Read g a) refl) (sym k)
 says-of (Set g a o) p s b h k = fixed (no-link (Set g a o) refl) (sym k)
 says-of (Answer a t o) p s b h k = fixed (no-link (Answer a t o) refl) (sym k)
@@ -226,7 +215,6 @@ module _ {f p : List ℕ} (n : NikobusFrame f p) where
         go nikobuses.tail l e h = absurd (omega (arith, ap (λ (w : List ℕ). getD w 1 0) e))
 
     pub frame-pressed : (o : Six) → getD f 1 0 ≡ 78 → six o ≡ p → NikobusSaid f p (Press o)
-    unfolding isLink
     frame-pressed o mark s = record { frame = n; says = go (n .frame .form .fields) (n .frame .form .laid) (n .is) }
       where
         go : (m : nikobuses.Nikobus) → f ≡ bytesOf nikobuses.nikobus m → p ≡ nikobuses.payload m → SaysNikobus (Press o) p (lookNikobus m)
@@ -235,7 +223,6 @@ module _ {f p : List ℕ} (n : NikobusFrame f p) where
         go nikobuses.tail e h = absurd (omega (arith, ap (λ (w : List ℕ). getD w 1 0) e))
 
     pub frame-tail : (getD f 1 0 ≡ 78 → ⊥) → NikobusSaid f p Tail
-    unfolding isLink
     frame-tail mark = record { frame = n; says = go (n .frame .form .fields) (n .frame .form .laid) (n .is) }
       where
         go : (m : nikobuses.Nikobus) → f ≡ bytesOf nikobuses.nikobus m → p ≡ nikobuses.payload m → SaysNikobus Tail p (lookNikobus m)

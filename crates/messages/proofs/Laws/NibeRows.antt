@@ -12,7 +12,7 @@ use lib.Dec.{T, eqb, lit<, lit≤}
 use lib.ListN.{length, getD, take, drop, length-append, length-drop, take-append-drop}
 use lib.Seq.{drop-at, take-all}
 use Rattle.digits.proofs.Laws.Bytes.{bytes-nil, bytes-cons, bytes-append, bytes-drop}
-use Rattle.digits.proofs.Laws.LowFirst.{length-low, bytes-low, value-low, low-value, value-lt}
+use Rattle.digits.proofs.Laws.LowFirst.{width-most, length-low, bytes-low, value-low, low-value, value-lt}
 use Rattle.digits.specs.Paper.Bytes.{Bytes}
 use Rattle.digits.specs.Paper.LowFirst.{Width, one, two, four, Held, lowFirst}
 use Rattle.digits.specs.Work.LowFirst.{lowValue}
@@ -49,11 +49,6 @@ sized : (w : ℕ) → Width w → (eqb (2 + w) 3 || (eqb (2 + w) 4 || eqb (2 + w
 sized _ one = refl
 sized _ two = refl
 sized _ four = refl
-
-pub at-most-four : {w : ℕ} → Width w → w ≤ 4
-at-most-four one = lit≤ tt
-at-most-four two = lit≤ tt
-at-most-four four = lit≤ tt
 
 valued-bytes : (d : List ℕ) → Bytes d → 2 ≤ length d → valued (u16At 0 d) (length d - 2) (lowValue (drop 2 d)) ≡ d
 valued-bytes d b h =
@@ -196,7 +191,7 @@ ask-fit r l = made-fit 0x69 (lowFirst 2 r) tt (omega (arith, length-low 2 r)) (b
 
 valued-fit : (c r w v : ℕ) → T (oneOf commands c) → (r < 65536) × Held w v → Fit (onNibe (nibeOf c (valued r w v)))
 valued-fit c r w v o l =
-    made-fit c (valued r w v) o (omega (arith, valued-length r w v, at-most-four (l .1 .known)))
+    made-fit c (valued r w v) o (omega (arith, valued-length r w v, width-most (l .1 .known)))
     (bytes-append (lowFirst 2 r) (lowFirst w v) (bytes-low 2 r) (bytes-low w v))
 
 pub reply-fit : (r w v : ℕ) → Limits (reply r w v) → Fit (fields (reply r w v))

@@ -30,7 +30,7 @@ sixOf s = record { a = getD s 0 0; b = getD s 1 0; c = getD s 2 0; d = getD s 3 
 abbrev valuedOf : ℕ → ℕ → ℕ → Valued
 valuedOf r w v = record { register = r; width = w; value = v }
 
-abbrev caseOf : Message → Coded
+abbrev pub caseOf : Message → Coded
 caseOf (read g a) = OnNikobus (Read g a)
 caseOf (set g a out) = OnNikobus (Set g a (sixOf out))
 caseOf (answer a third out) = OnNikobus (Answer a third (sixOf out))
@@ -78,7 +78,7 @@ nibe-case (Put v) d = refl
 nibe-case (Done ok) d = refl
 nibe-case (Plain c) d = refl
 
-homiq-case : (e : Homiq) (w : Wire) → caseOf (ofHomiq e w) ≡ OnHomiq e
+pub homiq-case : (e : Homiq) (w : Wire) → caseOf (ofHomiq e w) ≡ OnHomiq e
 homiq-case Output w = refl
 homiq-case Input w = refl
 homiq-case Shutter w = refl

@@ -10,13 +10,6 @@ pub tells : {A : Type 0} (t : Bool) → (t ≡ true → A) → (A → t ≡ true
 tells true f g = holds (f refl)
 tells false f g = fails (λ a. false≢true (g a))
 
--- two tests of one statement answer the same
-pub one-answer : {A : Type 0} {a b : Bool} → Tells A a → Tells A b → a ≡ b
-one-answer (holds x) (holds y) = refl
-one-answer (holds x) (fails g) = absurd (g x)
-one-answer (fails f) (holds y) = absurd (f y)
-one-answer (fails f) (fails g) = refl
-
 -- one test and then another
 pub both-tell : {A B : Type 0} {a b : Bool} → Tells A a → Tells B b → Tells (A × B) (a && b)
 both-tell (holds x) (holds y) = holds (x, y)

@@ -11,11 +11,11 @@ use native.Mathlib.Omega.{arith}
 use lib.Dec.{ltb, eqb}
 use lib.IntN.{ℤ, pos, negsuc, natAbs}
 use lib.ListN.{length, drop, getD, length-drop, drop-of-length-le}
-use lib.Seq.{drop-cons}
 use borrow.Author.Tests.{eq-eqb, ne-eqb, le-ltb}
 use Rattle.digits.specs.Paper.Decimal.{decimalDigit, decimal}
 use Rattle.digits.specs.Work.Decimal.{guess}
 use Rattle.digits.proofs.Laws.Decimal.{guess-append, one-digit, guess-decimal, chars-digits, length-some}
+use Rattle.digits.proofs.Laws.Parts.{next}
 use Rattle.numbers.specs.Paper.Text.{belowZero, sign, lastDigits, fraction, textOf, text}
 use Rattle.numbers.specs.Work.Text.{step, value, pointed, behind, minusFirst, signed}
 use Rattle.numbers.proofs.Laws.Text.{length-last, mod-ten, one-and-fraction}
@@ -143,9 +143,6 @@ text-inj y z d e p = (
 
 -- ---- the reader's loops over t: i characters are passed
 
-unread : (t : List ℕ) (i : ℕ) → i < length t → drop i t ≡ getD t i 0 ∷ drop (i + 1) t
-unread t i h = rw (add-one, drop-cons t i 0)
-
 -- n is the number of the digits passed, and what is left makes the whole of it
 pub record Valued (t : List ℕ) (n i : ℕ) : Type 0 where
   pub passed : i ≤ length t
@@ -162,7 +159,7 @@ module _ {t : List ℕ} {n i : ℕ} (v : Valued t n i) where
       record {
         passed = omega arith;
         small = step-lt (ltb (getD t i 0) 48) n (getD t i 0) i (v .small);
-        rest = sym (ap (value n) (unread t i h)) ∙ v .rest;
+        rest = sym (ap (value n) (next t i h)) ∙ v .rest;
       }
 
   pub valued-end : length t ≤ i → n ≡ value 0 t
@@ -178,13 +175,13 @@ module _ {t : List ℕ} {n i : ℕ} (v : Valued t n i) where
 module _ (t : List ℕ) (i : ℕ) where
   pub point-here : i < length t → getD t i 0 ≡ 46 → length t - (i + 1) ≡ behind (drop i t)
   point-here h e =
-      sym (ap behind (unread t i h)
+      sym (ap behind (next t i h)
       ∙ ap (λ (b : Bool). pointed b (length (drop (i + 1) t)) (behind (drop (i + 1) t))) (eq-eqb (getD t i 0) 46 e)
       ∙ length-drop (i + 1) t)
 
   pub point-later : i < length t → (getD t i 0 ≡ 46 → ⊥) → behind (drop (i + 1) t) ≡ behind (drop i t)
   point-later h e =
-      sym (ap behind (unread t i h)
+      sym (ap behind (next t i h)
       ∙ ap (λ (b : Bool). pointed b (length (drop (i + 1) t)) (behind (drop (i + 1) t))) (ne-eqb (getD t i 0) 46 e))
 
   pub no-point : length t ≤ i → behind (drop i t) ≡ 0

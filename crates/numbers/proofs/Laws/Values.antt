@@ -26,11 +26,6 @@ is-four one a b = absurd (a refl)
 is-four two a b = absurd (b refl)
 is-four four a b = refl
 
-pub width-le : {w : ℕ} → Width w → w ≤ 4
-width-le one = omega arith
-width-le two = omega arith
-width-le four = omega arith
-
 -- how many numbers w bytes can be: an even number, at most 2 ^ 32
 pub record Size (w : ℕ) : Type 0 where
   pub some : 2 ≤ 256 ^ w

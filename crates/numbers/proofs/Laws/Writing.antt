@@ -11,7 +11,7 @@ use lib.IntN.{ℤ}
 use lib.ListN.{length, take}
 use Rattle.digits.specs.Paper.Bytes.{part}
 use Rattle.digits.specs.Paper.LowFirst.{Width, lowFirst}
-use Rattle.digits.proofs.Laws.LowFirst.{length-low, low-take}
+use Rattle.digits.proofs.Laws.LowFirst.{width-most, length-low, low-take}
 use Rattle.digits.specs.declared.refusal.Refusal.the-variants.{Limits, Form}
 use Rattle.puts.specs.Paper.Wrote.{refused, RoomCause, Writes}
 use Rattle.puts.specs.declared.Written.{Written}
@@ -23,7 +23,6 @@ use Rattle.numbers.specs.Paper.ByteValues.{Holds, twos, valueBytes}
 use Rattle.numbers.specs.Paper.Answers as A
 use Rattle.numbers.specs.Paper.Answers.{TextCause, ValueCause}
 use Rattle.numbers.proofs.Laws.Causes.{first-7, first-5, first-4, no-cause, text-only, decimals-right, range-right, room-enough, value-only, width-right, held-right, bytes-enough}
-use Rattle.numbers.proofs.Laws.Values.{width-le}
 
 -- ---- text::write
 module _ (z : ℤ) (d : ℕ) (room : List ℕ) where
@@ -50,7 +49,7 @@ module _ (z : ℤ) (d : ℕ) (room : List ℕ) where
 -- the bytes of every width are the first of the four
 pub value-part : {w : ℕ} (z : ℤ) {n : ℕ} {bytes : List ℕ} → Width w → n ≡ twos w z → bytes ≡ lowFirst 4 n → part 0 w bytes ≡ valueBytes w z
 value-part {w} z {n} {bytes} known e f =
-    ap (λ (k : ℕ). take k bytes) (sub-zero w) ∙ ap (take w) f ∙ low-take w 4 n (width-le known) ∙ ap (lowFirst w) e
+    ap (λ (k : ℕ). take k bytes) (sub-zero w) ∙ ap (take w) f ∙ low-take w 4 n (width-most known) ∙ ap (lowFirst w) e
 
 module _ (w : ℕ) (signed : Bool) (z : ℤ) (room : List ℕ) where
   abbrev Value : Written → List ℕ → Type 0

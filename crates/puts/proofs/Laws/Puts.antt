@@ -8,8 +8,9 @@ use native.Mathlib.Numerals.{add-one}
 use native.Mathlib.Omega.{arith}
 use lib.Dec.{leb}
 use lib.ListN.{length, take, drop, getD, set, length-append}
-use lib.Seq.{sets, take-at, take-suc, drop-cons, set-out, length-sets}
+use lib.Seq.{sets, take-at, take-suc, set-out, length-sets}
 use borrow.Author.Tests.{leb-true, leb-false}
+use Rattle.digits.proofs.Laws.Parts.{next}
 use Rattle.digits.proofs.Laws.Stores.{sets-append, sets-front}
 use Rattle.puts.specs.Paper.Put.{Put, last}
 
@@ -75,8 +76,7 @@ pub stored : (s room : List ℕ) (a i : ℕ) {whole : List ℕ} → i < length s
 stored s room a i h e =
     let l : List ℕ = set room (a + i) (getD s i 0) in
     let f : a + (i + 1) ≡ suc (a + i) = omega arith in
-    let g : getD s i 0 ∷ drop (i + 1) s ≡ drop i s = ap (λ (j : ℕ). getD s i 0 ∷ drop j s) (add-one i) ∙ sym (drop-cons s i 0 h) in
-    ap (λ (j : ℕ). sets l j (drop (i + 1) s)) f ∙ ap (sets room (a + i)) g ∙ e
+    ap (λ (j : ℕ). sets l j (drop (i + 1) s)) f ∙ ap (sets room (a + i)) (sym (next s i h)) ∙ e
 
 -- bytes that the room has a place for
 pub put-all : (r s : List ℕ) (a : ℕ) → length r ≤ last → a + length s ≤ length r → Put r (sets r a s) a (a + length s) s

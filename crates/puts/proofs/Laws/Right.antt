@@ -1,6 +1,6 @@
 -- The outcome of a call that writes, into a lent room, the bytes that are right: there is one, and how it comes about.
 -- Assumes nothing.
-use mathlib.Core.Path.{_≡_, refl, ap}
+use mathlib.Core.Path.{_≡_, refl, ap, subst}
 use mathlib.Core.Bool.{Bool, false, _||_}
 use mathlib.Core.List.{List, _++_}
 use Prim.Native.Nat.{ℕ, _≤_, _<_}
@@ -10,13 +10,14 @@ use lib.ListN.{length, drop}
 use Rattle.digits.specs.Paper.Refusals.{order, First, clear, here, after}
 use Rattle.digits.specs.declared.refusal.Refusal.the-variants.{Limits}
 use Rattle.digits.proofs.Laws.Refusals.{one-first, pass-over}
+use Rattle.puts.specs.Paper.Put.{Put}
 use Rattle.puts.specs.Paper.Wrote as puts
 use Rattle.puts.specs.Paper.Wrote.{Wrote, RoomCause, Writes}
 use Rattle.puts.specs.declared.Written.{Written}
 use Rattle.puts.specs.declared.Written.the-variants.{Refused}
 use Rattle.puts.proofs.Laws.Wrote.{after-tests}
-use Rattle.puts.proofs.Unique.{written-answer}
-use Rattle.puts.specs.Paper.Right.{WroteRight, wrote, refused, WritesRight}
+use Rattle.puts.proofs.Unique.{one-put, written-answer}
+use Rattle.puts.specs.Paper.Right.{WroteRight, wrote, refused, WritesRight, PutsRight}
 
 -- ---- the first of the causes 5 and 4
 
@@ -46,6 +47,12 @@ module _ {Cause : ℕ → Type 0} {Right : List ℕ → Type 0} {room : List ℕ
   -- where only one list is right, two answers and the rooms afterwards are the same
   pub one-wrote : {r q : Written} {s t : List ℕ} → WritesRight Cause Right room r s → WritesRight Cause Right room q t → (r ≡ q) × (s ≡ t)
   one-wrote {r} {q} a b = let e = one-outcome a b in (written-answer r q (e .0) (e .1), e .2)
+
+-- where only one list is right, what is put at one place is the same
+pub one-puts : {Right : List ℕ → Type 0} {room s t : List ℕ} {at m n : ℕ} → ((a b : List ℕ) → Right a → Right b → a ≡ b)
+    → PutsRight Right room s at m → PutsRight Right room t at n → (m ≡ n) × (s ≡ t)
+one-puts {room = room} {s = s} {at = at} {m = m} one p q =
+    one-put (subst (λ (bs : List ℕ). Put room s at m bs) (one (p .text) (q .text) (p .right) (q .right)) (p .put)) (q .put)
 
 -- ---- how it comes about
 

@@ -74,7 +74,7 @@ module _ (s room : List ℕ) {n : ℕ} (e : n ≡ cond (leb (length s) (length r
 
 -- what the first cause says of the room
 module _ {r b : ℕ} where
-  by-size : {C : Type 0} → (b ≤ r → C) → (r < b → C) → C
+  pub by-size : {C : Type 0} → (b ≤ r → C) → (r < b → C) → C
   by-size {C} f g = go (leb b r) refl
     where
       go : (t : Bool) → leb b r ≡ t → C

@@ -5,6 +5,7 @@ use mathlib.Core.List.{List, _++_}
 use Prim.Native.Nat.{ℕ, _<_}
 use lib.ListN.{length, drop}
 use Rattle.digits.specs.Paper.Refusals.{order, First}
+use Rattle.puts.specs.Paper.Put.{Put}
 use Rattle.puts.specs.Paper.Wrote.{writtenRefusal, writtenCount}
 use Rattle.puts.specs.declared.Written.{Written}
 
@@ -16,3 +17,9 @@ pub data WroteRight (Cause : ℕ → Type 0) (Right : List ℕ → Type 0) (room
 -- r is the right answer, and `later` the right room afterwards
 abbrev pub WritesRight : (ℕ → Type 0) → (List ℕ → Type 0) → List ℕ → Written → List ℕ → Type 0
 WritesRight Cause Right room r later = WroteRight Cause Right room (writtenRefusal r) (writtenCount r) later
+
+-- bytes of which `Right` holds are put at a place of a lent room, as far as the room goes, and `next` is the place behind them
+pub record PutsRight (Right : List ℕ → Type 0) (room later : List ℕ) (at next : ℕ) : Type 0 where
+  pub text : List ℕ
+  pub right : Right text
+  pub put : Put room later at next text

@@ -1,7 +1,8 @@
 -- `book::listing::fits` meets its contract: no lines of a book are longer than eight times the book and 40 bytes an entry.
 -- Assumes nothing.
 use native.Mathlib.Omega.{arith}
-use Rattle.book.proofs.Laws.Listed.{always-fits, sized-fits}
+use Rattle.puts.proofs.Laws.Sizes.{sized-fits}
+use Rattle.book.proofs.Laws.Listed.{always-fits}
 use Rattle.book.proofs.Laws.Entries.{counts-trailed}
 use borrow.Author.Needs.{needs}
 use Rattle.book.proofs.listing.fits.Statement.{statement}

@@ -26,20 +26,14 @@ head-at-requires c κs =
 mul-start : tie.Need-mul-start Inv-loop μ-loop
 mul-start c = omega arith
 
-mul-start-2 : tie.Need-mul-start-2 Inv-loop μ-loop
-mul-start-2 c = omega arith
-
 shared-slice-read-start : tie.Need-shared-slice-read-start Inv-loop μ-loop
 shared-slice-read-start c = omega (arith, c .before .before .before .before .before .before .before .pre .room)
-
-mul-stop : tie.Need-mul-stop Inv-loop μ-loop
-mul-stop c = omega arith
 
 add-stop : tie.Need-add-stop Inv-loop μ-loop
 add-stop c = omega arith
 
-mul-stop-2 : tie.Need-mul-stop-2 Inv-loop μ-loop
-mul-stop-2 c = omega arith
+mul-stop : tie.Need-mul-stop Inv-loop μ-loop
+mul-stop c = omega arith
 
 shared-slice-read-stop : tie.Need-shared-slice-read-stop Inv-loop μ-loop
 shared-slice-read-stop c = omega (arith, c .before .before .before .before .before .before .before .before .pre .room)
@@ -95,11 +89,9 @@ put-spec =
     loop-holds
     head-at-requires
     mul-start
-    mul-start-2
     shared-slice-read-start
-    mul-stop
     add-stop
-    mul-stop-2
+    mul-stop
     shared-slice-read-stop
     sub-tested
     part-tested-start

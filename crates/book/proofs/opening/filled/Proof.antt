@@ -20,7 +20,7 @@ abbrev μ-loop : tie.MeasureT-loop
 μ-loop s count end places₀ at₀ i₀ places at i = count - i
 
 loop-holds : tie.Need-loop-holds Inv-loop μ-loop
-loop-holds c = no-turns _ _ _ _ (c .before .before .pre .1 .1)
+loop-holds c = let p = c .before .before .pre .1 .1 in no-turns _ _ _ _ (p .0) (p .1)
 
 mul-is-offset : tie.Need-mul-is-offset Inv-loop μ-loop
 mul-is-offset c = omega arith
@@ -48,20 +48,14 @@ enum-known-kind c = search needs
 mul-places : tie.Need-mul-places Inv-loop μ-loop
 mul-places c = omega arith
 
-mul-places-2 : tie.Need-mul-places-2 Inv-loop μ-loop
-mul-places-2 c = omega arith
-
 slice-write-places : tie.Need-slice-write-places Inv-loop μ-loop
 slice-write-places c = omega arith
-
-mul-places-3 : tie.Need-mul-places-3 Inv-loop μ-loop
-mul-places-3 c = omega arith
 
 add-places : tie.Need-add-places Inv-loop μ-loop
 add-places c = omega arith
 
-mul-places-4 : tie.Need-mul-places-4 Inv-loop μ-loop
-mul-places-4 c = omega arith
+mul-places-2 : tie.Need-mul-places-2 Inv-loop μ-loop
+mul-places-2 c = omega arith
 
 slice-write-places-2 : tie.Need-slice-write-places-2 Inv-loop μ-loop
 slice-write-places-2 c =
@@ -115,11 +109,9 @@ filled-spec =
     entry-at-requires
     enum-known-kind
     mul-places
-    mul-places-2
     slice-write-places
-    mul-places-3
     add-places
-    mul-places-4
+    mul-places-2
     slice-write-places-2
     enum-told
     same-length-2

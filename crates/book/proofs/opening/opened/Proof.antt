@@ -36,7 +36,7 @@ filled-requires : tie.Need-filled-requires
 filled-requires c κs =
     let n = c .before .before .count .ensures in
     let t = trailed-count (n .0) (n .1) (told (c .before .before .before .before .trailed .ensures) (not-false _ (c .before .before .before .if1 .left))) in
-    (omega (arith, t .room, c .before .trailer-size .ensures), (t .small, omega (arith, t .few, c .before .before .before .before .before .before .before .pre)))
+    (omega (arith, t .room, c .before .trailer-size .ensures), (t .small, (t .few, c .before .before .before .before .before .before .before .pre)))
 
 same-length : tie.Need-same-length
 same-length c = search needs

@@ -4,10 +4,10 @@ use mathlib.Core.Path.{refl, ap, _∙_}
 use native.Mathlib.Omega.{arith}
 use borrow.Author.Needs.{needs}
 use denote.Ref.{now}
+use Rattle.digits.proofs.Laws.LowFirst.{width-most}
 use Rattle.digits.proofs.Laws.Parts.{part-rest}
 use Rattle.digits.specs.Work.LowFirst.{lowValue}
 use Rattle.messages.proofs.Laws.NibeLook.{behind-two}
-use Rattle.messages.proofs.Laws.NibeRows.{at-most-four}
 use Rattle.messages.proofs.nibe.valued_in.Statement.{statement}
 use Rattle.messages.proofs.nibe.valued_in.Tie as tie
 
@@ -18,7 +18,7 @@ sub-t4 : tie.Need-sub-t4
 sub-t4 c = search needs
 
 cast-t5 : tie.Need-cast-t5
-cast-t5 c = omega (arith, at-most-four (c .before .before .pre .1))
+cast-t5 c = omega (arith, width-most (c .before .before .pre .1))
 
 sub-value-of : tie.Need-sub-value-of
 sub-value-of c = search needs

@@ -8,11 +8,11 @@ use borrow.Author.Tests.{not-true, not-false}
 use borrow.Author.Needs.{needs}
 use Rattle.digits.specs.Paper.Read.{Tells}
 use Rattle.digits.specs.Paper.LowFirst.{Width}
-use Rattle.digits.proofs.Laws.LowFirst.{length-low}
+use Rattle.digits.proofs.Laws.LowFirst.{width-most, length-low}
 use Rattle.digits.proofs.Laws.Tests.{told, untold}
 use Rattle.numbers.specs.Paper.ByteValues.{twos, Holds}
 use Rattle.numbers.proofs.Laws.Signs.{back, read-back, said}
-use Rattle.numbers.proofs.Laws.Values.{width-le, size, held-in, in-raw, in-size}
+use Rattle.numbers.proofs.Laws.Values.{size, held-in, in-raw, in-size}
 use Rattle.numbers.proofs.Laws.Writing.{value-part, bad-width, not-held, value-fronted}
 use Rattle.numbers.proofs.byte_values.write.Statement.{statement}
 use Rattle.numbers.proofs.byte_values.write.Tie as tie
@@ -59,7 +59,7 @@ part-front-start : tie.Need-part-front-start
 part-front-start c = search needs
 
 part-front-end : tie.Need-part-front-end
-part-front-end c = let u = c .before .before .before in omega (arith, width-le (known u), ap length (c .before .four .ensures), length-low 4 (c .before .before .in-twos .result))
+part-front-end c = let u = c .before .before .before in omega (arith, width-most (known u), ap length (c .before .four .ensures), length-low 4 (c .before .before .in-twos .result))
 
 front-requires : tie.Need-front-requires
 front-requires c κs = search needs
