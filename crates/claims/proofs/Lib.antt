@@ -1,0 +1,4 @@
+pub mod Demands
+pub mod Known
+mod Laws
+pub mod Table

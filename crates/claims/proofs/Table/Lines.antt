@@ -1,0 +1,87 @@
+-- The public functions of `lines`, but for `tested`, which asks something of its caller.
+-- Assumes nothing.
+use mathlib.Core.List.{List, [], _∷_}
+use mathlib.Core.Path.{refl}
+use Prim.Native.Nat.{ℕ}
+use lib.ListN.{length}
+use native.Mathlib.Omega.{arith}
+use Rattle.digits.specs.Paper.Ascii.{ascii}
+use Rattle.digits.specs.Paper.Refusals.{refusalNumber, order, First}
+use Rattle.digits.proofs.Laws.Refusals.{cause-of}
+use Rattle.frames.specs.Paper.Search.{SearchCause}
+use Rattle.lines.specs.Paper.Answers.{LineCause, PutsNext}
+use Rattle.lines.specs.declared.Listed.{Listed}
+use Rattle.lines.proofs as lines
+use Rattle.lines.proofs.Unique as unique
+use Rattle.claims.specs.Paper.Enums.{listedNumber, listedValue, zeroListed}
+use Rattle.claims.specs.Paper.Forms.{writing}
+use Rattle.claims.specs.Paper.Row.{Row, Kept, AcceptsAll, Proper, Every, none, OneOf, here, there, tellsBeside}
+use Rattle.claims.proofs.Laws.Kept.{writing-right-kept, both, also}
+use Rattle.claims.proofs.Table.Frames.{search-stated}
+
+-- ---- the line of a frame
+
+abbrev pub write : Row
+write =
+    writing (ascii "lines::write") lines.write.Kinds.ps lines.write.Kinds.r lines.write.Reads.Pre lines.write.Reads.Post
+    lines.write.Statement.statement (2 ∷ 5 ∷ 4 ∷ [])
+    (λ κs a. LineCause (a .0) (a .1 .0 .now) (a .1 .1 .0) (length (a .1 .1 .1 .0 .now))) (λ κs a. a .1 .1 .1 .0 .now)
+    (λ κs r. r) (λ κs s. s .1 .1 .1 .0 .now)
+
+pub write-kept : Kept write
+write-kept =
+    writing-right-kept (λ M. lines.write.Met.met)
+    (λ κs a r q s t x y. unique.write (a .0) (a .1 .0 .now) (a .1 .1 .0) (a .1 .1 .1 .0 .now) {r = r} {q = q} x y)
+    (λ κs a r s p. p) (λ κs a no c. stated c)
+  where
+    stated : {k : ℕ} {f : List ℕ} {at room no : ℕ} → LineCause k f at room no → OneOf no (2 ∷ 5 ∷ 4 ∷ [])
+    stated (LineCause.no-kind e) = here
+    stated (LineCause.no-frame f) = there here
+    stated (LineCause.short l h) = there (there here)
+
+pub write-open : AcceptsAll write
+write-open = λ κs a. tt
+
+-- ---- the next line of a capture
+
+abbrev pub next : Row
+next =
+    record {
+      name = ascii "lines::next";
+      lifetimes = 2;
+      params = lines.next.Kinds.ps;
+      result = lines.next.Kinds.r;
+      Asks = lines.next.Reads.Pre;
+      Promises = lines.next.Reads.Post;
+      statement = lines.next.Statement.statement;
+      refusals = 2 ∷ 3 ∷ 1 ∷ [];
+      Cause = λ κs a. SearchCause (a .0) (a .1 .0 .now) (a .1 .1 .0);
+      Outcome = Listed × List ℕ;
+      outcome = λ κs r s. (r, s .1 .1 .1 .0 .now);
+      Tells = λ κs a. tellsBeside listedNumber listedValue zeroListed (a .1 .1 .1 .0 .now);
+    }
+
+told : {k : ℕ} {s : List ℕ} {place : ℕ} {room : List ℕ} {to : ℕ} {r : Listed} {later : List ℕ} → PutsNext k s place room to r later
+    → (no : ℕ) × (First (SearchCause k s place) order no × tellsBeside listedNumber listedValue zeroListed room (r, later) no)
+told (PutsNext.line-of f l p) = (0, (cause-of f, ((refl, λ h. absurd (omega (arith, h))), λ h. absurd (omega (arith, h)))))
+told (PutsNext.none {why = why} f) = (refusalNumber why, (cause-of f, ((refl, λ h. refl), λ h. refl)))
+
+pub next-kept : Kept next
+next-kept =
+    record {
+      ends = lines.next.Met.met;
+      told = λ κs a r s p. told p;
+      stated = λ κs a no c. search-stated c;
+      one = λ κs a r q s t x y. both (unique.next (a .0) (a .1 .0 .now) (a .1 .1 .0) (a .1 .1 .1 .0 .now) (a .1 .1 .1 .1 .0) x y);
+    }
+
+pub next-open : AcceptsAll next
+next-open = λ κs a. tt
+
+-- ---- all of them
+
+abbrev pub rows : List Row
+rows = write ∷ next ∷ []
+
+pub rows-kept : Every Proper rows
+rows-kept = also write-kept write-open (also next-kept next-open none)
