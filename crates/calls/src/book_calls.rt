@@ -1,0 +1,101 @@
+// The functions of `lines`, `book` and `list`.
+use super::answer;
+use super::answer::Answer;
+use super::digit_calls::put;
+use super::put_calls::written;
+use super::request;
+use super::value;
+use book::Kept;
+use book::Opened;
+use frames::Whole;
+use lines::Listed;
+
+pub(crate) fn read(line: &[u8], values: &mut [u64; 16], store: &mut [u8]) -> usize {
+    request::read(
+        b"\
+        lines::write u8 bytes usize room\n\
+        lines::next u8 bytes usize room usize\n\
+        lines::tested u8 bytes usize room usize\n\
+        book::open bytes\n\
+        book::entry bytes usize\n\
+        book::frame bytes usize\n\
+        book::line bytes usize room\n\
+        book::list bytes room\n\
+        book::add bytes u8 bytes room\n\
+        list::write bytes room\n",
+        line,
+        values,
+        store,
+    )
+}
+
+pub(crate) fn call(row: usize, values: &[u64; 16], store: &[u8], room: &mut [u8]) -> Answer {
+    if row < 4 {
+        return of_line(row, values, store, room);
+    }
+    let s = value::bytes(store, values[0], values[1]);
+    let number = value::place(values[2]);
+    match row {
+        4 => opened(book::open(s)),
+        5 => kept(book::entry(s, number)),
+        6 => put(book::frame(s, number), room),
+        7 => written(book::line(s, number, room)),
+        8 => written(book::list(s, room)),
+        9 => written(book::add(
+            s,
+            value::small(values[2]),
+            value::bytes(store, values[3], values[4]),
+            room,
+        )),
+        _ => written(list::write(s, room)),
+    }
+}
+
+fn of_line(row: usize, values: &[u64; 16], store: &[u8], room: &mut [u8]) -> Answer {
+    let kind = value::small(values[0]);
+    let s = value::bytes(store, values[1], values[2]);
+    let at = value::place(values[3]);
+    match row {
+        1 => written(lines::write(kind, s, at, room)),
+        2 => listed(lines::next(kind, s, at, room, value::place(values[4]))),
+        _ => tested(kind, s, at, room, value::place(values[4])),
+    }
+}
+
+fn listed(r: Listed) -> Answer {
+    match r {
+        Listed::At { start, len, behind } => {
+            answer::three(start as u64, len as u64, behind as u64)
+        }
+        Listed::Refused(why) => answer::refused(why),
+    }
+}
+
+// The places are asked of the caller, and proved here: they are those of the one frame.
+fn tested(kind: u8, s: &[u8], at: usize, room: &mut [u8], to: usize) -> Answer {
+    match frames::one_frame(kind, s) {
+        Whole::Is { from, to: end } => {
+            answer::number(lines::tested(kind, s, from, end, at, room, to) as u64)
+        }
+        Whole::Refused(why) => answer::refused(why),
+    }
+}
+
+fn opened(r: Opened) -> Answer {
+    match r {
+        Opened::Count(n) => answer::number(n as u64),
+        Opened::Refused(why) => answer::refused(why),
+    }
+}
+
+fn kept(r: Kept) -> Answer {
+    match r {
+        Kept::Is {
+            kind,
+            offset,
+            from,
+            to,
+        } => answer::four(kind as u64, offset as u64, from as u64, to as u64),
+        Kept::Refused(why) => answer::refused(why),
+    }
+}
