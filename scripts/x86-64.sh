@@ -17,12 +17,12 @@ build() {
             "$lib/libc.so.6" "$lib/libc_nonshared.a" "$lib/ld-linux-x86-64.so.2" "$lib/libgcc.a" "$lib/crtendS.o" "$lib/crtn.o"
 }
 
-# run PROGRAM ARGUMENTS..: on another processor the emulator starts the kit's own loader, which a program that `rt` linked does not
-# name.
+# What stands before a program and its arguments: nothing, or on another processor the emulator, which starts the kit's own loader,
+# since a program that `rt` linked names one that is not there.
+emulator=()
+[ "$(uname -m)" = x86_64 ] || emulator=("$tools/qemu-x86_64" "$lib/ld-linux-x86-64.so.2" --library-path "$lib")
+
+# run PROGRAM ARGUMENTS..
 run() {
-    if [ "$(uname -m)" = x86_64 ]; then
-        "$@"
-    else
-        "$tools/qemu-x86_64" "$lib/ld-linux-x86-64.so.2" --library-path "$lib" "$@"
-    fi
+    "${emulator[@]}" "$@"
 }

@@ -3,7 +3,7 @@
 
    numbers SEED: prints the seed, each difference, and `N passed, M failed`: a test is a property, over all inputs. */
 #include "../include/bolsterweft.h"
-#include "probe.h"
+#include "numbers_in_c.h"
 #include "trials.h"
 
 enum property { TEXT, TEXT_ROOM, READ_BACK, READ, VALUE, VALUE_ROOM, VALUE_BACK, VALUE_READ, FITS, PANEL, CLIMATE, PROPERTIES };
@@ -20,52 +20,6 @@ static void expect(enum property p, int right, i64 raw, i64 with) {
     tried[p]++;
     if (!right && !wrong[p]++)
         printf("%s: wrong at %lld, %lld\n", names[p], (long long)raw, (long long)with);
-}
-
-static const i64 LOWEST = -2147483648LL, HIGHEST = 4294967295LL;
-
-static int in_range(i64 raw) { return LOWEST <= raw && raw <= HIGHEST; }
-
-/* The text of a raw number, as C writes it, with zeros in front for the decimals and a point put in. */
-static usize text_of(i64 raw, u32 decimals, char *out) {
-    char digits[32];
-    usize n = (usize)snprintf(digits, sizeof digits, "%0*lld", (int)decimals + 1, (long long)(raw < 0 ? -raw : raw)), k = 0;
-    if (raw < 0)
-        out[k++] = '-';
-    for (usize i = 0; i < n; i++) {
-        if (decimals && i == n - decimals)
-            out[k++] = '.';
-        out[k++] = digits[i];
-    }
-    return k;
-}
-
-static int is_digit(u8 c) { return '0' <= c && c <= '9'; }
-
-/* The grammar of 01: [-] (0 | 1-9 digits) [. 1 to 3 digits], no minus on zero, the number in range. */
-static struct number read_of(const u8 *t, usize n) {
-    struct number none = {7, 0, 0}, r = {0, 0, 0};
-    usize i = 0;
-    int minus = n && t[0] == '-';
-    i64 value = 0;
-    i += (usize)minus;
-    usize first = i;
-    while (i < n && is_digit(t[i]) && i - first < 11)
-        value = value * 10 + (t[i++] - '0');
-    if (i == first || (t[first] == '0' && i > first + 1))
-        return none;
-    if (i < n) {
-        if (t[i++] != '.')
-            return none;
-        while (i < n && is_digit(t[i]) && r.decimals < 3) {
-            value = value * 10 + (t[i++] - '0');
-            r.decimals++;
-        }
-        if (!r.decimals || i < n)
-            return none;
-    }
-    r.raw = minus ? -value : value;
-    return (minus && !value) || !in_range(r.raw) ? none : r;
 }
 
 static int same_number(struct number a, struct number b) {

@@ -14,7 +14,7 @@ static u64 any(void) {
 }
 
 /* Takes the seed from the program's first argument, 0 where it has none, and prints it. */
-static void begin(int count, char **words) {
+static inline void begin(int count, char **words) {
     u64 seed = 0;
     if (count > 1)
         for (const char *p = words[1]; *p >= '0' && *p <= '9'; p++)

@@ -1,0 +1,190 @@
+//! The comparison of the calls: requests to every public function.
+
+use crate::functions::{self, Function, AT, ROOM};
+use crate::malformed;
+use crate::random::Random;
+use crate::sides::{self, Sides};
+use crate::tests::{self, Counts, Test, Totals, UNLISTED};
+use std::collections::BTreeSet;
+
+const NO_REQUEST: &str = "request?";
+const LONGEST_ROOM: usize = 2_097_202;
+/// How many requests of the tests that are of no function.
+const UNKNOWN: usize = 60;
+const LONGEST: usize = 40;
+/// How many times as many requests are made where a rare sort of answer is looked for.
+const MORE: usize = 50;
+
+pub fn compare(sides: &Sides, seed: u64, count: usize) -> Totals {
+    let functions = functions::all();
+    let weights: usize = functions.iter().map(|function| function.weight).sum();
+    let mut all: Vec<Test> = functions
+        .iter()
+        .map(|function| test(function, seed, (count * function.weight).div_ceil(weights)))
+        .collect();
+    all.push(of_requests(
+        "no function",
+        seed,
+        UNKNOWN,
+        &[NO_REQUEST],
+        malformed::unknown,
+    ));
+    all.push(of_requests(
+        "the longest requests",
+        seed,
+        LONGEST,
+        &["ok", "refused 8", "refused 1", NO_REQUEST],
+        functions::longest,
+    ));
+    tests::run(sides, seed, &all)
+}
+
+fn test(function: &Function, seed: u64, count: usize) -> Test {
+    let mut answers: Vec<&str> = function.answers.iter().map(String::as_str).collect();
+    answers.push(NO_REQUEST);
+    of_requests(&function.test, seed, count, &answers, |random| {
+        request(function, random)
+    })
+}
+
+/// A test of so many requests, and of more where a sort of answer is not among those that the second decoder gives.
+fn of_requests(
+    name: &str,
+    seed: u64,
+    count: usize,
+    needs: &[&str],
+    make: impl Fn(&mut Random) -> Vec<u8>,
+) -> Test {
+    let mut random = Random::of(seed, name);
+    let needs: Vec<String> = needs.iter().map(ToString::to_string).collect();
+    let mut test = Test {
+        name: name.to_string(),
+        cases: Vec::new(),
+        needs,
+        count: count_answer,
+    };
+    let mut seen = BTreeSet::new();
+    for nth in 0..MORE * count {
+        let complete = test.needs.iter().all(|sort| seen.contains(sort));
+        if nth >= count && complete {
+            break;
+        }
+        let request = make(&mut random);
+        let new = seen.insert(sort_of(&test.needs, &sides::second_answer(&request)).to_string());
+        if nth < count || new {
+            test.cases.push(request);
+        }
+    }
+    test
+}
+
+/// The longest of the sorts that an answer begins with.
+fn sort_of<'a>(sorts: &'a [String], answer: &[u8]) -> &'a str {
+    let text = String::from_utf8_lossy(answer);
+    let begins = |sort: &&String| {
+        text.strip_prefix(sort.as_str())
+            .is_some_and(|rest| rest.is_empty() || rest.starts_with(' '))
+    };
+    sorts
+        .iter()
+        .filter(begins)
+        .max_by_key(|sort| sort.len())
+        .map_or(UNLISTED, String::as_str)
+}
+
+fn count_answer(test: &Test, _: &[u8], answer: &[u8], counts: &mut Counts) {
+    *counts
+        .entry(sort_of(&test.needs, answer).to_string())
+        .or_default() += 1;
+}
+
+fn request(function: &Function, random: &mut Random) -> Vec<u8> {
+    let mut words = vec![function.name.to_string()];
+    words.extend((function.make)(random));
+    choose_room(&mut words, random);
+    let request = words.join(" ").into_bytes();
+    if random.one_in(14) {
+        malformed::spoilt(&request, random)
+    } else {
+        request
+    }
+}
+
+/// Puts a length in the place of the room, and a number in that of its place: what is written just fits, or does not, or is far off.
+fn choose_room(words: &mut [String], random: &mut Random) {
+    let Some(room) = words.iter().position(|word| word == ROOM) else {
+        return;
+    };
+    let at = words.iter().position(|word| word == AT);
+    match at {
+        None => {
+            words[room] = generous(words).to_string();
+            let length = written(words);
+            words[room] = room_for(length, random).to_string();
+        }
+        Some(at) => {
+            words[room] = "0".to_string();
+            words[at] = "0".to_string();
+            let length = written(words);
+            let (chosen_room, chosen_at) = room_and_place(length.unwrap_or(20), random);
+            words[room] = chosen_room.to_string();
+            words[at] = chosen_at.to_string();
+        }
+    }
+}
+
+/// A room that is long enough for every answer but the longest listings'.
+fn generous(words: &[String]) -> usize {
+    let bytes: usize = words.iter().map(String::len).sum::<usize>() / 2;
+    (40 * bytes + 400).min(LONGEST_ROOM)
+}
+
+/// How many bytes a request writes: the last number before the room of its answer; none where it is refused.
+fn written(words: &[String]) -> Option<usize> {
+    let answer = String::from_utf8(sides::second_answer(words.join(" ").as_bytes())).ok()?;
+    let (values, _) = answer.strip_prefix("ok ")?.split_once(" room ")?;
+    values.split(' ').next_back()?.parse().ok()
+}
+
+fn room_for(length: Option<usize>, random: &mut Random) -> usize {
+    let Some(length) = length else {
+        return random.pick(&[0, 1, 12, 40, 300]);
+    };
+    let room = match random.below(8) {
+        0 => 0,
+        1 => length.saturating_sub(1),
+        2 => random.below(length + 1),
+        3 => length + 1,
+        4 => length + random.from_to(2, 40),
+        _ => length,
+    };
+    room.min(LONGEST_ROOM)
+}
+
+/// A room, and where in it so many bytes are put: at its front, up to its end, over it, behind it, and near 2^64.
+fn room_and_place(length: usize, random: &mut Random) -> (usize, u64) {
+    let before = random.below(10);
+    let (room, at) = match random.below(9) {
+        0 => (length, 0),
+        1 => (before + length, before),
+        2 => ((before + length).saturating_sub(1), before),
+        3 => (before + length + random.from_to(1, 9), before),
+        4 => (before + random.below(length + 1), before),
+        5 => (before, before),
+        6 => (before, before + 1),
+        7 => (0, before),
+        _ => return (before, near_the_largest(length, random)),
+    };
+    (room.min(LONGEST_ROOM), at as u64)
+}
+
+fn near_the_largest(length: usize, random: &mut Random) -> u64 {
+    let length = length as u64;
+    random.pick(&[
+        u64::MAX,
+        u64::MAX - length,
+        u64::MAX - length + 1,
+        (u64::MAX - length).saturating_sub(1),
+        1 << 63,
+    ])
+}

@@ -1,0 +1,305 @@
+//! The frames of the five kinds: their layouts, the search, and how they are built.
+
+use crate::checks;
+use crate::digits;
+use crate::refusal::Refusal;
+
+pub const NIKOBUS: u8 = 1;
+pub const NEST_COMMAND: u8 = 2;
+pub const NEST_RESPONSE: u8 = 3;
+pub const NIBE: u8 = 4;
+pub const HOMIQ: u8 = 5;
+
+/// Nest's preamble of a kind.
+pub const COMMAND_PREAMBLE: &[u8] = &[0xD5, 0xAA, 0x96];
+pub const RESPONSE_PREAMBLE: &[u8] = &[0xD5, 0xD5, 0xAA, 0x96];
+
+pub const MOST_LINK_BYTES: usize = 122;
+pub const MOST_NEST_PAYLOAD: usize = 1024;
+pub const MOST_NIBE_DATA: usize = 255;
+pub const NIBE_COMMANDS: &[u8] = &[0x60, 0x62, 0x68, 0x69, 0x6A, 0x6B, 0x6C];
+
+pub fn known(kind: u8) -> bool {
+    (1..=5).contains(&kind)
+}
+
+/// A frame at the head of bytes: its length, and where in it its payload begins and ends.
+#[derive(Clone, Copy, Debug, PartialEq, Eq)]
+pub struct Head {
+    pub length: usize,
+    pub begins: usize,
+    pub ends: usize,
+}
+
+/// A frame found in a buffer; all places are places of the buffer.
+#[derive(Clone, Copy, Debug, PartialEq, Eq)]
+pub struct Found {
+    pub start: usize,
+    pub length: usize,
+    pub begins: usize,
+    pub ends: usize,
+}
+
+/// The frame of that kind at the bytes' head, where there is one.
+pub fn head(kind: u8, bytes: &[u8]) -> Option<Head> {
+    match kind {
+        NIKOBUS => nikobus(bytes),
+        NEST_COMMAND => nest(COMMAND_PREAMBLE, bytes),
+        NEST_RESPONSE => nest(RESPONSE_PREAMBLE, bytes),
+        NIBE => nibe(bytes),
+        HOMIQ => homiq(bytes),
+        _ => None,
+    }
+}
+
+/// The frame with the smallest start at or after the place: 2, 3, 1.
+pub fn search(kind: u8, bytes: &[u8], place: u64) -> Result<Found, Refusal> {
+    if !known(kind) {
+        return Err(Refusal::Kind);
+    }
+    let place = usize::try_from(place).map_err(|_| Refusal::Place)?;
+    if place > bytes.len() {
+        return Err(Refusal::Place);
+    }
+    for start in place..bytes.len() {
+        if let Some(frame) = head(kind, &bytes[start..]) {
+            return Ok(Found {
+                start,
+                length: frame.length,
+                begins: start + frame.begins,
+                ends: start + frame.ends,
+            });
+        }
+    }
+    Err(Refusal::NoFrame)
+}
+
+/// The bytes as one frame and no byte more: 2, 5.
+pub fn one_frame(kind: u8, bytes: &[u8]) -> Result<Head, Refusal> {
+    if !known(kind) {
+        return Err(Refusal::Kind);
+    }
+    match head(kind, bytes) {
+        Some(frame) if frame.length == bytes.len() => Ok(frame),
+        _ => Err(Refusal::Limits),
+    }
+}
+
+/// A Nikobus frame at the head: a link, a press or a tail.
+pub fn nikobus(bytes: &[u8]) -> Option<Head> {
+    if bytes.starts_with(b"$") {
+        nikobus_link(bytes)
+    } else if bytes.starts_with(b"#N") {
+        nikobus_press(bytes)
+    } else if bytes.starts_with(b"#E1\r") {
+        Some(Head {
+            length: 4,
+            begins: 4,
+            ends: 4,
+        })
+    } else {
+        None
+    }
+}
+
+/// `$`, LL, payload of LL - 10 digits, CRC16, CRC8, CR: LL bytes in all.
+fn nikobus_link(bytes: &[u8]) -> Option<Head> {
+    let length = usize::from(digits::bytes_of_hex(bytes.get(1..3)?)?[0]);
+    if !length.is_multiple_of(2) || !(0x0C..=0xFE).contains(&length) {
+        return None;
+    }
+    let frame = bytes.get(..length)?;
+    let (begins, ends) = (3, length - 7);
+    let payload = digits::bytes_of_hex(&frame[begins..ends])?;
+    let crc16 = digits::bytes_of_hex(&frame[ends..ends + 4])?;
+    let crc8 = digits::bytes_of_hex(&frame[ends + 4..ends + 6])?;
+    let right = crc16 == checks::NIKOBUS_CRC16.of(&payload).to_be_bytes()
+        && u16::from(crc8[0]) == checks::NIKOBUS_CRC8.of(&frame[..ends + 4])
+        && frame[ends + 6] == b'\r';
+    right.then_some(Head {
+        length,
+        begins,
+        ends,
+    })
+}
+
+/// `#N`, six digits, CR.
+fn nikobus_press(bytes: &[u8]) -> Option<Head> {
+    let frame = bytes.get(..9)?;
+    digits::bytes_of_hex(&frame[2..8])?;
+    (frame[8] == b'\r').then_some(Head {
+        length: 9,
+        begins: 2,
+        ends: 8,
+    })
+}
+
+/// Preamble, id, length, payload, CRC.
+pub fn nest(preamble: &[u8], bytes: &[u8]) -> Option<Head> {
+    if !bytes.starts_with(preamble) {
+        return None;
+    }
+    let checked = &bytes[preamble.len()..];
+    let words = checked.get(..4)?;
+    let payload = usize::from(digits::word(words[2], words[3]));
+    if payload > MOST_NEST_PAYLOAD {
+        return None;
+    }
+    let crc = checked.get(4 + payload..4 + payload + 2)?;
+    if digits::word(crc[0], crc[1]) != checks::NEST_CRC.of(&checked[..4 + payload]) {
+        return None;
+    }
+    let begins = preamble.len() + 4;
+    Some(Head {
+        length: begins + payload + 2,
+        begins,
+        ends: begins + payload,
+    })
+}
+
+/// C0, command, length, data, check.
+pub fn nibe(bytes: &[u8]) -> Option<Head> {
+    let start = bytes.get(..3)?;
+    if start[0] != 0xC0 || !NIBE_COMMANDS.contains(&start[1]) {
+        return None;
+    }
+    let ends = 3 + usize::from(start[2]);
+    let check = *bytes.get(ends)?;
+    // The length and the data are checked, the command is not.
+    (u16::from(check) == checks::NIBE_XOR.of(&bytes[2..ends])).then_some(Head {
+        length: ends + 1,
+        begins: 3,
+        ends,
+    })
+}
+
+/// `<;CMD;VAL;SRC;DST;ID;TYPE;CRC;>` CR LF.
+pub fn homiq(bytes: &[u8]) -> Option<Head> {
+    if !bytes.starts_with(b"<;") {
+        return None;
+    }
+    let begins = 2;
+    let ends = begins + homiq_six_fields(&bytes[begins..])?;
+    let crc_begins = ends + 1;
+    let crc_ends = crc_begins + up_to_separator(bytes.get(crc_begins..)?, 3)?;
+    let crc = digits::number_of_decimal(&bytes[crc_begins..crc_ends], 255)?;
+    let right = bytes[crc_ends..].starts_with(b";>\r\n")
+        && crc == u64::from(homiq_crc(&bytes[begins..ends]));
+    right.then_some(Head {
+        length: crc_ends + 4,
+        begins,
+        ends,
+    })
+}
+
+/// How long CMD to TYPE at the head are, with `;` between and one behind.
+fn homiq_six_fields(bytes: &[u8]) -> Option<usize> {
+    let mut place = 0;
+    for (number, most) in HOMIQ_FIELDS.iter().enumerate() {
+        let length = up_to_separator(bytes.get(place..)?, *most)?;
+        if !homiq_field(number, &bytes[place..place + length]) {
+            return None;
+        }
+        place += length + 1;
+    }
+    Some(place - 1)
+}
+
+/// The most characters of CMD, VAL, SRC, DST, ID and TYPE.
+const HOMIQ_FIELDS: [usize; 6] = [8, 16, 4, 4, 3, 1];
+
+/// How many bytes stand before the first `;`, where they are not over the limit.
+fn up_to_separator(bytes: &[u8], most: usize) -> Option<usize> {
+    bytes.iter().take(most + 1).position(|c| *c == b';')
+}
+
+/// Whether a field is within its limits; 0 is CMD, 5 is TYPE.
+fn homiq_field(number: usize, field: &[u8]) -> bool {
+    match number {
+        0..=3 => {
+            (1..=HOMIQ_FIELDS[number]).contains(&field.len())
+                && field.iter().all(|c| homiq_character(*c))
+        }
+        4 => digits::number_of_decimal(field, 511).is_some_and(|id| id >= 1),
+        _ => field == b"s" || field == b"a",
+    }
+}
+
+fn homiq_character(character: u8) -> bool {
+    (0x21..=0x7E).contains(&character) && !b";<>".contains(&character)
+}
+
+/// The CRC of the fields, joined without the separators.
+pub fn homiq_crc(fields: &[u8]) -> u8 {
+    let joined: Vec<u8> = fields.iter().copied().filter(|c| *c != b';').collect();
+    checks::HOMIQ_CRC.of(&joined) as u8
+}
+
+/// Frames from their parts. Each is refused with 5 where a part is outside its limits.
+pub mod build {
+    use super::*;
+
+    /// The link whose payload are these bytes.
+    pub fn link(payload: &[u8]) -> Result<Vec<u8>, Refusal> {
+        if !(1..=MOST_LINK_BYTES).contains(&payload.len()) {
+            return Err(Refusal::Limits);
+        }
+        let mut frame = b"$".to_vec();
+        frame.extend(digits::hex(&[(2 * payload.len() + 10) as u8]));
+        frame.extend(digits::hex(payload));
+        let crc16 = checks::NIKOBUS_CRC16.of(payload);
+        frame.extend(digits::hex(&crc16.to_be_bytes()));
+        let crc8 = checks::NIKOBUS_CRC8.of(&frame);
+        frame.extend(digits::hex(&[crc8 as u8]));
+        frame.push(b'\r');
+        Ok(frame)
+    }
+
+    /// The press of six hex digits.
+    pub fn press(six: &[u8]) -> Result<Vec<u8>, Refusal> {
+        if six.len() != 6 || digits::bytes_of_hex(six).is_none() {
+            return Err(Refusal::Limits);
+        }
+        Ok([b"#N", six, b"\r"].concat())
+    }
+
+    pub fn tail() -> Vec<u8> {
+        b"#E1\r".to_vec()
+    }
+
+    /// A Nest frame; the preamble says the direction.
+    pub fn nest(preamble: &[u8], id: u16, payload: &[u8]) -> Result<Vec<u8>, Refusal> {
+        if payload.len() > MOST_NEST_PAYLOAD {
+            return Err(Refusal::Limits);
+        }
+        let length = payload.len() as u16;
+        let checked = [&id.to_le_bytes(), &length.to_le_bytes(), payload].concat();
+        let crc = checks::NEST_CRC.of(&checked).to_le_bytes();
+        Ok([preamble, &checked, &crc].concat())
+    }
+
+    pub fn nibe(command: u8, data: &[u8]) -> Result<Vec<u8>, Refusal> {
+        if !NIBE_COMMANDS.contains(&command) || data.len() > MOST_NIBE_DATA {
+            return Err(Refusal::Limits);
+        }
+        let checked = [&[data.len() as u8], data].concat();
+        let check = checks::NIBE_XOR.of(&checked) as u8;
+        Ok([&[0xC0, command], &checked[..], &[check]].concat())
+    }
+
+    /// The Homiq frame around CMD to TYPE.
+    pub fn homiq(fields: &[u8]) -> Result<Vec<u8>, Refusal> {
+        if !homiq_content(fields) {
+            return Err(Refusal::Limits);
+        }
+        let crc = digits::decimal(u64::from(homiq_crc(fields)));
+        Ok([b"<;", fields, b";", &crc, b";>\r\n"].concat())
+    }
+}
+
+/// Whether the bytes are six fields within their limits, with `;` between.
+pub fn homiq_content(bytes: &[u8]) -> bool {
+    let fields: Vec<&[u8]> = bytes.split(|c| *c == b';').collect();
+    fields.len() == HOMIQ_FIELDS.len()
+        && (0..fields.len()).all(|number| homiq_field(number, fields[number]))
+}

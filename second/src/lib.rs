@@ -1,0 +1,28 @@
+//! An independent second decoder and encoder, written from document 01, the bus documents and
+//! docs/CALLS.md. It is meant to be read beside document 01; see README.md.
+
+pub mod acknowledge;
+pub mod book;
+pub mod calls;
+pub mod checks;
+pub mod digits;
+pub mod frames;
+pub mod lines;
+pub mod list;
+pub mod messages;
+pub mod numbers;
+pub mod refusal;
+pub mod words;
+
+#[cfg(test)]
+mod known_points;
+
+/// The answer line to one request line, both without LF (docs/CALLS.md).
+pub fn answer(request: &[u8]) -> Vec<u8> {
+    calls::answer(request)
+}
+
+/// What the listing program prints for its whole standard input.
+pub fn listing(input: &[u8]) -> Vec<u8> {
+    list::listing(input)
+}
