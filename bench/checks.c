@@ -1,9 +1,6 @@
-/* The time of the proved engines over 64 KiB, as a ratio to the same loop in C, compiled by the same compiler, in the same run.
-   The two take turns, so that what else the machine does falls on both; the least time of each counts. */
+/* The check values, against the same loops in C. */
 #include "../tests/probe.h"
-#include "clock.h"
-
-enum { SIZE = 65536, TURNS = 300 };
+#include "table.h"
 
 /* The same loops, bit by bit, as one would write them in C. */
 static u16 high16(u16 v, const u8 *s, usize n) {
@@ -52,56 +49,36 @@ OF(r_nest_crc, probe_nest_crc(s, n))
 OF(r_nibe_xor, probe_nibe_xor(s, n))
 OF(r_homiq_crc, probe_homiq_crc(s, n))
 
-static const struct {
-    const char *name;
-    int calls; /* in one turn, so that a turn takes longer than the clock is coarse */
-    u32 (*rattle)(const u8 *, usize);
-    u32 (*c)(const u8 *, usize);
-} rows[] = {
-    {"nikobus crc16", 1, r_nikobus_crc16, c_nikobus_crc16},
-    {"nikobus crc8", 1, r_nikobus_crc8, c_nikobus_crc8},
-    {"nest crc", 1, r_nest_crc, c_nest_crc},
-    {"nibe xor", 100, r_nibe_xor, c_nibe_xor},
-    {"homiq crc", 1, r_homiq_crc, c_homiq_crc},
-};
+static u8 s[FULL];
+static usize length;
+static u32 ours_is, theirs_is;
 
-static double least(double a, double b) { return a < b ? a : b; }
-
-int main(void) {
-    static u8 s[SIZE];
-    const double most = 1.15;
-    int status = 0;
+static usize make(usize size) {
     u32 x = 1;
-    for (usize i = 0; i < SIZE; i++) {
+    for (usize i = 0; i < size; i++) {
         x = x * 1664525u + 1013904223u;
         s[i] = (u8)(x >> 24);
     }
-    printf("%-16s %12s %12s %8s  (64 KiB, at most %.2f)\n", "check", "rattle, us", "c, us", "ratio", most);
-    for (usize k = 0; k < sizeof rows / sizeof *rows; k++) {
-        double rattle = 1e18, c = 1e18;
-        for (int t = 0; t < TURNS; t++) {
-            u32 p = 0, q = 0;
-            double a = now();
-            for (int j = 0; j < rows[k].calls; j++) {
-                s[0] = (u8)(t + j);
-                p = p * 31 + rows[k].rattle(s, SIZE);
-            }
-            double b = now();
-            for (int j = 0; j < rows[k].calls; j++) {
-                s[0] = (u8)(t + j);
-                q = q * 31 + rows[k].c(s, SIZE);
-            }
-            double d = now();
-            rattle = least(rattle, (b - a) / rows[k].calls);
-            c = least(c, (d - b) / rows[k].calls);
-            if (p != q) {
-                printf("%s: the two differ\n", rows[k].name);
-                return 1;
-            }
-        }
-        double ratio = rattle / c;
-        printf("%-16s %12.1f %12.1f %8.2f%s\n", rows[k].name, rattle, c, ratio, ratio <= most ? "" : "  OVER");
-        status |= ratio > most;
-    }
-    return status;
+    return length = size;
+}
+
+static int same(void) { return ours_is == theirs_is; }
+
+#define JOB(name)                                                                                                          \
+    static void ours_##name(void) { ours_is = r_##name(s, length); }                                                       \
+    static void theirs_##name(void) { theirs_is = c_##name(s, length); }                                                   \
+    static const struct job job_##name = {make, ours_##name, theirs_##name, same, 0};
+JOB(nikobus_crc16)
+JOB(nikobus_crc8)
+JOB(nest_crc)
+JOB(nibe_xor)
+JOB(homiq_crc)
+
+int main(void) {
+    int bad = row("check", "Nikobus: CRC16", 1.15, &job_nikobus_crc16);
+    bad += row("check", "Nikobus: CRC8", 1.15, &job_nikobus_crc8);
+    bad += row("check", "Nest: CRC", 1.15, &job_nest_crc);
+    bad += row("check", "Nibe: XOR", 1.15, &job_nibe_xor);
+    bad += row("check", "Homiq: CRC", 1.15, &job_homiq_crc);
+    return bad ? 1 : 0;
 }
