@@ -62,7 +62,8 @@ pub record Demand2 : Type 0 where
   -- "a frame, decoded and encoded, has the same bytes": its payload stands beside what it is decoded to, and the room is long enough
   pub same-bytes : {k : ℕ} {f : List ℕ} {e : Coded} {from to : ℕ} (said : Said k f e from to) (room later : List ℕ) (r : Written) → length f ≤ length room
       → Encodes k e (part from to f) room r later → (writtenRefusal r ≡ 0) × (writtenCount r ≡ length f) × (later ≡ f ++ drop (length f) room)
-  -- "Each number's decimal text is exact and reads back to the same number", and what is read is what was written
+  -- "Each number's decimal text .. reads back to the same number", and what is read is what was written. (That it "is exact" is what `text`
+  -- says: the digits of the magnitude, with a point put in.)
   pub reads-back : (z : ℤ) (d : ℕ) (r : Reading) → Raw z → d ≤ mostDecimals → ReadsText (text z d) r → r ≡ IsNumber z d
   pub written-so : (t : List ℕ) (z : ℤ) (d : ℕ) → ReadsText t (IsNumber z d) → text z d ≡ t
 
