@@ -1,79 +1,111 @@
 #!/usr/bin/env python3
 """Whether the must-fail edits show what they are said to show, by the logs that `rt ci` left in target/must-fail/.
 
-- Each public function of a library is left unproved by two edits of its code at least (an edit of a definition does not count).
-- The first thing that the prover says of an edit is that a fact does not hold, and not that a proof no longer fits the code.
-- docs/PROMISES.md names each edit and each public function.
+- No two changes of an edit stand in the same function (tests/changes.py says which functions a change stands in).
+- Where a change stands, the first thing that the prover says of the function is that a fact does not hold: not that the proof no longer fits
+  the code, nor that it waits for another function. Of a changed definition it is the first thing that the prover says at all.
+- Each public function of a library is left unproved by two wrong answers at least, of its own code or of what it calls. (A changed definition
+  does not count.)
+- docs/PROMISES.md names each wrong answer and each public function.
 
-Prints what is amiss and `N passed, M failed`: a test is a public function, or an edit.
+Prints what is amiss and `N passed, M failed`: a test is a change, or a public function.
 """
-import glob
-import os
 import re
 import sys
 
-os.chdir(os.path.join(os.path.dirname(os.path.abspath(__file__)), ".."))
+sys.dont_write_bytecode = True  # or Python leaves a folder beside the one that is imported
+import changes
 
 # These repeat promises of other crates, one call each, for C to call: the edits of those crates are their own.
 REPEATS = {"probe", "probe_list", "probe_book"}
 
 
-def public_functions(crate):
-    """The public functions of a crate, as the prover names them."""
-    base = "crates/%s/src/" % crate
-    for path in sorted(glob.glob(base + "**/*.rt", recursive=True)):
-        parts = [crate] + path[len(base) : -len(".rt")].split("/")
-        if parts[-1] == "lib":
-            parts.pop()
-        kind = []
-        with open(path, encoding="utf-8") as source:
-            for line in source:
-                if line.startswith("impl "):
-                    kind = [re.match(r"impl (\w+)", line).group(1)]
-                elif line.startswith("}"):
-                    kind = []
-                found = re.match(r'\s*pub (?:extern "C" )?fn (\w+)', line)
-                if found:
-                    yield "::".join(parts + kind + [found.group(1)])
+class Log:
+    """What the prover said of an edit: of each function what came first, and which functions that it calls it waits for."""
+
+    def __init__(self, crate, edit):
+        self.said, self.waits, self.first = {}, {}, ""
+        path = changes.ROOT / "target" / "must-fail" / crate / edit / ".log"
+        lines = path.read_text(encoding="utf-8", errors="replace").splitlines() if path.exists() else []
+        for line in lines:
+            found = re.match(r"\S+?/proofs/(\S+)/Proof\.antt:\d+:\d+: error: (.*)", line)
+            if found:
+                self.said.setdefault("::".join([crate, *found.group(1).split("/")]), found.group(2))
+            if not self.first and (" error: " in line or "it is not proved that" in line):
+                self.first = line.strip()
+            found = re.match(r"fn (\S+): (?:not proved|no proof|could not tell)(.*)", line)
+            if found:
+                self.verdict(*found.groups())
+
+    def verdict(self, function, rest):
+        why, _, called = rest.partition("it calls ")
+        self.waits[function] = re.findall(r"`(\w+(?:::\w+)+)`", called)
+        if "`search` does not close" in why:
+            self.said.setdefault(function, why.strip(" :;"))
+
+    def refused_by_a_fact(self, function):
+        return function in self.waits and is_fact(self.said.get(function, ""))
 
 
-def logs():
-    """For each edit its label, the functions that it leaves unproved, and the first thing said against it."""
-    for path in sorted(glob.glob("target/must-fail/*/*/.log")):
-        unproved, first = set(), ""
-        with open(path, encoding="utf-8", errors="replace") as log:
-            for line in log:
-                told = re.match(r"fn (\S+): (.*)", line)
-                if told and not told.group(2).startswith("proved"):
-                    unproved.add(told.group(1))
-                if not first and (" error: " in line or "it is not proved that" in line):
-                    first = line.strip()
-        yield path.split("/")[3], unproved, first
+def is_fact(said):
+    """Whether what the prover says is that something does not hold, and not that a proof's text does not fit the code."""
+    return bool(said) and not re.search(r"has no `|was not admitted|Need-", said)
+
+
+def left_unproved(log, stands):
+    """For each function the changes that leave it unproved: its own, and those of the functions that it waits for."""
+    by = {function: {name} for function, name in stands.items() if log.refused_by_a_fact(function)}
+    grown = True
+    while grown:
+        grown = False
+        for function, calls in log.waits.items():
+            more = set().union(*(by.get(called, set()) for called in calls)) - by.get(function, set())
+            if more:
+                by.setdefault(function, set()).update(more)
+                grown = True
+    return by
+
+
+def edit_shows(path, shown):
+    """What is amiss with each change of an edit; what it leaves unproved is added to what is shown."""
+    log, stands, all_changes = Log(path.parent.parent.name, path.stem), {}, changes.changes_in(path)
+    for change in all_changes:
+        amiss = ""
+        if not change.of_code():
+            amiss = "" if is_fact(log.first) else "refused for another reason than a fact: %s" % log.first[:200]
+        else:
+            inside = changes.stands_in(change, all_changes)
+            twice = sorted(inside & stands.keys())
+            stands.update(dict.fromkeys(inside, change.name))
+            if twice:
+                amiss = "stands in %s, as %s does" % (twice[0], stands[twice[0]])
+            elif not any(map(log.refused_by_a_fact, inside)):
+                amiss = "no fact refuses it: %s" % ["%s: %s" % (function, log.said.get(function, "proved")[:200]) for function in sorted(inside)]
+        yield change, amiss
+    for function, names in left_unproved(log, stands).items():
+        shown.setdefault(function, set()).update(names)
 
 
 def main():
-    with open("docs/PROMISES.md", encoding="utf-8") as f:
-        promises = f.read()
-    edits = list(logs())
-    wanted = {os.path.basename(p)[: -len(".edit")] for p in glob.glob("crates/*/must-fail/*.edit")}
-    wrong, tests = [], 0
-    if wanted != {label for label, _, _ in edits}:
-        wrong.append("target/must-fail does not have the logs of all edits: run rt ci")
-    for label, _, first in edits:
-        tests += 1
-        if not first or "has no" in first or "was not admitted" in first:
-            wrong.append("%s: refused for another reason than a fact: %s" % (label, first[:200]))
-        elif not re.search(r"`%s`" % label, promises):
-            wrong.append("%s: docs/PROMISES.md does not name it" % label)
-    for lib in sorted(glob.glob("crates/*/src/lib.rt")):
-        crate = lib.split("/")[1]
-        for function in public_functions(crate):
+    promises = (changes.ROOT / "docs/PROMISES.md").read_text(encoding="utf-8")
+    wrong, tests, shown = [], 0, {}
+    for crate in changes.crates_with_edits():
+        for path in changes.edits_of(crate):
+            for change, amiss in edit_shows(path, shown):
+                tests += 1
+                if not amiss and not re.search(r"`%s`" % change.name, promises):
+                    amiss = "docs/PROMISES.md does not name it"
+                if amiss:
+                    wrong.append("%s/%s, %s: %s" % (crate, path.stem, change.name, amiss))
+    for lib in sorted((changes.ROOT / "crates").glob("*/src/lib.rt")):
+        crate = lib.parent.parent.name
+        for function in (function for function in changes.functions_of(crate) if function.public):
             tests += 1
-            shown = [label for label, unproved, _ in edits if function in unproved and not label.startswith("definition_")]
-            if crate not in REPEATS and len(shown) < 2:
-                wrong.append("%s: refused by %d edits only: %s" % (function, len(shown), ", ".join(shown)))
-            elif not re.search(r"\b%s\b" % function.split("::")[-1], promises):
-                wrong.append("%s: docs/PROMISES.md does not name it" % function)
+            by = sorted(shown.get(function.name, ()))
+            if crate not in REPEATS and len(by) < 2:
+                wrong.append("%s: refused by %d wrong answers only: %s" % (function.name, len(by), ", ".join(by)))
+            elif not re.search(r"\b%s\b" % function.name.split("::")[-1], promises):
+                wrong.append("%s: docs/PROMISES.md does not name it" % function.name)
     for line in wrong:
         print(line)
     print("%d passed, %d failed" % (tests - len(wrong), len(wrong)))
