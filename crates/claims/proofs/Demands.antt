@@ -12,7 +12,7 @@ use Rattle.digits.specs.Paper.Ascii.{ascii}
 use Rattle.digits.specs.Paper.Refusals.{refusalNumber, order}
 use Rattle.digits.specs.declared.refusal.Refusal.{Refusal}
 use Rattle.digits.specs.declared.refusal.Refusal.the-variants.{NoFrame}
-use Rattle.numbers.proofs.Theorems.Text.{written-then-read, read-then-written}
+use Rattle.numbers.proofs.Theorems.Text.{exact, written-then-read, read-then-written}
 use Rattle.checks.specs.Paper.Bits.{bitsOfBytes}
 use Rattle.checks.specs.Paper.Check.{Check}
 use Rattle.checks.specs.Paper.Stretch.{FitIn}
@@ -229,6 +229,7 @@ demand-2 =
       of-one-frame = same-frame;
       same-message = same-message;
       same-bytes = same-bytes;
+      exact = exact;
       reads-back = written-then-read;
       written-so = read-then-written;
     }

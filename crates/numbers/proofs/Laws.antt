@@ -2,6 +2,7 @@ pub mod Signs
 pub mod Range
 pub mod Causes
 pub mod Text
+pub mod Worth
 pub mod Reader
 pub mod Values
 pub mod Writing

@@ -16,6 +16,7 @@ use Rattle.checks.specs.Paper.Stretch.{FitIn}
 use Rattle.puts.specs.Paper.Wrote.{writtenRefusal, writtenCount}
 use Rattle.puts.specs.declared.Written.{Written}
 use Rattle.numbers.specs.Paper.Answers.{ReadsText}
+use Rattle.numbers.specs.Paper.Exact.{Exact}
 use Rattle.numbers.specs.Paper.Raw.{Raw, mostDecimals}
 use Rattle.numbers.specs.Paper.Text.{text}
 use Rattle.numbers.specs.declared.text.Reading.{Reading}
@@ -62,8 +63,8 @@ pub record Demand2 : Type 0 where
   -- "a frame, decoded and encoded, has the same bytes": its payload stands beside what it is decoded to, and the room is long enough
   pub same-bytes : {k : ℕ} {f : List ℕ} {e : Coded} {from to : ℕ} (said : Said k f e from to) (room later : List ℕ) (r : Written) → length f ≤ length room
       → Encodes k e (part from to f) room r later → (writtenRefusal r ≡ 0) × (writtenCount r ≡ length f) × (later ≡ f ++ drop (length f) room)
-  -- "Each number's decimal text .. reads back to the same number", and what is read is what was written. (That it "is exact" is what `text`
-  -- says: the digits of the magnitude, with a point put in.)
+  -- "Each number's decimal text is exact and reads back to the same number", and what is read is what was written
+  pub exact : (z : ℤ) (d : ℕ) → Exact z d (text z d)
   pub reads-back : (z : ℤ) (d : ℕ) (r : Reading) → Raw z → d ≤ mostDecimals → ReadsText (text z d) r → r ≡ IsNumber z d
   pub written-so : (t : List ℕ) (z : ℤ) (d : ℕ) → ReadsText t (IsNumber z d) → text z d ≡ t
 

@@ -2,7 +2,7 @@
 -- Assumes nothing.
 use mathlib.Core.Path.{_≡_, refl, ap}
 use mathlib.Core.List.{List, _++_}
-use Prim.Native.Nat.{ℕ, _≤_, _<_}
+use Prim.Native.Nat.{ℕ, _/_, _^_, _≤_, _<_}
 use native.Mathlib.Nat.{le-trans}
 use native.Mathlib.Omega.{arith}
 use lib.IntN.{ℤ, natAbs}
@@ -15,17 +15,32 @@ use Rattle.puts.specs.declared.Written.{Written}
 use Rattle.puts.specs.declared.Written.the-variants.{Bytes}
 use Rattle.puts.proofs.Unique.{one-written}
 use Rattle.numbers.specs.Paper.Raw.{Raw, mostDecimals}
-use Rattle.numbers.specs.Paper.Text.{belowZero, lastDigits, textOf, text}
+use Rattle.numbers.specs.Paper.Text.{belowZero, sign, lastDigits, fraction, textOf, text}
+use Rattle.numbers.specs.Paper.Exact.{Exact, pointed}
 use Rattle.numbers.specs.Paper.Answers.{TextCause, readingRefusal, ReadsText}
 use Rattle.numbers.specs.declared.text.Reading.{Reading}
 use Rattle.numbers.specs.declared.text.Reading.the-variants.{Is}
 use Rattle.numbers.proofs.Laws.Causes.{text-only, no-cause, decimals-right, range-right, room-enough}
 use Rattle.numbers.proofs.Laws.Signs.{magnitude-lt}
-use Rattle.numbers.proofs.Laws.Text.{text-short}
+use Rattle.numbers.proofs.Laws.Text.{length-last, text-short}
+use Rattle.numbers.proofs.Laws.Worth.{all-digits, worth-both, point-before}
 use Rattle.numbers.proofs.Laws.Reader as reader
 use Rattle.numbers.proofs.Laws.Reading.{is-number}
 use Rattle.numbers.proofs.Laws.Tried.{refused-unless}
 use Rattle.numbers.proofs.Unique.{text-read}
+
+-- A TEXT IS EXACT: its digits, without the point, are worth the raw number
+pub exact : (z : ℤ) (d : ℕ) → Exact z d (text z d)
+unfolding textOf
+exact z d =
+    record {
+      whole = decimal (natAbs z / 10 ^ d);
+      behind = lastDigits d (natAbs z);
+      stands = ap (λ (f : List ℕ). sign (belowZero z) ++ (decimal (natAbs z / 10 ^ d) ++ f)) (point-before d (natAbs z));
+      digits = all-digits (natAbs z / 10 ^ d) d (natAbs z);
+      decimals = length-last d (natAbs z);
+      magnitude = worth-both (natAbs z) d;
+    }
 
 -- A TEXT HAS AT MOST 12 CHARACTERS
 pub at-most-12 : (z : ℤ) (d : ℕ) → Raw z → d ≤ mostDecimals → length (text z d) ≤ 12
