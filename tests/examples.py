@@ -10,7 +10,7 @@ import sys
 sys.dont_write_bytecode = True  # or Python leaves a folder beside those that are imported
 
 import lines
-import points
+import paper
 import table
 
 FOLDER = os.path.join(os.path.dirname(os.path.abspath(__file__)), "..", "examples")
@@ -24,18 +24,18 @@ def printed(text):
 
 
 def command(number, payload=b""):
-    return points.nest(2, number, payload)
+    return paper.nest(2, number, payload)
 
 
 def response(number, payload=b""):
-    return points.nest(3, number, payload)
+    return paper.nest(3, number, payload)
 
 
 def nibe(text):
     """Bytes as document 002 prints them, but for the last: the check byte is worked out."""
     data = bytes.fromhex(text)
     assert data[2] == len(data) - 4
-    return points.nibe(data[1], data[3:-1])
+    return paper.nibe(data[1], data[3:-1])
 
 
 def words(*numbers):
@@ -52,7 +52,7 @@ NIKOBUS = [
     (b"$0510", "no frame: a false start, the prefix of an inventory response", "000, 5.5, `$0510$2E`"),
     (printed("$10120747402BFC"), "read: module 4707, outputs 1 to 6", "000, 5.1, example 3"),
     (printed("$1C074700FF0000000000CCAEA3"), "answer: module 4707", "000, 5.4, example 1"),
-    (points.link(b"170747"), "read: module 4707, outputs 7 to 12", "000, 5.1, `0x17` (group 2)" + FRAMED),
+    (paper.link(b"170747"), "read: module 4707, outputs 7 to 12", "000, 5.1, `0x17` (group 2)" + FRAMED),
     (printed("$1CA5C9000000008000001EF205"), "answer: module C9A5", "000, 5.4, example 2"),
     (printed("$1C9483000000000000FF43D59B"), "answer: module 8394", "000, 5.4, example 3"),
     (printed("$1E150747FF0000000000FF8C3D0A"), "set: module 4707, outputs 1 to 6", "000, 5.1, example 1"),
@@ -64,24 +64,24 @@ NIKOBUS = [
     (printed("#E1"), "tail: what follows a press", "000, 5.2, example 2"),
     (printed("$10110000b8cf9d"), "no frame: lower case", "ours, from the worked example"),
     (printed("$10110000B8CF9C"), "no frame: CRC8 wrong", "ours, from the worked example"),
-    (points.link(b"110000", crc16=b"B8CE"), "no frame: CRC16 wrong, CRC8 right for it", "ours, from the worked example"),
+    (paper.link(b"110000", crc16=b"B8CE"), "no frame: CRC16 wrong, CRC8 right for it", "ours, from the worked example"),
     (printed("#n4ECB1A"), "no frame: lower case", "ours, from 5.2, example 1"),
     (b"$1E150747FF", "no frame: cut off", "000, 5.1, example 1, its beginning"),
 ]
 COMMANDS = [
-    (points.RESET, "command: reset", '001, Example: A Complete "Reset" Command'),
+    (paper.RESET, "command: reset", '001, Example: A Complete "Reset" Command'),
     (b"\x00\x00", "no frame: noise", "ours"),
     (command(0x8F), "command: FET presence ACK", "001, Phase 2, `0x008f`" + FRAMED),
     (command(0x83), "command: periodic status", "001, Phase 2, `0x0083`" + FRAMED),
     (command(0x90), "command: get the id", "001, Phase 2, `0x0090`" + FRAMED),
     (command(0x98), "command: get the version", "001, Phase 2, `0x0098`" + FRAMED),
-    (points.COMMAND_D, "command: FET control", "001, CRC checksum, example: the check is 0xB208, the bytes sent 08 B2"),
-    (points.nest(2, 0x82, bytes(2), "big"), "no frame: the check high byte first", "ours, from that example"),
+    (paper.COMMAND_D, "command: FET control", "001, CRC checksum, example: the check is 0xB208, the bytes sent 08 B2"),
+    (paper.nest(2, 0x82, bytes(2), "big"), "no frame: the check high byte first", "ours, from that example"),
     (command(0xC0, bytes(4)), "command: power steal mode", "001, Phase 3, `0x00c0`" + FRAMED),
-    (points.PREAMBLES[2] + b"\x18\x00\x00\x04", "no frame: a false start that claims 1,024 bytes", "ours"),
+    (paper.PREAMBLES[2] + b"\x18\x00\x00\x04", "no frame: a false start that claims 1,024 bytes", "ours"),
     (command(0xA2), "command: ask for the buffers", "001, Phase 4, `0x00a2`" + FRAMED),
     (command(0xA3), "command: acknowledge their end", "001, Phase 4, `0x00a3`" + FRAMED),
-    (points.RESET[:5], "no frame: cut off", "001, the reset, its beginning"),
+    (paper.RESET[:5], "no frame: cut off", "001, the reset, its beginning"),
 ]
 RESPONSES = [
     (response(0x01, b"4.2.8 2019-04-03 12:00:00 K"), "text: version and time", "001, Phase 1, first line of the burst; the values ours"),
@@ -98,7 +98,7 @@ RESPONSES = [
     (response(0x0B, words(0, 0, 0, 0, 2945, 4962, 3871, 0)), "state: 29.45, 4.962 and 3.871", "001, Example 3; the values ours"),
     (response(0x22, words(2150)), "response: a buffered temperature", "001, `0x0022`; its bytes ours"),
     (response(0x2F), "end: of the buffers", "001, Phase 4, `0x002f`" + FRAMED),
-    (points.RESET, "no frame: a command is none of this kind", "001, the reset"),
+    (paper.RESET, "no frame: a command is none of this kind", "001, the reset"),
 ]
 NIBE = [
     (ASKED, "ask: register 100", "002, Example Messages, request: its check is right"),
@@ -124,20 +124,20 @@ NIBE = [
 ]
 HOMIQ = [
     (b"<;I.3;1;0H;0;42;s;143;>\r\n", "no frame: the CRC as it is printed", "004, ACK, RX"),
-    (points.HOMIQ_G, "input: number 3 is high", "004, ACK, RX" + RIGHT),
-    (points.HOMIQ_H, "input: its acknowledgement", "004, ACK, TX" + RIGHT),
-    (points.homiq(b"O.3;1;0;0H;7;s"), "output: number 3 on", "004, outputs" + FRAMED),
-    (points.homiq(b"O.3;1;0H;0;7;a"), "output: its acknowledgement", "004, outputs" + FRAMED),
+    (paper.HOMIQ_G, "input: number 3 is high", "004, ACK, RX" + RIGHT),
+    (paper.HOMIQ_H, "input: its acknowledgement", "004, ACK, TX" + RIGHT),
+    (paper.homiq(b"O.3;1;0;0H;7;s"), "output: number 3 on", "004, outputs" + FRAMED),
+    (paper.homiq(b"O.3;1;0H;0;7;a"), "output: its acknowledgement", "004, outputs" + FRAMED),
     (b"\n", "no frame: noise", "ours"),
-    (points.homiq(b"I.15;0;05;0;511;s"), "input: number 15 is low", "004, inputs; with the last ID" + FRAMED),
-    (points.homiq(b"UD;u;0;05;8;s"), "shutter: up", "004, shutters" + FRAMED),
-    (points.homiq(b"UD;s;0;05;9;s"), "shutter: stop", "004, shutters" + FRAMED),
-    (points.homiq(b"HB;1;0H;yy;1;s"), "beat: to all", "004, system" + FRAMED),
+    (paper.homiq(b"I.15;0;05;0;511;s"), "input: number 15 is low", "004, inputs; with the last ID" + FRAMED),
+    (paper.homiq(b"UD;u;0;05;8;s"), "shutter: up", "004, shutters" + FRAMED),
+    (paper.homiq(b"UD;s;0;05;9;s"), "shutter: stop", "004, shutters" + FRAMED),
+    (paper.homiq(b"HB;1;0H;yy;1;s"), "beat: to all", "004, system" + FRAMED),
     (b"<;O.3;1;", "no frame: a false start before a good frame", "ours"),
-    (points.homiq(b"GI;1;0;0H;10;s"), "homiq: get info", "004, system" + FRAMED),
-    (points.homiq(b'S.0;A"1\\2;0H;0;11;s'), "homiq: a serial with a quotation mark and a backslash", "004, system; the serial ours"),
-    (points.homiq(b"O.3;1;0;0H;512;s"), "no frame: ID 512", "ours"),
-    (points.homiq(b"O.3;0;0;0H;12;s").replace(b"\r\n", b"\n"), "no frame: no CR", "ours"),
+    (paper.homiq(b"GI;1;0;0H;10;s"), "homiq: get info", "004, system" + FRAMED),
+    (paper.homiq(b'S.0;A"1\\2;0H;0;11;s'), "homiq: a serial with a quotation mark and a backslash", "004, system; the serial ours"),
+    (paper.homiq(b"O.3;1;0;0H;512;s"), "no frame: ID 512", "ours"),
+    (paper.homiq(b"O.3;0;0;0H;12;s").replace(b"\r\n", b"\n"), "no frame: no CR", "ours"),
 ]
 # by kind: the file's name, how a reader knows the bus, and what stands there
 CAPTURES = [

@@ -29,7 +29,7 @@ sys.dont_write_bytecode = True  # or Python leaves a folder beside those that ar
 
 import examples
 import lines
-import points
+import paper
 import rows
 import table
 
@@ -48,7 +48,7 @@ class Case(NamedTuple):
 
 
 def divided(name, message):
-    return points.remainder(message, *points.CHECKS[name])
+    return paper.remainder(message, *paper.CHECKS[name])
 
 
 @functools.lru_cache(maxsize=None)
@@ -61,7 +61,7 @@ def quick(name, message):
     return functools.reduce(operator.xor, message, 0) if name == "nibe xor" else divided(name, message)
 
 
-points.value = quick
+paper.value = quick
 
 
 def captured(kind, *parts):
@@ -75,18 +75,18 @@ def captured(kind, *parts):
 def start_cases():
     for given in (b"", b"1", b"\n", b"12", b"6\n", b"0\n", b"1\r\n", b"1\r", b" 1\n", b"1 \n", b"\n1\n", b"11\n", b"01\n", b"-1\n", b"1"):
         yield Case("start", given)
-        yield Case("start", given + points.LINK_B)
+        yield Case("start", given + paper.LINK_B)
     for kind in KINDS:
         yield Case("nothing captured", captured(kind))
     for b in b"\x00\x01\x05\x0a./0123456789:@AQ\x80\xb1\xff":
-        yield Case("first byte", bytes([b, 0x0A]) + points.TAILED)
+        yield Case("first byte", bytes([b, 0x0A]) + paper.TAILED)
     for b in b"\x00\x09\x0a\x0b\x0c\x0d 0#J\x85\x8a\xff":
-        yield Case("second byte", bytes([0x31, b]) + points.TAILED)
+        yield Case("second byte", bytes([0x31, b]) + paper.TAILED)
 
 
 def size_cases():
     """A listing of the longest input and of one byte less, the refusal of one byte more, and which refusal goes first."""
-    for kind, frame in ((1, points.TAILED), (2, points.RESET), (3, points.REPLY), (4, points.ASK), (5, points.HOMIQ_G)):
+    for kind, frame in ((1, paper.TAILED), (2, paper.RESET), (3, paper.REPLY), (4, paper.ASK), (5, paper.HOMIQ_G)):
         for size in (FULL - 1, FULL, FULL + 1, FULL + 2, 2 * FULL):
             test = "input of %d bytes" % (size + 2)
             many = (frame * (size // len(frame) + 1))[:size]
@@ -98,7 +98,7 @@ def size_cases():
 
 def dense_cases():
     """The frames with the most characters a byte."""
-    for frame in (points.nibe(0x6A, b"\xff\xff\xff"), points.nibe(0x60, b"")):
+    for frame in (paper.nibe(0x6A, b"\xff\xff\xff"), paper.nibe(0x60, b"")):
         yield Case("many short frames", captured(4, frame * (FULL // len(frame))))
 
 
@@ -183,7 +183,7 @@ def text_cases():
         fields = [[b"GI", b"1", b"0H", b"yy"] for _ in range(2 * len(characters))]
         for c, one, full in zip(characters, fields, fields[len(characters) :]):
             one[at], full[at] = c, c * most
-        yield from in_captures("each character of a Homiq field", 5, [points.homiq(b";".join(f) + b";7;a") for f in fields])
+        yield from in_captures("each character of a Homiq field", 5, [paper.homiq(b";".join(f) + b";7;a") for f in fields])
 
 
 # ---- what goes wrong on a line
@@ -192,11 +192,11 @@ def text_cases():
 def line_end_cases():
     """0D and 0A in a frame, and what changing the one to the other does."""
     frames = {
-        1: [points.LINK_A, points.LINK_B, points.PRESSED, points.TAILED],
-        2: [points.nest(2, 0x0D, b"\x0d\x0a\x0d"), points.nest(2, 0x0A0D, b""), points.nest(2, 0x82, b"\x0d" * 13)],
-        3: [points.nest(3, 0x18, b"Backplate-\r7"), points.nest(3, 0x18, b"Backplate-\n7"), points.nest(3, 0x0B, b"\x0d" * 16)],
-        4: [points.nibe(0x6A, bytes.fromhex("0d0a0d00")), points.nibe(0x68, b"\r\n" * 9), points.nibe(0x69, b"\x0d\x0d")],
-        5: [points.HOMIQ_G, points.HOMIQ_H],
+        1: [paper.LINK_A, paper.LINK_B, paper.PRESSED, paper.TAILED],
+        2: [paper.nest(2, 0x0D, b"\x0d\x0a\x0d"), paper.nest(2, 0x0A0D, b""), paper.nest(2, 0x82, b"\x0d" * 13)],
+        3: [paper.nest(3, 0x18, b"Backplate-\r7"), paper.nest(3, 0x18, b"Backplate-\n7"), paper.nest(3, 0x0B, b"\x0d" * 16)],
+        4: [paper.nibe(0x6A, bytes.fromhex("0d0a0d00")), paper.nibe(0x68, b"\r\n" * 9), paper.nibe(0x69, b"\x0d\x0d")],
+        5: [paper.HOMIQ_G, paper.HOMIQ_H],
     }
     for kind, good in frames.items():
         texts = []
@@ -216,7 +216,7 @@ HEADS = {
     4: [b"\xc0", b"\xc0\x69", b"\xc0\x68\xff", b"\xc0\x6a\x06", b"\xc0\x69\x02", b"\xc0\xc0", b"\xc0\x69\xc0"],
     5: [b"<", b"<;", b"<;I.3;1;", b"<;I.3;1;0H;0;42;s;134;>", b"<;I.3;1;0H;0;42;s;134;>\r", b"<;<;"],
 }
-GOOD = {1: points.LINK_B, 2: points.RESET, 3: points.REPLY_CLIMATE, 4: points.ASK, 5: points.HOMIQ_G}
+GOOD = {1: paper.LINK_B, 2: paper.RESET, 3: paper.REPLY_CLIMATE, 4: paper.ASK, 5: paper.HOMIQ_G}
 
 
 def false_start_cases():
@@ -230,9 +230,9 @@ def false_start_cases():
     yield Case("false starts, kind 4", captured(4, bytes.fromhex("c069c06902640066")))
     # one frame in another: the outer one is found, and with its check spoilt the inner one
     for kind in (2, 3):
-        outer = points.nest(kind, 0x18, GOOD[kind] * 3)
+        outer = paper.nest(kind, 0x18, GOOD[kind] * 3)
         yield Case("false starts, kind %d" % kind, captured(kind, outer, outer[:-1] + bytes([outer[-1] ^ 1])))
-    outer = points.nibe(0x68, points.ASK * 3)
+    outer = paper.nibe(0x68, paper.ASK * 3)
     yield Case("false starts, kind 4", captured(4, outer, outer[:-1] + bytes([outer[-1] ^ 1])))
 
 
@@ -247,7 +247,7 @@ def slow_cases():
     """Through a pipe, where the bytes come in pieces."""
     for kind in KINDS:
         yield Case("in pieces", captured(kind, GOOD[kind] * 40), slow=True)
-    for given in (b"", b"1", captured(1, points.TAILED * 16383), captured(4, bytes(FULL)), captured(4, bytes(FULL + 1)), b"6\n" + bytes(70000)):
+    for given in (b"", b"1", captured(1, paper.TAILED * 16383), captured(4, bytes(FULL)), captured(4, bytes(FULL + 1)), b"6\n" + bytes(70000)):
         yield Case("in pieces", given, slow=True)
 
 
@@ -265,7 +265,7 @@ def any_frame(kind, rng):
     """With right check values; now and then a field is outside its limits."""
     if kind == 5 and rng.randrange(4) == 0:
         fields = (bytes(rng.choice(b'"\\/!~uOI.019AZ') for _ in range(rng.randint(1, most))) for most in (8, 16, 4, 4))
-        return points.homiq(b";".join((*fields, b"%d" % rng.randint(1, 511), rng.choice((b"s", b"a")))))
+        return paper.homiq(b";".join((*fields, b"%d" % rng.randint(1, 511), rng.choice((b"s", b"a")))))
     name = rng.choice(table.OF_KIND[kind])
     if kind == 4 and rng.randrange(2):
         name = rng.choice(("ask", "reply", "put", "done"))
@@ -490,13 +490,13 @@ def own(expected):
     yield "01's whole example", lines.listing(PAPER_INPUT) == PAPER_OUTPUT
     yield "01's reading", lines.reading(-125, 1) == '{"raw":-125,"dec":1,"text":"-12.5","f32":true}'
     yield "known point (i)", lines.decimal(-5, 2) == "-0.05"
-    singles = [lines.survives(n) for n in (16777216, 4294967040, 16777217, 33554434)]
+    singles = [paper.survives(n) for n in (16777216, 4294967040, 16777217, 33554434)]
     yield "known point (j)", singles == [True, True, False, False]
-    yield "known point (b)", b'"msg":"read","group":1,"addr":"4707"}' in lines.listing(captured(1, points.LINK_B))
-    yield "known point (f)", lines.listing(captured(4, b"\xc0\x69", points.ASK)).startswith(b'{"at":2,"len":6,"msg":"ask","reg":100}')
+    yield "known point (b)", b'"msg":"read","group":1,"addr":"4707"}' in lines.listing(captured(1, paper.LINK_B))
+    yield "known point (f)", lines.listing(captured(4, b"\xc0\x69", paper.ASK)).startswith(b'{"at":2,"len":6,"msg":"ask","reg":100}')
     rng = random.Random(0)
     strings = [rng.randbytes(n) for n in (*range(40), 255, 1028)]
-    yield "check values against divisions", all(quick(name, s) == divided(name, s) for name in points.CHECKS for s in strings)
+    yield "check values against divisions", all(quick(name, s) == divided(name, s) for name in paper.CHECKS for s in strings)
     for name in table.NAMES:
         yield "a case has " + name, any(b'"msg":"%s"' % name.encode() in text for text in expected)
     for refusal in (2, 5):

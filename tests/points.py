@@ -1,202 +1,113 @@
 #!/usr/bin/env python3
-"""What the program `points` should write, from the documents alone: nothing here is taken from the Rattle code.
+"""The paper's cases, and the small ranges whole, as requests to the program `calls`, and what it should answer: by paper.py, which is
+from the documents alone, and written as docs/CALLS.md says. A case is a request and its answer.
 
-tests/points.py           writes it to standard output
-tests/points.py --write   writes it to crates/points/stdout, which `rt` holds the program to
-tests/points.py --check   whether that file is what this script writes
+tests/points.py           shows them, each answer under its request
+tests/points.py --write   writes crates/calls/stdin and crates/calls/stdout: `rt` runs the program on the one and holds it to the other
+tests/points.py --check   whether those files are what this script writes
 """
+import functools
+import itertools
+import operator
 import os
-import re
-import struct
 import sys
-from decimal import Context, Decimal
 
-EXACT = Context(prec=40)
-STORED = os.path.join(os.path.dirname(os.path.abspath(__file__)), "..", "crates", "points", "stdout")
+sys.dont_write_bytecode = True  # or Python leaves a folder beside those that are imported
 
+import paper
+from calls import answer, in_room, request
+from paper import ASK, ASK_E, COMMAND_D, HOMIQ_G, HOMIQ_H, LINK_A, LINK_B, PREAMBLES, PRESSED, REPLY, REPLY_CLIMATE, RESET, TAILED
+from paper import HIGHEST, LOWEST, homiq, link, nest, nibe
 
-def hex_digit(c):
-    """A hex digit's value; upper case only."""
-    if 0x30 <= c <= 0x39:
-        return c - 0x30
-    if 0x41 <= c <= 0x46:
-        return c - 0x41 + 10
-    return None
+FOLDER = os.path.join(os.path.dirname(os.path.abspath(__file__)), "..", "crates", "calls")
 
 
-def hex_value(s):
-    """The number that hex digits are, or none."""
-    values = [hex_digit(c) for c in s]
-    if None in values:
-        return None
-    return sum(v << 4 * i for i, v in enumerate(reversed(values)))
+def or_refused(value, number):
+    """A value that is not there is refused with this number."""
+    return number if value is None else (value,)
 
 
-def decimal_value(s):
-    """The number of at most 32 bits that decimal digits without leading zeros are, or none."""
-    try:
-        n = int(s)
-    except ValueError:
-        return None
-    return n if str(n).encode() == s and 0 <= n < 1 << 32 else None
+# ---- digits
 
 
-def shown(value, refusal):
-    return "refused %d" % refusal if value is None else "%d" % value
-
-
-def remainder(message, width, poly, start, low_first):
-    """A check value as the remainder of a division of polynomials over whole numbers."""
-    bits = "".join(format(b, "08b")[:: -1 if low_first else 1] for b in message)
-    value = (int(bits, 2) if bits else 0) << width
-    value ^= start << len(bits)
-    generator = 1 << width | poly
-    for shift in range(len(bits) - 1, -1, -1):
-        if value >> shift + width & 1:
-            value ^= generator << shift
-    text = format(value, "0%db" % width)
-    return int(text[:: -1 if low_first else 1], 2)
-
-
-# name: width, polynomial with the first bit at the top, start, low bit first. 0x31 is 0x8C in the other order.
-CHECKS = {
-    "nikobus crc16": (16, 0x1021, 0xFFFF, False),
-    "nikobus crc8": (8, 0x99, 0, False),
-    "nest crc": (16, 0x1021, 0, False),
-    "nibe xor": (8, 0x01, 0, False),
-    "homiq crc": (8, 0x31, 0, True),
-}
-
-
-def check(name, message):
-    width = CHECKS[name][0]
-    value = remainder(message, *CHECKS[name])
-    if name == "nibe xor":
-        plain = 0
-        for b in message:
-            plain ^= b
-        assert plain == value
-    return "%s %s: %0*X" % (name, message.hex().upper(), width // 4, value)
+def characters_case(*characters):
+    """One character as a digit, two as a byte, four as a number of 16 bits."""
+    given = characters if len(characters) < 4 else [bytes(characters)]
+    function = {1: "value", 2: "byte_of", 4: "word_of"}[len(characters)]
+    return request("digits::hex::" + function, *given), answer(or_refused(paper.hex_value(characters), 5))
 
 
 def hex_cases():
+    """Each character, each byte, and each number of 16 bits whose two bytes are alike."""
     for n in range(256):
-        yield "character %d: %s" % (n, shown(hex_digit(n), 5))
-        yield "%02X: %d" % (n, n)
-        yield "%04X: %d" % (n * 257, n * 257)
+        yield characters_case(n)
+        for function, number, digits in (("two_digits", n, b"%02X" % n), ("four_digits", n * 257, b"%04X" % (n * 257))):
+            yield request("digits::hex::" + function, number), answer((digits,))
+            yield characters_case(*digits)
     for text in (b"a0", b"0f", b" 1"):
-        yield "%s: %s" % (text.decode(), shown(hex_value(text), 5))
+        yield characters_case(*text)
 
 
 def decimal_cases():
+    """The numbers at each power of ten and of two, and texts that are no number's."""
     tens = [n for k in range(18) for n in (10**k - 1, 10**k)] + [10**18, 10**19]
     twos = [n for k in range(62) for n in (2**k - 1, 2**k)] + [2**62, 2**64 - 1]
     texts = b"|0|00|01|-0|+1|1a|1 |511|4294967295|4294967296|9999999999|10000000000|18446744073709551616".split(b"|")
-    for text in [str(n).encode() for n in tens + twos] + texts:
-        yield "decimal %s: %s" % (text.decode(), shown(decimal_value(text), 7))
+    for n in tens + twos:
+        yield request("digits::decimal::digits", n), answer((b"%d" % n,))
+    for text in [b"%d" % n for n in tens + twos] + texts:
+        yield request("digits::decimal::number_of", text), answer(or_refused(paper.decimal_value(text), 7))
 
 
 def low_first_cases():
-    numbers = [(0, 1), (255, 1), (0, 2), (255, 2), (256, 2), (40004, 2), (65535, 2)]
-    numbers += [(0, 4), (65536, 4), (16777217, 4), (305419896, 4), (2**32 - 1, 4)]
-    strings = [n.to_bytes(width, "little") for n, width in numbers]
+    """The numbers at the ends of each width, and byte strings of every length up to five."""
+    numbers = [("one", 0, 1), ("one", 255, 1), ("two", 0, 2), ("two", 255, 2), ("two", 256, 2), ("two", 40004, 2), ("two", 65535, 2)]
+    numbers += [("four", n, 4) for n in (0, 65536, 16777217, 305419896, 2**32 - 1)]
+    strings = [n.to_bytes(width, "little") for _, n, width in numbers]
+    for (function, n, _), s in zip(numbers, strings):
+        yield request("digits::low_first::" + function, n), answer((s,))
     strings += [b"", b"\x80", b"\x44\x9c", b"\x01\x02\x03", b"\x78\x56\x34\x12", b"\x01\x02\x03\x04\x05"]
     for s in strings:
-        value = int.from_bytes(s, "little") if len(s) in (1, 2, 4) else None
-        yield "bytes %s: %s" % (s.hex().upper(), shown(value, 7))
+        yield request("digits::low_first::number_of", s), answer(or_refused(paper.low_first_value(s), 7))
 
 
-LOWEST, HIGHEST = -2147483648, 4294967295
-TEXT = re.compile(rb"(-?)(0|[1-9][0-9]*)(?:\.([0-9]{1,3}))?")
-
-
-def number_text(raw, decimals):
-    """A raw number at its decimals, by exact fractions."""
-    return str(Decimal(raw).scaleb(-decimals).quantize(Decimal(1).scaleb(-decimals), context=EXACT)) if decimals else str(raw)
+# ---- numbers
 
 
 def text_case(raw, decimals, room=14):
-    text, refusal = "", 0
-    if decimals > 3:
-        refusal = 7
-    elif not LOWEST <= raw <= HIGHEST:
-        refusal = 5
-    else:
-        text = number_text(raw, decimals)
-        if len(text) > room:
-            text, refusal = "", 4
-    answer = "refused %d" % refusal if refusal else "%d" % len(text)
-    return "text %d %d: %s %s" % (raw, decimals, answer, text.ljust(room, "?"))
+    return request("numbers::text::write", raw, decimals, room), in_room(paper.number_text(raw, decimals), room)
 
 
-def whole(raw):
-    return "%d %s" % (len(str(raw)), str(raw).ljust(12, "_"))
+def with_its_text(asked, found):
+    """What is read; and where that is a number, the number written again."""
+    yield asked, answer(found)
+    if isinstance(found, tuple):
+        yield text_case(found[0], 0, 12)
 
 
-def read_case(text):
-    found = TEXT.fullmatch(text)
-    answer = "refused 7"
-    if found and len(text) <= 12:
-        decimals = found.group(3) or b""
-        raw = int(found.group(1) + found.group(2) + decimals)
-        if LOWEST <= raw <= HIGHEST and not (found.group(1) and raw == 0):
-            answer = "%s %d" % (whole(raw), len(decimals))
-    return "read %s: %s" % (text.decode(), answer)
-
-
-def held(raw, width, signed):
-    """The bytes, or none where so many do not hold the number."""
-    try:
-        return raw.to_bytes(width, "little", signed=signed)
-    except OverflowError:
-        return None
-
-
-def value_case(raw, width, signed, room=6):
-    data, refusal = b"", 0
-    if width not in (1, 2, 4):
-        refusal = 7
-    else:
-        data = held(raw, width, signed)
-        if data is None:
-            data, refusal = b"", 5
-        elif len(data) > room:
-            data, refusal = b"", 4
-    answer = "refused %d" % refusal if refusal else "%d" % len(data)
-    return "value %d %s%d: %s %s" % (raw, "us"[signed], width, answer, data.ljust(room, b"\xee").hex().upper())
-
-
-def bytes_case(data, width, signed):
-    if width not in (1, 2, 4):
-        answer = "refused 7"
-    elif len(data) != width:
-        answer = "refused 5"
-    else:
-        answer = whole(int.from_bytes(data, "little", signed=signed))
-    return "value of %s %s%d: %s" % (data.hex().upper(), "us"[signed], width, answer)
-
-
-def single_case(raw):
-    """Whether a single holds the number, by the machine's own."""
-    if not LOWEST <= raw <= HIGHEST:
-        return "single %d: refused 5, refused 5" % raw
-    fits = struct.unpack("<f", struct.pack("<f", raw))[0] == raw
-    return "single %d: %s" % (raw, "fits, a single" if fits else "does not fit, a double")
-
-
-def number_cases():
+def text_cases():
+    """The paper's numbers, the ends of the range and one beyond, each place of the point, short rooms; 7 goes before 5, 5 before 4."""
     numbers = [(-5, 2), (-125, 1), (0, 0), (0, 3), (HIGHEST, 0), (HIGHEST, 3), (LOWEST, 0), (LOWEST, 3), (16777216, 0), (16777217, 0)]
     numbers += [(33554434, 0), (4294967040, 0), (9, 1), (10, 1), (-99, 2), (-100, 2), (999, 3), (1000, 3), (1, 3), (5, 4), (5, 2**32 - 1)]
     numbers += [(HIGHEST + 1, 0), (LOWEST - 1, 3), (HIGHEST + 1, 4), (2**63 - 1, 0), (-(2**63), 0)]
-    for raw, decimals in numbers:
-        yield text_case(raw, decimals)
     rooms = [(-5, 2, 5), (-5, 2, 4), (-5, 2, 0), (HIGHEST + 1, 2, 1), (HIGHEST + 1, 9, 1), (LOWEST, 3, 12), (LOWEST, 3, 11)]
-    for raw, decimals, room in rooms:
-        yield text_case(raw, decimals, room)
+    for case in numbers + rooms:
+        yield text_case(*case)
+
+
+def reading_cases():
     texts = b"-0.05|-12.5|0|0.000|4294967295|4294967.295|-2147483.648|16777217|-0|-0.0|00|01|1.|.5|+1|1.2345||-|.|1.2.3|1,5|1e3| 1|1 |--1|0x10"
     texts += b"|4294967296|-2147483649|4294967.296|-2147483.6480|1234567890123|99999999999999999999"
     for text in texts.split(b"|"):
-        yield read_case(text)
+        yield from with_its_text(request("numbers::text::read", text), paper.text_number(text))
+
+
+def value_case(raw, width, signed, room=6):
+    return request("numbers::byte_values::write", raw, width, signed, room), in_room(paper.number_bytes(raw, width, signed), room)
+
+
+def value_cases():
+    """The ends of each width and sign and one beyond, other widths, and short rooms."""
     for width in (1, 2, 4):
         half = 256**width // 2
         for raw, signed in ((-half, True), (half - 1, True), (2 * half - 1, False), (-1, True), (0, False)):
@@ -209,19 +120,44 @@ def number_cases():
         yield value_case(raw, width, signed)
     for raw, width, room in ((40004, 2, 2), (40004, 2, 1), (40004, 1, 0)):
         yield value_case(raw, width, False, room)
+
+
+def byte_cases():
     strings = [("80", 1, 1), ("80", 1, 0), ("7f", 1, 1), ("ffff", 2, 1), ("ffff", 2, 0), ("0080", 2, 1), ("449c", 2, 0), ("00000080", 4, 1)]
     strings += [("ffffffff", 4, 1), ("ffffffff", 4, 0), ("01000001", 4, 0), ("0102", 1, 0), ("01", 2, 0), ("", 4, 1), ("010203", 3, 0)]
     strings += [("0102", 3, 0), ("", 0, 0)]
-    for data, width, signed in strings:
-        yield bytes_case(bytes.fromhex(data), width, bool(signed))
-    for raw in (0, -5, 16777215, 16777216, 16777217, -16777217, 33554432, 33554434, 33554436, 4294967040, 4294967041, HIGHEST, LOWEST):
-        yield single_case(raw)
-    yield single_case(HIGHEST + 1)
-    yield single_case(LOWEST - 1)
+    for digits, width, signed in strings:
+        data, signed = bytes.fromhex(digits), bool(signed)
+        yield from with_its_text(request("numbers::byte_values::read", data, width, signed), paper.bytes_number(data, width, signed))
+
+
+def single_cases():
+    numbers = [0, -5, 16777215, 16777216, 16777217, -16777217, 33554432, 33554434, 33554436, 4294967040, 4294967041, HIGHEST, LOWEST]
+    for raw in numbers + [HIGHEST + 1, LOWEST - 1]:
+        yield request("numbers::single::fits", raw), answer(paper.fits(raw))
+        yield request("numbers::panel::of", raw), answer(paper.for_panel(raw))
+
+
+# ---- check values
+
+CHECKED_BY = {
+    "nikobus crc16": "checks::nikobus::Crc16::of",
+    "nikobus crc8": "checks::nikobus::Crc8::of",
+    "nest crc": "checks::nest::Crc::of",
+    "nibe xor": "checks::nibe::Xor::of",
+    "homiq crc": "checks::homiq::Crc::of",
+}
+
+
+def check_case(name, message):
+    value = paper.value(name, message)
+    assert name != "nibe xor" or value == functools.reduce(operator.xor, message, 0)
+    return request(CHECKED_BY[name], message), answer((value,))
 
 
 def check_cases():
-    paper = [
+    """The paper's; then the string whose check values catalogues give, nothing, and one byte."""
+    examples = [
         ("nest crc", b"\x82\x00\x02\x00\x00\x00"),
         ("nest crc", b"\xff\x00\x00\x00"),
         ("nest crc", b"\x82\x00\x03\x00\x00\x00\x00"),
@@ -236,149 +172,41 @@ def check_cases():
         ("homiq crc", b"I.310H042s"),
         ("homiq crc", b"I.3100H42a"),
     ]
-    for name, message in paper:
-        yield check(name, message)
+    for name, message in examples:
+        yield check_case(name, message)
     for message in (b"123456789", b"", b"\x00", b"\xff"):
-        for name in CHECKS:
-            yield check(name, message)
+        for name in paper.CHECKS:
+            yield check_case(name, message)
 
 
-CHARACTER = rb"[!-:=?-~]"
-LINK = re.compile(rb"\$([0-9A-F]{2})((?:[0-9A-F]{2})+)([0-9A-F]{4})([0-9A-F]{2})\r")
-PRESS = re.compile(rb"#N([0-9A-F]{6})\r")
-# a tail's payload is empty; the documents do not say where, and it is taken to stand at the end
-TAIL = re.compile(rb"#E1\r()")
-HOMIQ = re.compile(rb"<;((C{1,8});(C{1,16});(C{1,4});(C{1,4});([1-9][0-9]*);([sa]));(0|[1-9][0-9]*);>\r\n".replace(b"C", CHARACTER))
-PREAMBLES = {2: bytes.fromhex("d5aa96"), 3: bytes.fromhex("d5d5aa96")}
+# ---- frames
 
 
-def value(name, message):
-    return remainder(message, *CHECKS[name])
-
-
-def nikobus_at(s, at):
-    """A frame's end and its payload's span; LL is compared with the length that the form has."""
-    found = LINK.match(s, at)
-    if found:
-        ll, digits, crc16, crc8 = found.groups()
-        length = found.end() - at
-        right = int(ll, 16) == length and 0x0C <= length <= 0xFE
-        right = right and int(crc16, 16) == value("nikobus crc16", bytes.fromhex(digits.decode()))
-        right = right and int(crc8, 16) == value("nikobus crc8", s[at : found.start(4)])
-        return (found.end(), *found.span(2)) if right else None
-    found = PRESS.match(s, at) or TAIL.match(s, at)
-    return (found.end(), *found.span(1)) if found else None
-
-
-def nest_at(kind, s, at):
-    """Id and length are the four bytes behind the preamble."""
-    start = at + len(PREAMBLES[kind])
-    if s[at:start] != PREAMBLES[kind] or len(s) < start + 4:
-        return None
-    last = start + 4 + int.from_bytes(s[start + 2 : start + 4], "little")
-    if last > start + 4 + 1024 or len(s) < last + 2:
-        return None
-    crc = value("nest crc", s[start:last])
-    return (last + 2, start + 4, last) if s[last : last + 2] == struct.pack("<H", crc) else None
-
-
-def nibe_at(s, at):
-    """With the check byte behind them, the length and the data XOR to 0."""
-    head, rest = s[at : at + 2], s[at + 2 :]
-    if head not in [bytes([0xC0, command]) for command in bytes.fromhex("606268696a6b6c")] or not rest or len(rest) < rest[0] + 2:
-        return None
-    end = at + rest[0] + 4
-    return (end, at + 3, end - 1) if value("nibe xor", s[at + 2 : end]) == 0 else None
-
-
-def homiq_at(s, at):
-    """The form by a pattern, then the two numbers."""
-    found = HOMIQ.match(s, at)
-    if not found or int(found.group(6)) > 511:
-        return None
-    crc = value("homiq crc", b"".join(found.group(*range(2, 8))))
-    return (found.end(), *found.span(1)) if int(found.group(8)) == crc else None
-
-
-def frame_at(kind, s, at):
-    if kind == 1:
-        return nikobus_at(s, at)
-    if kind == 4:
-        return nibe_at(s, at)
-    return homiq_at(s, at) if kind == 5 else nest_at(kind, s, at)
-
-
-def bracketed(s):
-    """All of it in hex, or of more than 64 bytes the first and the last twelve and how many there are."""
-    text = s.hex().upper()
-    return "[%s]" % (text if len(s) <= 64 else "%s..%d..%s" % (text[:24], len(s), text[-24:]))
-
-
-def search_case(kind, place, s):
-    part, frame = b"", b""
-    if not 1 <= kind <= 5:
-        answer = "refused 2"
-    elif place > len(s):
-        answer = "refused 3"
-    else:
-        starts = [at for at in range(place, len(s)) if frame_at(kind, s, at)]
-        answer = "refused 1"
-        if starts:
-            start = min(starts)
-            end, first, last = frame_at(kind, s, start)
-            part, frame = s[first:last], s[start:end]
-            answer = "at %d len %d from %d to %d" % (start, end - start, first, last)
-    return "search %d %d %s: %s, payload %s, frame %s" % (kind, place, bracketed(s), answer, bracketed(part), bracketed(frame))
+def search_cases(kind, place, s):
+    """The search, and the two parts of the bytes that it hands back: none where it is refused."""
+    found = paper.search(kind, s, place)
+    payload, frame = b"", b""
+    if isinstance(found, tuple):
+        start, length, first, last = found
+        payload, frame = s[first:last], s[start : start + length]
+    yield request("frames::search", kind, s, place), answer(found)
+    yield request("frames::payload", kind, s, place), answer((payload,))
+    yield request("frames::frame", kind, s, place), answer((frame,))
 
 
 def one_case(kind, s):
-    answer = "refused 5" if 1 <= kind <= 5 else "refused 2"
-    found = frame_at(kind, s, 0) if 1 <= kind <= 5 else None
-    if found and found[0] == len(s):
-        answer = "payload from %d to %d" % found[1:]
-    return "one %d %s: %s" % (kind, bracketed(s), answer)
+    return request("frames::one_frame", kind, s), answer(paper.one_frame(kind, s))
 
 
 def both_cases(kind, *buffers):
+    """Searched from the front, and taken for one frame."""
     for s in buffers:
-        yield search_case(kind, 0, s)
+        yield from search_cases(kind, 0, s)
         yield one_case(kind, s)
 
 
-def link(digits, ll=None, over=None, crc16=None, crc8=None):
-    """A link around these digits; LL and the check values are the right ones where none are given. `over`: what CRC16 is taken of."""
-    ll = ll or b"%02X" % (len(digits) + 10)
-    over = bytes.fromhex(digits.decode()) if over is None else over
-    s = b"$" + ll + digits + (crc16 or b"%04X" % value("nikobus crc16", over))
-    return s + (crc8 or b"%02X" % value("nikobus crc8", s)) + b"\r"
-
-
-def nest(kind, number, payload, order="little", length=None):
-    """A command or response; `order` is that of the CRC."""
-    s = struct.pack("<HH", number, len(payload) if length is None else length) + payload
-    return PREAMBLES[kind] + s + value("nest crc", s).to_bytes(2, order)
-
-
-def nibe(command, content, check=None):
-    s = bytes([len(content)]) + content
-    return bytes([0xC0, command]) + s + bytes([value("nibe xor", s) if check is None else check])
-
-
-def homiq(fields, crc=None):
-    """The right CRC is that of all that stands there without `;`, also where that is no field."""
-    right = b"%d" % value("homiq crc", fields.replace(b";", b""))
-    return b"<;" + fields + b";" + (right if crc is None else crc) + b";>\r\n"
-
-
-CLIMATE = bytes.fromhex("c409f401")
-LINK_A, LINK_B, PRESSED, TAILED = b"$10110000B8CF9D\r", b"$10120747402BFC\r", b"#N12AB34\r", b"#E1\r"
-RESET, COMMAND_D = bytes.fromhex("d5aa96ff000000a34b"), bytes.fromhex("d5aa9682000200000008b2")
-REPLY, REPLY_CLIMATE = nest(3, 0xFF, b""), nest(3, 2, CLIMATE)
-ASK, ASK_E = bytes.fromhex("c06902640066"), bytes.fromhex("c06902449cda")
-HOMIQ_G, HOMIQ_H = b"<;I.3;1;0H;0;42;s;134;>\r\n", b"<;I.3;1;0;0H;42;a;64;>\r\n"
-
-
 def known_frame_cases():
+    """The paper's known points (a) to (g), the acknowledgement (h) and the two of one CRC (l)."""
     yield from both_cases(1, LINK_A, LINK_B)
     yield from both_cases(2, RESET, COMMAND_D)
     yield from both_cases(4, ASK_E, b"\xc0\x69" + ASK)
@@ -387,32 +215,40 @@ def known_frame_cases():
 
 
 def nikobus_cases():
+    # LL at its lower limit and below it, odd, and not that of what follows: the check values are right for what stands there
     lengths = [link(b""), link(b"11"), link(b"110", over=b"\x11"), link(b"110", over=b"\x01\x10"), link(b"1100")]
     yield from both_cases(1, *lengths, link(b"110000", ll=b"12"), link(b"110000", ll=b"0E"))
     longest = link(b"A" * 244)
     yield from both_cases(1, longest)
-    yield search_case(1, 1, longest)
-    answer, lower = b"0747FF0102030405FE", bytes.fromhex("12abcd")
-    yield from both_cases(1, link(answer), link(answer, ll=b"1c"), link(b"12ABCD"), link(b"12aBCD", over=lower))
+    yield from search_cases(1, 1, longest)
+    # lower case in LL, in the payload, in each check value
+    reply, lower = b"0747FF0102030405FE", bytes.fromhex("12abcd")
+    yield from both_cases(1, link(reply), link(reply, ll=b"1c"), link(b"12ABCD"), link(b"12aBCD", over=lower))
     yield from both_cases(1, link(b"110000", crc16=b"b8cf"), link(b"110000", crc8=b"9d"))
+    # one check value wrong and the other right for what stands there, both wrong, CRC16 with its low byte first
     yield from both_cases(1, link(b"110000", crc16=b"B8CE"), link(b"110000", crc8=b"9C"))
     yield from both_cases(1, link(b"110000", crc16=b"B8CE", crc8=b"9D"), link(b"110000", crc16=b"CFB8"))
+    # presses and tails; characters beside the digits'
     presses = [b"N12AB34", b"N12aB34", b"N12AB345", b"N12AB3", b"N12AB3/", b"N12AB3:", b"N12AB3@", b"N12AB3G", b"n12AB34"]
     yield from both_cases(1, *[b"#" + text + b"\r" for text in presses + [b"E1", b"E2", b"e1"]])
+    # 0A where 0D should be, and behind it
     forms = (LINK_A, PRESSED, TAILED)
     yield from both_cases(1, *[s.replace(b"\r", b"\n") for s in forms], *[s + b"\n" for s in forms])
 
 
 def nest_cases():
+    # both directions, each also taken for the other; a damaged response around a command
     damaged = bytearray(nest(3, 0x18, RESET))
     damaged[-1] ^= 1
     yield from both_cases(3, REPLY, REPLY_CLIMATE)
     yield from both_cases(2, REPLY, REPLY_CLIMATE)
     yield from both_cases(3, RESET, COMMAND_D, bytes(damaged))
+    # the CRC and the length with the high byte first, a length not that of what follows, another preamble, a byte more
     yield from both_cases(2, bytes(damaged), nest(2, 0xFF, b"", "big"), nest(2, 0x82, bytes(2), "big"))
-    yield from both_cases(3, nest(3, 2, CLIMATE, "big"))
+    yield from both_cases(3, nest(3, 2, paper.CLIMATE, "big"))
     yield from both_cases(2, nest(2, 0x82, bytes(2), length=0x200), nest(2, 0x82, bytes(2), length=1))
     yield from both_cases(2, b"\xd5\xaa\x97" + RESET[3:], RESET + b"\xff")
+    # the longest payload and one byte more, of bytes that begin a preamble
     for length in (1024, 1025):
         command, response = (nest(kind, 0x18, b"\xd5" * length) for kind in (2, 3))
         for kind, s in ((3, response), (2, response), (2, command), (3, command)):
@@ -420,38 +256,46 @@ def nest_cases():
 
 
 def nibe_cases():
+    # each command that is listed, and some that are not
     yield from both_cases(4, *[nibe(command, b"\x05") for command in bytes.fromhex("606268696a6b6c6163676d00")])
+    # the check taken from C0, from the command, over the data alone, and as it should be
     over = (b"\xc0\x69\x02\x64\x00", b"\x69\x02\x64\x00", b"\x64\x00", b"\x02\x64\x00")
-    yield from both_cases(4, *[nibe(0x69, b"\x64\x00", value("nibe xor", s)) for s in over])
+    yield from both_cases(4, *[nibe(0x69, b"\x64\x00", paper.value("nibe xor", s)) for s in over])
     yield from both_cases(4, nibe(0x69, b""), nibe(0x69, b"", 0xC0), b"\x5c" + ASK[1:])
     longest = nibe(0x6A, b"\xc0" * 255)
-    yield from both_cases(4, longest, longest[:-1] + bytes([value("nibe xor", longest[:-1])]))
+    yield from both_cases(4, longest, longest[:-1] + bytes([paper.value("nibe xor", longest[:-1])]))
 
 
 def homiq_cases():
     for number in (b"0", b"1", b"511", b"512", b"042", b"1000", b"4x", b"-1", b""):
         yield from both_cases(5, homiq(b"I.3;1;0H;0;%s;s" % number))
+    # CRC 0 and 255, 256 for 0, leading zeros, none, a sign
     zero, most, acknowledged = b"I.3;1;0H;0;187;s", b"I.3;1;0H;0;182;s", b"I.3;1;0;0H;42;a"
     assert homiq(zero).endswith(b"s;0;>\r\n") and homiq(most).endswith(b"s;255;>\r\n")
     yield from both_cases(5, homiq(zero), homiq(zero, b"256"), homiq(zero, b"00"), homiq(zero, b""), homiq(most))
     yield from both_cases(5, homiq(acknowledged, b"064"), homiq(acknowledged, b"+64"), homiq(b"I.3;1;0H;0;90;s"))
+    # fields at their longest, one longer, and empty
     heads = [b"ABCDEFGH;1;0H;0", b"ABCDEFGHI;1;0H;0", b"I.3;0123456789ABCDEF;0H;0", b"I.3;0123456789ABCDEFG;0H;0", b"I.3;1;0HJK;0", b"I.3;1;0HJKL;0"]
     heads += [b"I.3;1;0H;0LMN", b"I.3;1;0H;0LMNO", b";1;0H;0", b"I.3;;0H;0", b"I.3;1;;0", b"I.3;1;0H;"]
     yield from both_cases(5, *[homiq(head + b";42;s") for head in heads])
+    # other types, the characters at the ends of a field's range and beside them, a field more and a field less
     yield from both_cases(5, *[homiq(b"I.3;1;0H;0;42;" + letter) for letter in (b"a", b"x", b"S", b"ss")])
     yield from both_cases(5, *[homiq(b"I%s3;1;0H;0;42;s" % c) for c in (b">", b"<", b" ", b"!", b"~", b"\x7f", b":=?")])
     yield from both_cases(5, homiq(b"I.3;1;0H;0;0;42;s"), homiq(b"I.3;1;0H;42;s"))
+    # CR or LF missing, or the other way round
     line = HOMIQ_G[:-2]
     yield from both_cases(5, line + b"\r", line + b"\n", line, line + b"\n\r", line[:-1] + b"\r\n", line + b"\r\n\n")
 
 
 def start_cases():
+    # a good frame inside the length that a false start claims, where the buffer has so many bytes and where it has not
     command, response = PREAMBLES[2] + b"\x82\x00", PREAMBLES[3] + b"\x82\x00"
     yield from both_cases(1, b"$FE" + LINK_A, b"$20" + LINK_A + b"0" * 12 + b"\r", b"#N12" + PRESSED, b"$1011" + TAILED)
     yield from both_cases(2, command + b"\xff\x03" + RESET, command + b"\x10\x00" + RESET + bytes(9))
     yield from both_cases(3, response + b"\xff\x03" + REPLY, response + b"\x10\x00" + REPLY + bytes(8))
     yield from both_cases(4, b"\xc0\x69\x08" + ASK + bytes(3), b"\xc0\x6a\xff" + ASK)
     yield from both_cases(5, b"<;I.3;1;" + HOMIQ_G, b"<;I.3;1;0H;0;42;s;" + HOMIQ_G)
+    # other false starts before a good frame
     yield from both_cases(1, b"$$" + LINK_A, b"#" + LINK_A, b"$10" + PRESSED, b"#E#E1" + TAILED)
     yield from both_cases(2, b"\xd5\xaa" + RESET, b"\xd5\xd5" + RESET, PREAMBLES[2] + RESET)
     yield from both_cases(3, b"\xd5" + REPLY, PREAMBLES[3] + REPLY)
@@ -460,54 +304,168 @@ def start_cases():
 
 
 def place_cases():
+    # one byte short at the end
     cut = [(1, LINK_A), (1, PRESSED), (1, TAILED), (2, RESET), (2, COMMAND_D), (3, REPLY_CLIMATE), (4, ASK), (4, nibe(0x69, b"")), (5, HOMIQ_H)]
     for kind, s in cut:
         yield from both_cases(kind, s[:-1])
+    # two frames back to back, and one inside another: from the front, from one byte into the first and from its end
     pairs = [(1, LINK_A, LINK_B), (1, PRESSED, TAILED), (1, TAILED, LINK_A), (2, RESET, COMMAND_D), (3, REPLY, REPLY_CLIMATE)]
     pairs += [(4, ASK, ASK_E), (5, HOMIQ_G, HOMIQ_H), (2, nest(2, 0x18, RESET), b""), (4, nibe(0x68, ASK), b"")]
     for kind, first, second in pairs:
         for place in (0, 1, len(first)):
-            yield search_case(kind, place, first + second)
+            yield from search_cases(kind, place, first + second)
         yield one_case(kind, first + second)
+    # a frame of each kind, taken for each
     for s in (LINK_A, RESET, REPLY, ASK, HOMIQ_G):
-        for kind in range(1, 6):
+        for kind in paper.KINDS:
             yield from both_cases(kind, s)
+    # places at and beyond the length, and kinds that there are not, which is tested first
     far = 2**64 - 1
     places = [(1, 15, LINK_A), (1, 16, LINK_A), (1, 17, LINK_A), (2, 9, RESET), (2, 10, RESET), (3, 11, REPLY)]
     places += [(4, 6, ASK), (4, 7, ASK), (4, far, ASK), (5, 26, HOMIQ_G)]
     places += [(0, 0, ASK), (6, 0, ASK), (255, 0, ASK), (0, 7, ASK), (6, far, ASK), (255, 7, ASK)]
     for case in places:
-        yield search_case(*case)
+        yield from search_cases(*case)
+    # the empty buffer
     for kind in range(7):
         yield from both_cases(kind, b"")
     for kind in (1, 5, 6):
-        yield search_case(kind, 1, b"")
+        yield from search_cases(kind, 1, b"")
 
 
-def frame_cases():
-    for cases in (known_frame_cases, nikobus_cases, nest_cases, nibe_cases, homiq_cases, start_cases, place_cases):
-        yield from cases()
+# ---- the requests themselves
 
 
-def expected():
-    lines = [*hex_cases(), *decimal_cases(), *low_first_cases(), *number_cases(), *check_cases(), *frame_cases()]
-    return "".join(line + "\n" for line in lines)
+def example_cases():
+    """The example of docs/CALLS.md, as it stands there."""
+    yield "numbers::text::write -5 2 8", "ok 5 room 2D302E3035+3"
+    yield "frames::search 4 C069C06902640066 0", "ok 2 6 5 7"
+
+
+# each has one thing that no request has
+NO_REQUESTS = [
+    "",
+    "digits",
+    "digits::hex::values 65",
+    "Digits::hex::value 65",
+    # fewer words, more words, other spaces
+    "digits::hex::value",
+    "digits::hex::value 65 65",
+    "digits::hex::byte_of 65",
+    "frames::search 4 C06902640066",
+    "digits::hex::value  65",
+    " digits::hex::value 65",
+    "digits::hex::value 65 ",
+    "digits::hex::value\t65",
+    # what the parameter's type does not hold
+    "digits::hex::value 256",
+    "digits::hex::value -1",
+    "digits::hex::four_digits 65536",
+    "digits::decimal::digits 18446744073709551616",
+    "numbers::text::write 9223372036854775808 0 12",
+    "numbers::text::write -9223372036854775809 0 12",
+    "numbers::text::write 5 4294967296 12",
+    "numbers::panel::pair 32768 0",
+    "numbers::panel::pair -32769 0",
+    "frames::search 256 C06902640066 0",
+    "frames::search 4 C06902640066 18446744073709551616",
+    # a number otherwise written
+    "digits::hex::value 065",
+    "digits::hex::value 00",
+    "digits::hex::value +65",
+    "digits::hex::value 0x41",
+    "digits::hex::value -",
+    "digits::hex::value A",
+    "numbers::text::write -0 0 12",
+    "numbers::text::write -05 0 12",
+    "numbers::single::fits 5.0",
+    # bytes otherwise written, or not so many as there must be
+    "frames::one_frame 4 c06902640066",
+    "frames::one_frame 4 C0690264006",
+    "frames::one_frame 4 C069026400GG",
+    "frames::one_frame 4 --",
+    "digits::hex::word_of 303030",
+    "digits::hex::word_of 3030303030",
+    # another word than the parameter has, a room that is too long, a message that is none, or of another kind, or with other fields
+    "numbers::byte_values::read 80 1 1",
+    "numbers::byte_values::read 80 1 True",
+    "layouts::nest::frame both D5AA96FF000000A34B",
+    "puts::front 41 2097203",
+    "commands::encode 1 reads 1 18183 - 16",
+    "commands::encode 1 read 18183 - 16",
+    "commands::encode 1 tail 1 - 16",
+    "commands::encode 1 press 3132414233 - 16",
+    "messages::nest::for_panel tail",
+]
+
+
+def no_request_cases():
+    for line in NO_REQUESTS:
+        yield line, "request?"
+
+
+SUBJECTS = [
+    example_cases,
+    hex_cases,
+    decimal_cases,
+    low_first_cases,
+    text_cases,
+    reading_cases,
+    value_cases,
+    byte_cases,
+    single_cases,
+    check_cases,
+    known_frame_cases,
+    nikobus_cases,
+    nest_cases,
+    nibe_cases,
+    homiq_cases,
+    start_cases,
+    place_cases,
+    no_request_cases,
+]
+
+
+def files():
+    """Each file's name and content."""
+    cases = [case for subject in SUBJECTS for case in subject()]
+    for name, lines in zip(("stdin", "stdout"), zip(*cases)):
+        yield name, "".join(line + "\n" for line in lines)
+
+
+def stored(name):
+    path = os.path.join(FOLDER, name)
+    if not os.path.exists(path):
+        return ""
+    with open(path, encoding="ascii", newline="") as f:
+        return f.read()
+
+
+def is_stored(name, text):
+    """Whether the file has this; if not, the first line that differs is told."""
+    pairs = itertools.zip_longest(text.split("\n"), stored(name).split("\n"))
+    wrong = next((i for i, (line, found) in enumerate(pairs, 1) if line != found), None)
+    if wrong:
+        print("crates/calls/%s is not what this script writes: line %d" % (name, wrong))
+    return not wrong
 
 
 def main(words):
     if words == ["--write"]:
-        with open(STORED, "w", encoding="ascii") as f:
-            f.write(expected())
+        for name, text in files():
+            with open(os.path.join(FOLDER, name), "w", encoding="ascii", newline="") as f:
+                f.write(text)
     elif words == ["--check"]:
-        with open(STORED, encoding="ascii") as f:
-            same = f.read() == expected()
-        print("%d passed, %d failed" % (same, not same))
-        return 0 if same else 1
+        held = [is_stored(name, text) for name, text in files()]
+        print("%d passed, %d failed" % (held.count(True), held.count(False)))
+        return 0 if all(held) else 1
     elif words:
         print(__doc__, file=sys.stderr)
         return 2
     else:
-        sys.stdout.write(expected())
+        for subject in SUBJECTS:
+            for case in subject():
+                print("%s\n  %s" % case)
     return 0
 
 

@@ -1,37 +1,33 @@
 #!/usr/bin/env python3
-"""Every row of the message table, run: the program `rows` against table.py, on each field's limits and beyond, all kinds, rooms just
+"""Every row of the message table, run: the program `calls` against table.py, on each field's limits and beyond, all kinds, rooms just
 long enough and too short, frames whole and damaged, and on random ones.
 
 tests/rows.py [SEED]            proves and builds the program where that has not been done, runs it and compares; with no seed, a fixed
                                 one and a new one, which is printed
-tests/rows.py --files IN OUT [SEED]   writes the program's input and what it should write, and runs nothing
+tests/rows.py --files IN OUT [SEED]   writes the requests and the answers that they should have, a line each, and runs nothing
 
 The last line is `N passed, M failed`: a test is a row and what is asked of it, over all its cases, for a seed.
 """
 import functools
-import os
 import random
-import struct
-import subprocess
 import sys
 from typing import NamedTuple
 
-sys.dont_write_bytecode = True  # or Python leaves a folder beside the two that are imported
+sys.dont_write_bytecode = True  # or Python leaves a folder beside those that are imported
 
-import points
+import calls
+import paper
 import table
+from calls import answer, in_room, request
 
-ROOT = os.path.join(os.path.dirname(os.path.abspath(__file__)), "..")
-ASKED = ["decode", "encode", "acknowledge", "field", "voltages", "pair"]
-FILLED = b"\xee"
 ALL_KINDS = (0, 1, 2, 3, 4, 5, 6, 255)
 # many cases share a frame, and a division for each would take most of the time
-points.value = functools.lru_cache(maxsize=None)(points.value)
+paper.value = functools.lru_cache(maxsize=None)(paper.value)
 
 
 class Case(NamedTuple):
     test: str
-    asked: str
+    asked: str  # decode, encode, acknowledge, field, voltages or pair
     kind: int = 0
     name: str = "read"
     fields: dict = {}
@@ -39,62 +35,41 @@ class Case(NamedTuple):
     room: int = 0
 
 
-def head(fields):
-    """A message's fields under the names of crates/rows/src/record.rt: small, six, word and value."""
-    small = next((fields[key] for key in ("group", "third", "width", "command", "ok") if key in fields), 0)
-    six = fields.get("out") or fields.get("digits") or bytes(6)
-    word = next((fields[key] for key in ("address", "id", "register", "humidity") if key in fields), 0)
-    return small, six, word, fields.get("value", 0)
+def decoded(kind, s):
+    """A frame's message and the content beside it; a climate's also as the panel is shown it."""
+    found = table.decode(kind, s)
+    content = b""
+    if isinstance(found, tuple):
+        name, fields, first, last = found
+        found, content = (*calls.message(name, fields), first, last), s[first:last]
+    yield request("messages::decode", kind, s), answer(found)
+    yield request("messages::content", kind, s), answer((content,))
+    if isinstance(found, tuple) and found[0] == "climate":
+        yield request("numbers::panel::pair", *found[1:3]), answer(shown(fields))
 
 
-def record(case):
-    """The bytes that ask the program."""
-    small, six, word, value = head(case.fields)
-    value |= case.fields.get("temperature", 0) & 0xFFFF
-    numbers = (ASKED.index(case.asked) + 1, case.kind, table.NAMES.index(case.name) + 1, small)
-    return struct.pack("<BBBB6sHIHH", *numbers, six, word, value, case.room, len(case.content)) + case.content
+def shown(climate):
+    """The pair of singles, raw: each holds every number of 16 bits."""
+    return "single", climate["temperature"], "single", climate["humidity"]
 
 
-def binary(n):
-    return ("-" if n < 0 else "") + format(abs(n), "017b")
-
-
-def words(name, fields):
-    """A message as the program writes it."""
-    small, six, word, value = head(fields)
-    row = table.NAMES.index(name) + 1
-    shown = (row, small, six.hex().upper(), word, value, binary(fields.get("temperature", 0)))
-    return "row %d small %d six %s word %d value %d temperature %s" % shown
-
-
-def in_room(answer, room):
-    """What is answered, and the whole room afterwards."""
-    if isinstance(answer, bytes) and len(answer) > room:
-        answer = 4
-    if isinstance(answer, int):
-        return "refused %d room %s" % (answer, (FILLED * room).hex().upper())
-    return "wrote %d room %s" % (len(answer), answer.ljust(room, FILLED).hex().upper())
-
-
-def expected(case):
-    asked, content = case.asked, case.content
-    if asked == "encode":
-        return in_room(table.encode(case.kind, case.name, case.fields, content), case.room)
-    if asked == "acknowledge":
-        return in_room(table.acknowledge(content), case.room)
-    if asked == "field":
-        return "field " + dict(enumerate(content.split(b";"))).get(case.fields["value"], b"").hex().upper()
-    if asked == "voltages":
-        found = table.voltages(content)
-        return "refused 5" if found == 5 else "vin %d vop %d vbat %d" % tuple(found)
-    if asked == "pair":
-        f = case.fields
-        return "temperature %s humidity %s" % (binary(f["temperature"]), binary(f["humidity"])) if case.name == "climate" else "refused 5"
-    found = table.decode(case.kind, content)
-    if isinstance(found, int):
-        return "refused %d content " % found
-    name, fields, first, last = found
-    return "%s from %d to %d content %s" % (words(name, fields), first, last, content[first:last].hex().upper())
+def pairs(case):
+    """The requests of a case, each with its answer."""
+    _, asked, kind, name, fields, content, room = case
+    if asked == "decode":
+        yield from decoded(kind, content)
+    elif asked == "encode":
+        made = table.encode(kind, name, fields, content)
+        yield request("commands::encode", kind, *calls.message(name, fields), content, room), in_room(made, room)
+    elif asked == "acknowledge":
+        yield request("commands::acknowledge", content, room), in_room(table.acknowledge(content), room)
+    elif asked == "field":
+        field = dict(enumerate(content.split(b";"))).get(fields["number"], b"")
+        yield request("messages::homiq::field", content, fields["number"]), answer((field,))
+    elif asked == "voltages":
+        yield request("messages::nest::voltages", content), answer(table.voltages(content))
+    else:
+        yield request("messages::nest::for_panel", *calls.message(name, fields)), answer(shown(fields) if name == "climate" else 5)
 
 
 # ---- the messages of each row: fields and content, at their limits and beyond
@@ -263,7 +238,7 @@ def homiq_contents():
             fields[at] = bytes([c])
             yield b";".join(fields + [b"42", b"s"])
     yield from b"|;|;;;;;|HB|HB;1;0H;0;42|HB;1;0H;0;42;s;|;HB;1;0H;0;42;s|HB;1;0H;0;42;s;134|HB;1;0H;0;0;42;s".split(b"|")
-    yield from (points.HOMIQ_G, bytes(64), b"A" * 64, b"A" * 1100, b";" * 1100)
+    yield from (paper.HOMIQ_G, bytes(64), b"A" * 64, b"A" * 1100, b";" * 1100)
 
 
 def homiq_messages():
@@ -312,21 +287,21 @@ def encode_cases(name, fields, content):
 def forced(name, fields, content):
     """The bytes that a message would have, right check values and all, also where a field is outside its limits; none where there are none."""
     kind = table.KINDS[name]
-    made = table.MAKE[name](fields, content) if fields.get("width", 1) in table.WIDTHS else None
+    made = table.MAKE[name](fields, content) if fields.get("width", 1) in paper.WIDTHS else None
     if made is not None:
         return table.frame(kind, made)
     if name == "press":
         return b"#N" + fields["digits"] + b"\r"
     if name == "link":
         try:
-            return points.link(content, over=bytes.fromhex(content.decode()))
+            return paper.link(content, over=bytes.fromhex(content.decode()))
         except ValueError:
-            return points.link(content, over=b"")
+            return paper.link(content, over=b"")
     if name in ("command", "text", "response", "state"):
-        return points.nest(kind, fields.get("id", 0x0B), content)
+        return paper.nest(kind, fields.get("id", 0x0B), content)
     if name == "nibe" and len(content) < 256:
-        return points.nibe(fields["command"], content)
-    return points.homiq(content) if kind == 5 else None
+        return paper.nibe(fields["command"], content)
+    return paper.homiq(content) if kind == 5 else None
 
 
 def damaged(s, rng):
@@ -363,7 +338,7 @@ def acknowledge_cases(test, s):
 
 def field_cases(content):
     for number in (*range(8), 255, 2**32 - 1):
-        yield Case("field", "field", fields={"value": number}, content=content)
+        yield Case("field", "field", fields={"number": number}, content=content)
 
 
 def limit_cases():
@@ -379,12 +354,12 @@ def limit_cases():
             seen.add((kind, s))
             yield from decode_cases(kind, s, rng)
     for content in homiq_contents():
-        s = points.homiq(content)[:1100]
+        s = paper.homiq(content)[:1100]
         yield from acknowledge_cases("acknowledge", s)
         yield from field_cases(content)
         for other in damaged(s, rng) if len(s) < 64 else ():
             yield from acknowledge_cases("acknowledge damaged", other)
-    for s in (points.LINK_A, points.RESET, points.ASK, b""):
+    for s in (paper.LINK_A, paper.RESET, paper.ASK, b""):
         yield from acknowledge_cases("acknowledge", s)
         yield from field_cases(s)
     for length in LENGTHS[:-2] + (18, 24, 1000):
@@ -477,7 +452,7 @@ def random_cases(seed, count=3000):
         if kind == 5:
             room = rng.choice((64, rng.randrange(52)))
             yield Case("acknowledge at random", "acknowledge", content=s, room=room)
-            yield Case("field at random", "field", fields={"value": rng.randrange(8)}, content=content)
+            yield Case("field at random", "field", fields={"number": rng.randrange(8)}, content=content)
         if kind == 3:
             yield Case("voltages at random", "voltages", content=content[:1024])
             yield Case("pair at random", "pair", 3, name, fields)
@@ -488,30 +463,28 @@ def random_cases(seed, count=3000):
 
 def known():
     """The known points (a), (b), (c), (e), (g) and (h) of document 01, as table.py has them."""
-    yield table.decode(1, points.LINK_A) == ("link", {}, 3, 9)
-    yield table.decode(1, points.LINK_B) == ("read", {"group": 1, "address": 0x4707}, 3, 9)
-    yield table.encode(1, "link", {}, b"110000") == points.LINK_A
+    yield table.decode(1, paper.LINK_A) == ("link", {}, 3, 9)
+    yield table.decode(1, paper.LINK_B) == ("read", {"group": 1, "address": 0x4707}, 3, 9)
+    yield table.encode(1, "link", {}, b"110000") == paper.LINK_A
     yield table.encode(1, "link", {}, b"120747") == 6
-    yield table.encode(1, "read", {"group": 1, "address": 0x4707}, b"") == points.LINK_B
-    yield table.decode(2, points.RESET) == ("command", {"id": 255}, 7, 7)
-    yield table.encode(2, "command", {"id": 255}, b"") == points.RESET
-    yield table.decode(4, points.ASK_E) == ("ask", {"register": 40004}, 3, 5)
-    yield table.encode(4, "ask", {"register": 40004}, b"") == points.ASK_E
-    yield table.decode(5, points.HOMIQ_G)[0] == "input" and table.decode(5, points.HOMIQ_G.replace(b"134", b"143")) == 5
-    yield table.acknowledge(points.HOMIQ_G) == points.HOMIQ_H and table.acknowledge(points.HOMIQ_H) == 5
+    yield table.encode(1, "read", {"group": 1, "address": 0x4707}, b"") == paper.LINK_B
+    yield table.decode(2, paper.RESET) == ("command", {"id": 255}, 7, 7)
+    yield table.encode(2, "command", {"id": 255}, b"") == paper.RESET
+    yield table.decode(4, paper.ASK_E) == ("ask", {"register": 40004}, 3, 5)
+    yield table.encode(4, "ask", {"register": 40004}, b"") == paper.ASK_E
+    yield table.decode(5, paper.HOMIQ_G)[0] == "input" and table.decode(5, paper.HOMIQ_G.replace(b"134", b"143")) == 5
+    yield table.acknowledge(paper.HOMIQ_G) == paper.HOMIQ_H and table.acknowledge(paper.HOMIQ_H) == 5
 
 
-def reached(cases):
+def reached(cases, exchanges):
     """Each row is encoded and decoded, and each refusal given that an encoder, a decoder and an acknowledgement have."""
-    seen = {(case.asked, case.kind, case.name, expected(case).split(" room ")[0].split(" content ")[0]) for case in cases}
-    encoded = {name for asked, _, name, answer in seen if asked == "encode" and answer.startswith("wrote")}
-    decoded = {" ".join(answer.split(" ")[:2]) for asked, _, _, answer in seen if asked == "decode"}
-    refused = {(asked, answer[-1:]) for asked, _, _, answer in seen if answer.startswith("refused")}
-    yield encoded == set(table.NAMES)
-    yield decoded == {*("row %d" % row for row in range(1, 24)), "refused 2", "refused 5"}
-    yield {no for asked, no in refused if asked == "encode"} == set("24567")
-    yield {no for asked, no in refused if asked == "acknowledge"} == set("45")
-    yield {name for asked, _, name, answer in seen if (asked, answer) == ("encode", "refused 6")} == table.LAST
+    seen = {(case.asked, case.name, " ".join(first.split(" ")[:2])) for case, ((_, first), *_) in zip(cases, exchanges)}
+    refused = {(what, told[-1:]) for what, _, told in seen if told.startswith("refused")}
+    yield {name for what, name, told in seen if what == "encode" and told.startswith("ok")} == set(table.NAMES)
+    yield {told for what, _, told in seen if what == "decode"} == {*("ok " + name for name in table.NAMES), "refused 2", "refused 5"}
+    yield {no for what, no in refused if what == "encode"} == set("24567")
+    yield {no for what, no in refused if what == "acknowledge"} == set("45")
+    yield {name for what, name, told in seen if (what, told) == ("encode", "refused 6")} == table.LAST
 
 
 def round_trip(case):
@@ -527,35 +500,26 @@ def round_trip(case):
 # ---- running
 
 
-def build():
-    """Proves and builds the program, where that has not been done."""
-    os.makedirs(os.path.join(ROOT, "target"), exist_ok=True)
-    done = subprocess.run(["rt", "check", "rows"], cwd=ROOT, stdout=subprocess.PIPE, stderr=subprocess.STDOUT, check=False)
-    if done.returncode != 0:
-        sys.stdout.buffer.write(done.stdout)
-        sys.exit(1)
-
-
-def run(asked):
-    """What the program writes; on Arm under the kit's emulator."""
-    script = ". scripts/x86-64.sh && run target/bin/rows"
-    return subprocess.run(["bash", "-c", script], cwd=ROOT, input=asked, stdout=subprocess.PIPE, check=True).stdout.decode().splitlines()
-
-
-def compare(cases, lines):
+def compare(cases, exchanges, lines):
     """The tests that failed, with an example of each of the first few."""
     wrong = {}
-    if len(lines) != len(cases):
-        print("%d lines for %d records" % (len(lines), len(cases)))
-        wrong["lines"] = 1
-    for case, line in zip(cases, lines):
+
+    def fails(test):
+        wrong[test] = wrong.get(test, 0) + 1
+        return wrong[test] == 1
+
+    requests = sum(map(len, exchanges))
+    if len(lines) != requests:
+        print("%d answers to %d requests" % (len(lines), requests))
+        fails("lines")
+    answers = iter(lines)
+    for case, exchange in zip(cases, exchanges):
         if case.asked == "encode" and not round_trip(case):
-            wrong[case.test] = wrong.get(case.test, 0) + 1
+            fails(case.test)
             print("not the same way back: %s" % (case,))
-        elif line != expected(case):
-            wrong[case.test] = wrong.get(case.test, 0) + 1
-            if len(wrong) <= 5 and wrong[case.test] == 1:
-                print("%s\n  expected %s\n  written  %s" % (case, expected(case), line))
+        for (line, right), found in zip(exchange, answers):
+            if found != right and fails(case.test) and len(wrong) <= 5:
+                print("%s\n  %s\n  expected %s\n  answered %s" % (case.test, line, right, found))
     for test, count in wrong.items():
         print("%s: %d wrong" % (test, count))
     return wrong
@@ -569,19 +533,19 @@ def main(arguments):
         return 2
     seeds = [int(word) for word in rest] or [1, random.SystemRandom().randrange(1 << 32)]
     cases = list(limit_cases()) + [case._replace(test="%s, seed %d" % (case.test, seed)) for seed in seeds for case in random_cases(seed)]
-    asked = b"".join(record(case) for case in cases)
+    exchanges = [list(pairs(case)) for case in cases]
+    requests, answers = zip(*(pair for exchange in exchanges for pair in exchange))
     if files:
-        with open(files[0], "wb") as f:
-            f.write(asked)
-        with open(files[1], "w", encoding="ascii") as f:
-            f.writelines(expected(case) + "\n" for case in cases)
+        for name, lines in zip(files, (requests, answers)):
+            with open(name, "w", encoding="ascii") as f:
+                f.writelines(line + "\n" for line in lines)
         return 0
-    build()
-    own = [*known(), *reached(cases)]
-    wrong = compare(cases, run(asked))
+    calls.build()
+    own = [*known(), *reached(cases, exchanges)]
+    wrong = compare(cases, exchanges, calls.run(requests))
     tests = {case.test for case in cases}
     failed = len(wrong) + own.count(False)
-    print("seeds %s, %d lines compared, %d of the script's own tests hold" % (" ".join(map(str, seeds)), len(cases), own.count(True)))
+    print("seeds %s, %d answers compared, %d of the script's own tests hold" % (" ".join(map(str, seeds)), len(answers), own.count(True)))
     print("%d passed, %d failed" % (len(tests) + len(own) - failed, failed))
     return 1 if failed else 0
 

@@ -1,5 +1,5 @@
 """The message table of document 01, from the documents alone: what a frame is decoded to, what a message is encoded to, and what
-a Homiq frame is acknowledged with. Frames and check values are those of points.py; nothing is taken from the Rattle code.
+a Homiq frame is acknowledged with. Frames and check values are those of paper.py; nothing is taken from the Rattle code.
 
 A row reads the parts of a frame (Nikobus: form and payload; Nest: id and payload; Nibe: command and data; Homiq: the six fields) and
 answers the message's fields, or none where the parts are another row's; and it makes the parts from fields, or none where a field is
@@ -8,7 +8,7 @@ outside its limits.
 import re
 import struct
 
-import points
+import paper
 
 NIKOBUS = ["read", "set", "answer", "press", "tail", "link"]
 RESPONSES = ["climate", "state", "break", "end", "text", "response"]
@@ -21,10 +21,9 @@ KINDS = {name: kind for kind, names in OF_KIND.items() for name in names}
 LAST = {"link", "text", "response", "nibe", "homiq"}
 TEXTS = (0x0001, 0x0018, 0x0019)
 COMMANDS = bytes.fromhex("606268696a6b6c")
-WIDTHS = (1, 2, 4)
 DIGITS = re.compile(rb"(?:[0-9A-F]{2}){1,122}")
 SIX_DIGITS = re.compile(rb"[0-9A-F]{6}")
-FIELDS = re.compile(rb"(C{1,8});(C{1,16});(C{1,4});(C{1,4});([1-9][0-9]*);([sa])".replace(b"C", points.CHARACTER))
+FIELDS = re.compile(rb"(C{1,8});(C{1,16});(C{1,4});(C{1,4});([1-9][0-9]*);([sa])".replace(b"C", paper.CHARACTER))
 
 
 def u16(data, at):
@@ -33,7 +32,7 @@ def u16(data, at):
 
 def parts(kind, frame):
     """The parts of one frame of a kind and no byte more, with its payload's two places; or none."""
-    found = points.frame_at(kind, frame, 0)
+    found = paper.frame_at(kind, frame, 0)
     if not found or found[0] != len(frame):
         return None
     _, first, last = found
@@ -53,11 +52,11 @@ def frame(kind, made):
     if kind == 1:
         form, payload = made
         if form == "link":
-            return points.link(payload.hex().upper().encode())
+            return paper.link(payload.hex().upper().encode())
         return {"press": b"#N" + payload + b"\r", "tail": b"#E1\r"}[form]
     if kind in (2, 3):
-        return points.nest(kind, *made)
-    return points.nibe(*made) if kind == 4 else points.homiq(b";".join(made))
+        return paper.nest(kind, *made)
+    return paper.nibe(*made) if kind == 4 else paper.homiq(b";".join(made))
 
 
 def read_read(form, p):
@@ -82,7 +81,7 @@ def read_climate(number, p):
 
 def valued(command):
     def read(found, data):
-        if found != command or len(data) - 2 not in WIDTHS:
+        if found != command or len(data) - 2 not in paper.WIDTHS:
             return None
         return {"register": u16(data, 0), "width": len(data) - 2, "value": int.from_bytes(data[2:], "little")}
 
@@ -131,7 +130,7 @@ def nest_parts(number, payload, least=0):
 
 
 def value_parts(command, f):
-    data = points.held(f["value"], f["width"], False)
+    data = paper.held(f["value"], f["width"], False)
     return None if data is None else (command, struct.pack("<H", f["register"]) + data)
 
 
@@ -181,7 +180,7 @@ def encode(kind, name, fields, content):
     """The frame, or the refusal's number; the room is the caller's to look at. In the order 2, 7, 5, 6."""
     if kind not in OF_KIND:
         return 2
-    if fields.get("width", 1) not in WIDTHS:
+    if fields.get("width", 1) not in paper.WIDTHS:
         return 7
     if KINDS[name] != kind:
         return 5

@@ -1,0 +1,72 @@
+"""Requests to the program `calls` and its answers, as docs/CALLS.md says that they are written; and the program, built and run."""
+import os
+import subprocess
+import sys
+
+ROOT = os.path.join(os.path.dirname(os.path.abspath(__file__)), "..")
+FILLED = b"\xee"
+# a message's fields in their order, under the names of table.py; the others have none
+FIELDS = {
+    "read": ("group", "address"),
+    "set": ("group", "address", "out"),
+    "answer": ("address", "third", "out"),
+    "press": ("digits",),
+    "command": ("id",),
+    "climate": ("temperature", "humidity"),
+    "text": ("id",),
+    "response": ("id",),
+    "ask": ("register",),
+    "reply": ("register", "width", "value"),
+    "put": ("register", "width", "value"),
+    "done": ("ok",),
+    "nibe": ("command",),
+}
+
+
+def word(value):
+    if isinstance(value, bytes):
+        return value.hex().upper() or "-"
+    if isinstance(value, bool):
+        return "true" if value else "false"
+    return str(value)
+
+
+def message(name, fields):
+    """A message, as words of their own."""
+    values = [fields[key] for key in FIELDS.get(name, ())]
+    return [name, *(map(bool, values) if name == "done" else values)]
+
+
+def request(function, *arguments):
+    return " ".join([function, *map(word, arguments)])
+
+
+def answer(found):
+    """What is answered with these values, or with a refusal's number."""
+    return "refused %d" % found if isinstance(found, int) else " ".join(["ok", *map(word, found)])
+
+
+def in_room(made, room):
+    """What is answered where these bytes are to be written, or with a refusal's number; and the whole room afterwards."""
+    if isinstance(made, bytes) and len(made) > room:
+        made = 4
+    refused = isinstance(made, int)
+    written = b"" if refused else made
+    front = written.ljust(room, FILLED).rstrip(FILLED)
+    return "%s room %s+%d" % (answer(made if refused else (len(made),)), word(front), room - len(front))
+
+
+def build():
+    """Proves and builds the program, where that has not been done."""
+    os.makedirs(os.path.join(ROOT, "target"), exist_ok=True)
+    done = subprocess.run(["rt", "check", "calls"], cwd=ROOT, stdout=subprocess.PIPE, stderr=subprocess.STDOUT, check=False)
+    if done.returncode != 0:
+        sys.stdout.buffer.write(done.stdout)
+        sys.exit(1)
+
+
+def run(requests):
+    """The program's answers; on Arm under the kit's emulator."""
+    script = ". scripts/x86-64.sh && run target/bin/calls"
+    given = "".join(line + "\n" for line in requests).encode("ascii")
+    return subprocess.run(["bash", "-c", script], cwd=ROOT, input=given, stdout=subprocess.PIPE, check=True).stdout.decode("ascii").splitlines()
