@@ -1,6 +1,6 @@
 #!/usr/bin/env python3
-"""What each crate costs: lines of code, contract, definition and proof, must-fail edits, and seconds of check. The table stands in
-docs/COSTS.md.
+"""What each crate costs: lines of code, contract, definition and proof, wrong answers that must be refused, the edits that they stand in, and
+seconds of check. The table stands in docs/COSTS.md.
 
 scripts/costs.py --write [LOG]   writes the counts there; the seconds are those of LOG, what `rt check` wrote on a tree without target/, and
                                  stay as they are without one
@@ -11,8 +11,13 @@ import re
 import sys
 
 ROOT = os.path.join(os.path.dirname(os.path.abspath(__file__)), "..")
+sys.path.insert(0, os.path.join(ROOT, "tests"))
+sys.dont_write_bytecode = True  # or Python leaves a folder beside the one that is imported
+import changes
+
 PAGE = os.path.join(ROOT, "docs", "COSTS.md")
-HEAD = "| crate | code | contract | definition | working definition | proof | edits | check, s |\n|---|---|---|---|---|---|---|---|\n"
+COLUMNS = ["crate", "code", "contract", "definition", "working definition", "proof", "wrong answers", "edits", "check, s"]
+HEAD = "| %s |\n|%s\n" % (" | ".join(COLUMNS), "---|" * len(COLUMNS))
 
 
 def files(folder, ending):
@@ -40,9 +45,9 @@ def counts(crate):
     def of(*below):
         return sum(len(written(lines, "--")) for lines in files(os.path.join(folder, *below), ".antt"))
 
-    edits = os.path.join(folder, "must-fail")
-    tried = len([name for name in os.listdir(edits) if name.endswith(".edit")]) if os.path.isdir(edits) else 0
-    return (len(source) - contract, contract, of("specs", "Paper"), of("specs", "Work"), of("proofs"), tried)
+    edits = changes.edits_of(crate)
+    wrong = sum(len(changes.changes_in(edit)) for edit in edits)
+    return (len(source) - contract, contract, of("specs", "Paper"), of("specs", "Work"), of("proofs"), wrong, len(edits))
 
 
 def crates():
@@ -56,13 +61,13 @@ def rows_of(page):
     for line in page.splitlines():
         cells = [cell.strip() for cell in line.strip("|").split("|")]
         name = cells[0].strip("`")
-        if len(cells) == 8 and name in crates():
-            rows[name] = (tuple(map(int, cells[1:7])), cells[7])
+        if len(cells) == len(COLUMNS) and name in crates():
+            rows[name] = (tuple(map(int, cells[1:-1])), cells[-1])
     return rows
 
 
 def table(seconds):
-    lines, total = [], [0] * 6
+    lines, total = [], [0] * (len(COLUMNS) - 2)
     for crate in crates():
         found = counts(crate)
         total = [a + b for a, b in zip(total, found)]
