@@ -97,8 +97,8 @@ def functions_of(crate):
 
 
 def stands_in(change, beside=()):
-    """The functions in which a change of code stands, where the changes beside it are made too: those whose lines it changes, or that name the
-    constant that it changes."""
+    """The functions in which a change of code stands: those whose lines it changes, or that name the constant that it changes, with the
+    changes beside it made or without."""
     before = after = change.path().read_text(encoding="utf-8")
     for other in beside:
         after = made(other, after) if other != change and other.path() == change.path() else after
@@ -107,7 +107,7 @@ def stands_in(change, beside=()):
     for old, _ in change.pairs:
         number = before[: before.index(old)].count("\n")
         inside = [f.name for f in functions if f.first <= number <= f.last]
-        found.update(inside or naming(after.splitlines(), number, functions))
+        found.update(inside or naming(before.splitlines(), number, functions) + naming(after.splitlines(), number, functions))
     return found
 
 
