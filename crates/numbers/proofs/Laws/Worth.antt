@@ -39,7 +39,7 @@ all-digits n k m = digits-append (by-places (decimal n) (chars-digits n)) (digit
 worth-append : (s t : List ℕ) (n : ℕ) → worthBehind n (s ++ t) ≡ worthBehind (worthBehind n s) t
 unfolding worthBehind
 worth-append [] t n = refl
-worth-append (c ∷ s) t n = worth-append s t (n * 10 + (c - 48))
+worth-append (c ∷ s) t n = worth-append s t _
 
 worth-digit : (n v : ℕ) → worthBehind n (decimalDigit v ∷ []) ≡ n * 10 + v
 unfolding worthBehind
