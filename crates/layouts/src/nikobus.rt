@@ -122,13 +122,9 @@ fn ll(s: &[u8]) -> usize
     if s[0] != b'$' {
         return 0;
     }
-    if !is_digit(s[1]) {
+    let Byte::Is(n) = hex::byte_of(s[1], s[2]) else {
         return 0;
-    }
-    if !is_digit(s[2]) {
-        return 0;
-    }
-    let n = pair(s[1], s[2]);
+    };
     if n < 0x0C {
         return 0;
     }

@@ -137,6 +137,12 @@ pair-is {high} {low} {b} d e =
     let q = byte-parts b high low (a .0) (a .1) in
     sym (pair-byte b (a .0)) ∙ rw (q .0, q .1)
 
+pub pair-hex : {high low b : ℕ} {r : Byte} → ReadsByte high low r → r ≡ Is b → T (isHex high) × T (isHex low)
+pair-hex {high} {low} {b} d e =
+    let a = answered (omega arith) (subst (ReadsByte high low) e d) refl in
+    let q = byte-parts b high low (a .0) (a .1) in
+    (rw (q .0) at (digit-hex (b / 16) (omega (arith, a .0))), rw (q .1) at (digit-hex (b % 16) (omega arith)))
+
 pub pair-read : {high low : ℕ} {r : Byte} → T (isHex high) → T (isHex low) → ReadsByte high low r → r ≡ NoDigit → ⊥
 pair-read {high} {low} h l d e =
     refused (omega arith) (subst (ReadsByte high low) e d) refl (hexPair high low) (pair-lt high low) (byte-pair high low h l)
