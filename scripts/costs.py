@@ -12,7 +12,8 @@ import sys
 
 ROOT = os.path.join(os.path.dirname(os.path.abspath(__file__)), "..")
 sys.path.insert(0, os.path.join(ROOT, "tests"))
-sys.dont_write_bytecode = True  # or Python leaves a folder beside the one that is imported
+sys.dont_write_bytecode = True  # or Python leaves a folder beside those that are imported
+
 import changes
 
 PAGE = os.path.join(ROOT, "docs", "COSTS.md")

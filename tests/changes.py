@@ -4,28 +4,17 @@
 two of one edit stand in the same function, so that the prover says of each by itself that it is wrong. An edit without such a line is one
 change, and has its name.
 """
-import pathlib
 import re
 from typing import NamedTuple
 
-ROOT = pathlib.Path(__file__).resolve().parent.parent
-
-
-class Function(NamedTuple):
-    """A function as the prover names it, and the lines of its file that it takes up, from the first up to the last."""
-
-    name: str
-    public: bool
-    first: int
-    last: int
+from functions import ROOT, functions_in
 
 
 class Change(NamedTuple):
-    """What is wrong, in which crate and edit; the file, and each text that stands there once with what is put for it."""
+    """What is wrong, and in which crate; the file, and each text that stands there once with what is put for it."""
 
     name: str
     crate: str
-    edit: str
     file: str
     pairs: tuple
 
@@ -52,7 +41,7 @@ def changes_in(path):
         elif word == "new" and found and found[-1].name == name:
             found[-1] = found[-1]._replace(pairs=(*found[-1].pairs, (old, rest)))
         elif word == "new":
-            found.append(Change(name, crate, path.stem, file, ((old, rest),)))
+            found.append(Change(name, crate, file, ((old, rest),)))
     return found
 
 
@@ -71,29 +60,6 @@ def made(change, text):
             raise SystemExit("%s/%s: what it replaces does not stand in %s once" % (change.crate, change.name, change.file))
         text = text.replace(old, new)
     return text
-
-
-def functions_in(crate, path):
-    """The functions of a file of code, as `rt fmt` lays it out: one ends at the first brace that stands as far left as it begins."""
-    parts = path.relative_to(ROOT / "crates" / crate / "src").with_suffix("").parts
-    module = [crate, *(part for part in parts if part not in ("lib", "main"))]
-    kind, begun = [], None
-    for number, line in enumerate(path.read_text(encoding="utf-8").splitlines()):
-        inside = re.match(r"impl (\w+)", line)
-        found = re.match(r'( *)(pub(?:\(crate\))? )?(?:extern "C" )?fn (\w+)', line)
-        if inside:
-            kind = [inside.group(1)]
-        elif found:
-            begun = (found, number)
-        elif begun and line == begun[0].group(1) + "}":
-            indent, visible, name = begun[0].groups()
-            yield Function("::".join([*module, *(kind if indent else []), name]), visible == "pub ", begun[1], number)
-            begun = None
-
-
-def functions_of(crate):
-    for path in sorted((ROOT / "crates" / crate / "src").rglob("*.rt")):
-        yield from functions_in(crate, path)
 
 
 def stands_in(change, beside=()):

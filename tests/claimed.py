@@ -12,13 +12,13 @@ import sys
 
 sys.dont_write_bytecode = True  # or Python leaves a folder beside the one that is imported
 
-import edits
+import functions
 
 os.chdir(os.path.join(os.path.dirname(os.path.abspath(__file__)), ".."))
 
 PARTS = {"Kinds.ps", "Kinds.r", "Reads.Pre", "Reads.Post", "Statement.statement"}
 # The calls for the tests in C are the same functions by another calling convention; the claims themselves are no code.
-LEFT_OUT = edits.REPEATS | {"claims"}
+LEFT_OUT = functions.REPEATS | {"claims"}
 
 
 def modules(text):
@@ -57,11 +57,7 @@ def main():
     found = list(rows())
     names = [function for _, _, function, _ in found]
     wrong = [told for told in (wrong_row(*row) for row in found) if told]
-    public = []
-    for lib in sorted(glob.glob("crates/*/src/lib.rt")):
-        crate = lib.split("/")[1]
-        if crate not in LEFT_OUT:
-            public += edits.public_functions(crate)
+    public = [function for crate in functions.libraries() if crate not in LEFT_OUT for function in functions.public_functions(crate)]
     wrong += ["%s stands in %d rows" % (function, names.count(function)) for function in public if names.count(function) != 1]
     wrong += ["%s is no public function" % function for function in names if function not in public]
     for line in wrong:

@@ -13,11 +13,10 @@ Prints what is amiss and `N passed, M failed`: a test is a change, or a public f
 import re
 import sys
 
-sys.dont_write_bytecode = True  # or Python leaves a folder beside the one that is imported
-import changes
+sys.dont_write_bytecode = True  # or Python leaves a folder beside those that are imported
 
-# These repeat promises of other crates, one call each, for C to call: the edits of those crates are their own.
-REPEATS = {"probe", "probe_list", "probe_book"}
+import changes
+import functions
 
 
 class Log:
@@ -25,7 +24,7 @@ class Log:
 
     def __init__(self, crate, edit):
         self.said, self.waits, self.first = {}, {}, ""
-        path = changes.ROOT / "target" / "must-fail" / crate / edit / ".log"
+        path = functions.ROOT / "target" / "must-fail" / crate / edit / ".log"
         lines = path.read_text(encoding="utf-8", errors="replace").splitlines() if path.exists() else []
         for line in lines:
             found = re.match(r"\S+?/proofs/(\S+)/Proof\.antt:\d+:\d+: error: (.*)", line)
@@ -87,7 +86,7 @@ def edit_shows(path, shown):
 
 
 def main():
-    promises = (changes.ROOT / "docs/PROMISES.md").read_text(encoding="utf-8")
+    promises = (functions.ROOT / "docs/PROMISES.md").read_text(encoding="utf-8")
     wrong, tests, shown = [], 0, {}
     for crate in changes.crates_with_edits():
         for path in changes.edits_of(crate):
@@ -97,15 +96,14 @@ def main():
                     amiss = "docs/PROMISES.md does not name it"
                 if amiss:
                     wrong.append("%s/%s, %s: %s" % (crate, path.stem, change.name, amiss))
-    for lib in sorted((changes.ROOT / "crates").glob("*/src/lib.rt")):
-        crate = lib.parent.parent.name
-        for function in (function for function in changes.functions_of(crate) if function.public):
+    for crate in functions.libraries():
+        for function in functions.public_functions(crate):
             tests += 1
-            by = sorted(shown.get(function.name, ()))
-            if crate not in REPEATS and len(by) < 2:
-                wrong.append("%s: refused by %d wrong answers only: %s" % (function.name, len(by), ", ".join(by)))
-            elif not re.search(r"\b%s\b" % function.name.split("::")[-1], promises):
-                wrong.append("%s: docs/PROMISES.md does not name it" % function.name)
+            by = sorted(shown.get(function, ()))
+            if crate not in functions.REPEATS and len(by) < 2:
+                wrong.append("%s: refused by %d wrong answers only: %s" % (function, len(by), ", ".join(by)))
+            elif not re.search(r"\b%s\b" % function.split("::")[-1], promises):
+                wrong.append("%s: docs/PROMISES.md does not name it" % function)
     for line in wrong:
         print(line)
     print("%d passed, %d failed" % (tests - len(wrong), len(wrong)))
