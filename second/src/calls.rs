@@ -272,6 +272,10 @@ fn in_puts(function: &str, words: &mut Words) -> Option<Answer> {
             let number = words.number()?;
             puts(words.room()?, words.number()?, &digits::decimal(number))
         }
+        "hex" => {
+            let bytes = words.bytes()?;
+            puts(words.room()?, words.number()?, &digits::hex(&bytes))
+        }
         _ => None,
     }
 }

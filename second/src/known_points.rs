@@ -492,6 +492,7 @@ fn each_function_answers() {
         ("puts::front 0102 1", "refused 4 room -+1"),
         ("puts::whole 1234 4 2", "ok 6 room EEEE3132+0"),
         ("puts::byte 238 2 0", "ok 1 room -+2"),
+        ("puts::hex 0AFF 4 1", "ok 5 room EE304146+0"),
         ("numbers::text::read 2D302E3035", "ok -5 2"),
         ("numbers::text::read 2D30", "refused 7"),
         ("numbers::byte_values::read 83FF 2 true", "ok -125"),

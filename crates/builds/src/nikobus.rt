@@ -7,7 +7,6 @@ use puts::Written;
 ghost use mathlib.Core.Path.{_≡_};
 ghost use Prim.Native.Nat.{_+_, _*_, _≤_};
 ghost use lib.ListN.{length};
-ghost use Rattle.digits.specs.Paper.Hex.{hexBytes};
 ghost use Rattle.layouts.specs.Paper.Chars.{all, isHex};
 ghost use Rattle.layouts.specs.Paper.Layout.{bytesOf};
 ghost use Rattle.layouts.specs.Paper.Made.{linkOf};
@@ -43,25 +42,11 @@ fn put_link(payload: &[u8], room: &mut [u8]) -> usize
     let crc16 = hex::four_digits(Crc16::of(payload));
     let mut at = puts::byte(b'$', room, 0);
     at = puts::bytes(&ll, room, at);
-    at = put_digits(payload, room, at);
+    at = puts::hex(payload, room, at);
     at = puts::bytes(&crc16, room, at);
     let crc8 = hex::two_digits(Crc8::of(&room[0..at]));
     at = puts::bytes(&crc8, room, at);
     puts::byte(b'\r', room, at)
-}
-
-// Two digits for each byte.
-fn put_digits(s: &[u8], room: &mut [u8], at: usize) -> usize
-    ensures { λ r. ⌜ Put (now (room .entry)) (now (room .exit)) at r (hexBytes (now (s .entry))) ⌝ }
-{
-    let mut next = at;
-    let mut i = 0;
-    while i < s.len() {
-        let two = hex::two_digits(s[i]);
-        next = puts::bytes(&two, room, next);
-        i += 1;
-    }
-    next
 }
 
 // A press with these six digits.

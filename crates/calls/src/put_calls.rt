@@ -11,6 +11,7 @@ pub(crate) fn read(line: &[u8], values: &mut [u64; 16], store: &mut [u8]) -> usi
         b"\
         puts::front bytes room\n\
         puts::bytes bytes room usize\n\
+        puts::hex bytes room usize\n\
         json::hex bytes room usize\n\
         json::chars bytes room usize\n\
         puts::byte u8 room usize\n\
@@ -28,7 +29,7 @@ pub(crate) fn call(row: usize, values: &[u64; 16], store: &[u8], room: &mut [u8]
     if row == 1 {
         return written(puts::front(value::bytes(store, values[0], values[1]), room));
     }
-    if row < 5 {
+    if row < 6 {
         let s = value::bytes(store, values[0], values[1]);
         return answer::number(put_bytes(row, s, room, value::place(values[2])) as u64);
     }
@@ -38,7 +39,8 @@ pub(crate) fn call(row: usize, values: &[u64; 16], store: &[u8], room: &mut [u8]
 fn put_bytes(row: usize, s: &[u8], room: &mut [u8], at: usize) -> usize {
     match row {
         2 => puts::bytes(s, room, at),
-        3 => json::hex(s, room, at),
+        3 => puts::hex(s, room, at),
+        4 => json::hex(s, room, at),
         _ => json::chars(s, room, at),
     }
 }
@@ -47,10 +49,10 @@ fn put(row: usize, values: &[u64; 16], room: &mut [u8]) -> usize {
     let n = values[0];
     let at = value::place(values[1]);
     match row {
-        5 => puts::byte(value::small(n), room, at),
-        6 => puts::whole(n, room, at),
-        7 => json::truth(value::truth(n), room, at),
-        8 => json::signed(
+        6 => puts::byte(value::small(n), room, at),
+        7 => puts::whole(n, room, at),
+        8 => json::truth(value::truth(n), room, at),
+        9 => json::signed(
             value::signed32(n),
             decimals(values[1]),
             room,

@@ -134,6 +134,7 @@ pub the-table : map {B = List ℕ × List ℕ} (λ (f : Row). (f .name, f .refus
     ∷ (ascii "puts::byte", [])
     ∷ (ascii "puts::bytes", [])
     ∷ (ascii "puts::whole", [])
+    ∷ (ascii "puts::hex", [])
     ∷ (ascii "numbers::byte_values::write", 7 ∷ 5 ∷ 4 ∷ [])
     ∷ (ascii "numbers::byte_values::read", 7 ∷ 5 ∷ [])
     ∷ (ascii "numbers::panel::of", 5 ∷ [])

@@ -6,12 +6,10 @@ use numbers::text;
 use puts::Written;
 ghost use mathlib.Core.Path.{_≡_};
 ghost use mathlib.Core.List.{_++_};
-ghost use Prim.Native.Nat.{_+_, _*_, _≤_};
+ghost use Prim.Native.Nat.{_≤_};
 ghost use lib.IntN.{pos};
-ghost use lib.ListN.{length};
-ghost use lib.Seq.{sets};
 ghost use Rattle.digits.specs.Paper.Ascii.{ascii};
-ghost use Rattle.digits.specs.Paper.Hex.{hexByte, hexBytes};
+ghost use Rattle.digits.specs.Paper.Hex.{hexByte};
 ghost use Rattle.numbers.specs.Paper.Raw.{Raw};
 ghost use Rattle.numbers.specs.Paper.Single.{fitsSingle};
 ghost use Rattle.numbers.specs.Paper.Text.{text};
@@ -31,51 +29,9 @@ pub enum Decimals {
 pub fn hex(s: &[u8], room: &mut [u8], at: usize) -> usize
     ensures { λ r. ⌜ Put (now (room .entry)) (now (room .exit)) at r (paper.hex (now (s .entry))) ⌝ }
 {
-    let from = puts::byte(b'"', room, at);
-    let end = hex_digits(s, room, from);
+    let first = puts::byte(b'"', room, at);
+    let end = puts::hex(s, room, first);
     puts::byte(b'"', room, end)
-}
-
-// Puts two digits a byte. Where the room has room for all, none of them asks for the room's end.
-fn hex_digits(s: &[u8], room: &mut [u8], at: usize) -> usize
-    ensures { λ r. ⌜ Put (now (room .entry)) (now (room .exit)) at r (hexBytes (now (s .entry))) ⌝ }
-{
-    let n = s.len();
-    if at < room.len() {
-        if n <= (room.len() - at) / 2 {
-            spell(s, room, at);
-            return at + 2 * n;
-        }
-    }
-    hex_clipped(s, room, at)
-}
-
-// Stores two digits a byte at a place of a room that has room for them there.
-fn spell(s: &[u8], room: &mut [u8], at: usize)
-    requires { ⌜ at + 2 * length (now s) ≤ length (now room) ⌝ }
-    ensures { λ _. ⌜ now (room .exit) ≡ sets (now (room .entry)) at (hexBytes (now (s .entry))) ⌝ }
-{
-    let mut i = 0;
-    while i < s.len() {
-        let pair = hex::two_digits(s[i]);
-        room[at + 2 * i] = pair[0];
-        room[at + 2 * i + 1] = pair[1];
-        i += 1;
-    }
-}
-
-// Puts two digits a byte, as far as the room goes.
-fn hex_clipped(s: &[u8], room: &mut [u8], at: usize) -> usize
-    ensures { λ r. ⌜ Put (now (room .entry)) (now (room .exit)) at r (hexBytes (now (s .entry))) ⌝ }
-{
-    let mut next = at;
-    let mut i = 0;
-    while i < s.len() {
-        let two = hex::two_digits(s[i]);
-        next = puts::bytes(&two, room, next);
-        i += 1;
-    }
-    next
 }
 
 // Puts a string, one character a byte.

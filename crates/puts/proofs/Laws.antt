@@ -2,3 +2,4 @@ pub mod Puts
 pub mod Wrote
 pub mod Right
 pub mod Sizes
+pub mod Spelt

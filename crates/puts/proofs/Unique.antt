@@ -11,7 +11,7 @@ use Rattle.puts.specs.declared.Written.{Written}
 use Rattle.puts.specs.declared.Written.the-variants.{Bytes, Refused}
 use Rattle.puts.proofs.Laws.Wrote.{one-outcome}
 
--- byte, bytes, whole
+-- byte, bytes, whole, hex
 pub one-put : {room s t bs : List ℕ} {at m n : ℕ} → Put room s at m bs → Put room t at n bs → (m ≡ n) × (s ≡ t)
 one-put p q = (p .behind ∙ sym (q .behind), p .holds ∙ sym (q .holds))
 

@@ -1,15 +1,17 @@
 // Writers into a lent room: each puts its bytes at a place of the room, as far as the room goes, and answers the place behind them.
 // So no writer asks anything of the room, and the same writer measures, in a room too short, and writes.
 use digits::decimal;
+use digits::hex;
 use digits::refusal::Refusal;
 ghost use mathlib.Core.Path.{_≡_};
 ghost use mathlib.Core.Bool.{cond};
 ghost use mathlib.Core.List.{[], _∷_};
 ghost use lib.Dec.{leb};
-ghost use Prim.Native.Nat.{_+_, _≤_};
+ghost use Prim.Native.Nat.{_+_, _*_, _≤_};
 ghost use lib.ListN.{length};
 ghost use lib.Seq.{sets};
 ghost use Rattle.digits.specs.Paper.Decimal.{decimal};
+ghost use Rattle.digits.specs.Paper.Hex.{hexBytes};
 ghost use Rattle.puts.specs.Paper.Put.{Put};
 ghost use Rattle.puts.specs.Paper.Wrote.{RoomCause, Writes};
 
@@ -102,4 +104,46 @@ pub fn whole(n: u64, room: &mut [u8], at: usize) -> usize
     let chars = d.chars;
     let from = d.from;
     clipped(&chars[from..20], room, at)
+}
+
+// Puts two hex digits for each byte of s. Where the room has room for all, none of them asks for the room's end.
+pub fn hex(s: &[u8], room: &mut [u8], at: usize) -> usize
+    ensures { λ r. ⌜ Put (now (room .entry)) (now (room .exit)) at r (hexBytes (now (s .entry))) ⌝ }
+{
+    let n = s.len();
+    if at < room.len() {
+        if n <= (room.len() - at) / 2 {
+            spell(s, room, at);
+            return at + 2 * n;
+        }
+    }
+    hex_clipped(s, room, at)
+}
+
+// Stores two digits a byte at a place of a room that has room for them there.
+fn spell(s: &[u8], room: &mut [u8], at: usize)
+    requires { ⌜ at + 2 * length (now s) ≤ length (now room) ⌝ }
+    ensures { λ _. ⌜ now (room .exit) ≡ sets (now (room .entry)) at (hexBytes (now (s .entry))) ⌝ }
+{
+    let mut i = 0;
+    while i < s.len() {
+        let pair = hex::two_digits(s[i]);
+        room[at + 2 * i] = pair[0];
+        room[at + 2 * i + 1] = pair[1];
+        i += 1;
+    }
+}
+
+// Puts two digits a byte, as far as the room goes.
+fn hex_clipped(s: &[u8], room: &mut [u8], at: usize) -> usize
+    ensures { λ r. ⌜ Put (now (room .entry)) (now (room .exit)) at r (hexBytes (now (s .entry))) ⌝ }
+{
+    let mut next = at;
+    let mut i = 0;
+    while i < s.len() {
+        let two = hex::two_digits(s[i]);
+        next = bytes(&two, room, next);
+        i += 1;
+    }
+    next
 }

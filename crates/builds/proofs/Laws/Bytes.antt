@@ -4,11 +4,10 @@ use mathlib.Core.Path.{_≡_, refl, sym, ap, _∙_, subst}
 use mathlib.Core.Bool.{true, false}
 use mathlib.Core.List.{List, [], _∷_, _++_, append-assoc}
 use Prim.Native.Nat.{ℕ, _+_, _*_, _≤_, _<_}
-use native.Mathlib.Numerals.{add-one}
 use native.Mathlib.Omega.{arith}
 use lib.Dec.{T}
-use lib.ListN.{length, take, getD, length-append}
-use lib.Seq.{take-suc, take-all}
+use lib.ListN.{length, getD, length-append}
+use lib.Seq.{take-all}
 use Rattle.digits.proofs.Laws.Hex.{length-hex, place-lt}
 use Rattle.digits.proofs.Laws.Parts.{part-front, take-ats}
 use Rattle.digits.proofs.Laws.Reads.{answered, refused}
@@ -25,7 +24,7 @@ use Rattle.digits.specs.declared.hex.Byte.the-variants.{Is, NoDigit}
 use Rattle.checks.proofs.Laws.Feed.{feed-append}
 use Rattle.checks.specs.Paper.Buses.{nikobusCrc16, nikobusCrc8, nestCrc, nibeXor, homiqCrc}
 use Rattle.checks.specs.Paper.Check.{Check, feed, check}
-use Rattle.layouts.proofs.Laws.HexDigits.{digit-place, digit-hex, no-hex, length-byte, length-word, hex-append}
+use Rattle.layouts.proofs.Laws.HexDigits.{digit-place, digit-hex, no-hex, length-byte, length-word}
 use Rattle.layouts.proofs.Laws.Nest.{nest-size}
 use Rattle.layouts.proofs.Laws.Nibe.{nibe-size}
 use Rattle.layouts.proofs.Laws.Nikobus.{link-size}
@@ -37,7 +36,7 @@ use Rattle.layouts.specs.Paper.Nest.{nestWith}
 use Rattle.layouts.specs.Paper.Nibe.{nibe}
 use Rattle.layouts.specs.Paper.Nikobus.{link, press, linkChecked, nikobus}
 use Rattle.puts.specs.Paper.Put.{Put}
-use Rattle.puts.proofs.Laws.Puts.{put-length, _then_, puts-as, front-count, front-bytes}
+use Rattle.puts.proofs.Laws.Puts.{put-length, front-count, front-bytes}
 use Rattle.builds.specs.Work.Homiq.{around}
 
 -- ---- Nikobus
@@ -58,18 +57,6 @@ module _ (p : List ℕ) where
 
   pub length-link : length p * 2 + 10 ≡ length (bytesOf nikobus (linkOf p))
   length-link = sym (link-size p (check nikobusCrc16 p) (check nikobusCrc8 (linkChecked p (check nikobusCrc16 p))))
-
--- no byte, in digits, and one byte more
-pub no-digits : [] ≡ hexBytes []
-unfolding hexBytes
-no-digits = refl
-
-pub digits-step : {r t u : List ℕ} {a b c : ℕ} (s : List ℕ) (i : ℕ) → i < length s
-    → Put r t a b (hexBytes (take i s)) → Put t u b c (hexByte (getD s i 0)) → Put r u a c (hexBytes (take (i + 1) s))
-unfolding hexBytes hexByte
-digits-step s i h p q =
-    let e : hexBytes (take i s ++ (getD s i 0 ∷ [])) ≡ hexBytes (take i s) ++ hexByte (getD s i 0) = hex-append (take i s) (getD s i 0 ∷ []) in
-    puts-as (sym (ap (λ (j : ℕ). hexBytes (take j s)) (add-one i) ∙ ap hexBytes (take-suc s i 0 h) ∙ e)) (p then q)
 
 -- ---- Nest
 

@@ -62,14 +62,26 @@ whole-kept = putting-kept (λ M. puts.whole.Met.met) (λ κs a r s p. p)
 pub whole-open : AcceptsAll whole
 whole-open = λ κs a. tt
 
+abbrev pub hex : Row
+hex =
+    putting (ascii "puts::hex") puts.hex.Kinds.ps puts.hex.Kinds.r puts.hex.Reads.Pre puts.hex.Reads.Post
+    puts.hex.Statement.statement (λ κs r. r) (λ κs s. s .1 .0 .now)
+
+pub hex-kept : Kept hex
+hex-kept = putting-kept (λ M. puts.hex.Met.met) (λ κs a r s p. p)
+
+pub hex-open : AcceptsAll hex
+hex-open = λ κs a. tt
+
 -- ---- all of them
 
 abbrev pub rows : List Row
-rows = front ∷ byte ∷ bytes ∷ whole ∷ []
+rows = front ∷ byte ∷ bytes ∷ whole ∷ hex ∷ []
 
 pub rows-kept : Every Proper rows
 rows-kept =
     also front-kept front-open
     (also byte-kept byte-open
     (also bytes-kept bytes-open
-    (also whole-kept whole-open none)))
+    (also whole-kept whole-open
+    (also hex-kept hex-open none))))

@@ -20,11 +20,10 @@ use Rattle.digits.specs.declared.refusal.Refusal.{Refusal}
 use Rattle.digits.specs.declared.refusal.Refusal.the-variants.{Limits as OutsideLimits}
 use Rattle.digits.proofs.Laws.Refusals.{some-number}
 use Rattle.digits.proofs.Laws.Bytes.{bytes-nil, bytes-cons, bytes-append}
-use Rattle.digits.proofs.Laws.Hex.{length-hex, digits-at, hex-inj}
+use Rattle.digits.proofs.Laws.Hex.{length-hex, hex-append, digits-at, hex-inj}
 use Rattle.digits.proofs.Laws.Parts.{part-front}
 use Rattle.digits.proofs.Laws.Reads.{answered, refused}
 use Rattle.digits.proofs.Laws.Tests.{told, untold}
-use Rattle.layouts.proofs.Laws.HexDigits.{hex-append}
 use Rattle.layouts.proofs.Laws.Made.{link-fit, press-said}
 use Rattle.layouts.specs.Paper.Layout.{bytesOf}
 use Rattle.layouts.specs.Paper.Made.{linkOf}

@@ -126,6 +126,11 @@ unfolding hexBytes hexByte
 length-hex [] = refl
 length-hex (b ∷ s) = let h : length (hexBytes s) ≡ length s * 2 = length-hex s in omega arith
 
+pub hex-append : (p q : List ℕ) → hexBytes (p ++ q) ≡ hexBytes p ++ hexBytes q
+unfolding hexBytes hexByte
+hex-append [] q = refl
+hex-append (b ∷ p) q = rw (hex-append p q)
+
 -- the digits of the byte at a place
 pub digits-at : (p : List ℕ) (i : ℕ) → i < length p → hexByte (getD p i 0) ≡ getD (hexBytes p) (i * 2) 0 ∷ getD (hexBytes p) (i * 2 + 1) 0 ∷ []
 unfolding hexBytes hexByte

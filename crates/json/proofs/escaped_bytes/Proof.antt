@@ -8,8 +8,9 @@ use lib.Seq.{take-all}
 use borrow.Author.Needs.{needs}
 use Rattle.puts.specs.Paper.Put.{Put}
 use Rattle.puts.proofs.Laws.Puts.{none, puts-as}
+use Rattle.puts.proofs.Laws.Spelt.{turn}
 use Rattle.json.specs.Paper.Json.{escaped, eachEscaped}
-use Rattle.json.proofs.Laws.Spelt.{escaped-last, turn}
+use Rattle.json.proofs.Laws.Spelt.{escaped-last}
 use Rattle.json.proofs.escaped_bytes.Statement.{statement}
 use Rattle.json.proofs.escaped_bytes.Tie as tie
 

@@ -8,8 +8,8 @@ use Rattle.json.proofs.hex.Tie as tie
 byte-requires : tie.Need-byte-requires
 byte-requires c κs = search needs
 
-hex-digits-requires : tie.Need-hex-digits-requires
-hex-digits-requires c κs = search needs
+hex-requires : tie.Need-hex-requires
+hex-requires c κs = search needs
 
 byte-requires-2 : tie.Need-byte-requires-2
 byte-requires-2 c κs = search needs
@@ -21,9 +21,9 @@ returns : tie.Need-returns
 returns c =
     let m = c .before .before .before .before .before .before in
     m .before .before .before .before .byte .ensures
-    then m .hex-digits .ensures
+    then m .hex .ensures
     then c .before .before .byte2 .ensures
 
 pub hex-spec : {M : Type 1} → statement M
 hex-spec =
-    tie.close (tie.spec byte-requires hex-digits-requires byte-requires-2 same-length returns)
+    tie.close (tie.spec byte-requires hex-requires byte-requires-2 same-length returns)

@@ -149,11 +149,6 @@ pair-read {high} {low} h l d e =
 
 -- ---- bytes
 
-pub hex-append : (p q : List ℕ) → hexBytes (p ++ q) ≡ hexBytes p ++ hexBytes q
-unfolding hexBytes hexByte
-hex-append [] q = refl
-hex-append (b ∷ p) q = rw (hex-append p q)
-
 pub bytes-hex : (p : List ℕ) → Bytes p → bytesOf (hexBytes p) ≡ p
 unfolding bytesOf hexBytes hexByte
 bytes-hex [] h = refl

@@ -11,7 +11,7 @@ use lib.ListN.{length, getD, take, drop, length-append, length-drop, take-append
 use lib.Seq.{take-all, take-at, drop-at, length-take-le}
 use borrow.Author.Tests.{eq-eqb, ne-eqb, le-leb, lt-ltb, ltb-true}
 use Rattle.digits.proofs.Laws.Bytes.{bytes-take, bytes-drop, bytes-append, bytes-cons, bytes-nil}
-use Rattle.digits.proofs.Laws.Hex.{length-hex, hex-inj, byte-inj, word-inj, word-of}
+use Rattle.digits.proofs.Laws.Hex.{length-hex, hex-append, hex-inj, byte-inj, word-inj, word-of}
 use Rattle.digits.proofs.Laws.Parts.{part-front, part-middle, take-ats}
 use Rattle.digits.proofs.Laws.Tests.{T-and, T-true}
 use Rattle.digits.specs.Paper.Ascii.{ascii}
@@ -27,7 +27,7 @@ use Rattle.layouts.specs.Work.Heads.{onlyIf, starts, wordLen, runLen, on
 use Rattle.layouts.specs.Work.Nikobus.{hexPair, digitsLen, llOf, linkHeadLen, linkFormLen, pressLen, tailLen, nikobusFormLen, passes16, passes8, linkLen, nikobusPasses, nikobusFrom, nikobusTo, bytesOf as bytesIn}
 use Rattle.layouts.proofs.Laws.Buses.{Bus, frame-right, leads-at, leads-none}
 use Rattle.layouts.proofs.Laws.Heads.{Head, Right, Then, Or, left, right, Run, join, glue, only-test, only-eq, only-yes, only-zero, starts-splits, starts-append, starts-same, same-starts, word-right, run-right, then-right, or-right, same-right, word-inside, run-inside, onward-inside, or-first, or-second, taken, inside}
-use Rattle.layouts.proofs.Laws.HexDigits.{digit-hex, length-byte, length-word, pair-byte, pair-lt, byte-pair, hex-append, bytes-hex, hex-all, hex-bytes, length-bytes, bytes-bytes}
+use Rattle.layouts.proofs.Laws.HexDigits.{digit-hex, length-byte, length-word, pair-byte, pair-lt, byte-pair, bytes-hex, hex-all, hex-bytes, length-bytes, bytes-bytes}
 
 -- ---- `$`, LL
 

@@ -15,7 +15,7 @@ use Rattle.builds.proofs.nikobus.put_link.Tie as tie
 checked : (c : tie.After-bytes2) → Put (c .before .before .before .before .before .before .before .before .before .before .before .before .before .before .before .before .before .before .before .before .before .args .room .now) (c .bytes2 .last .1 .0) 0 (c .bytes2 .result) (linkChecked (c .before .before .before .before .before .before .before .before .before .before .before .before .before .before .before .before .before .before .before .before .before .args .payload .now) (check nikobusCrc16 (c .before .before .before .before .before .before .before .before .before .before .before .before .before .before .before .before .before .before .before .before .before .args .payload .now)))
 checked c =
     puts-as (link-checked (c .before .before .before .before .before .before .before .before .before .before .before .before .before .before .before .before .before .before .before .before .before .args .payload .now) _ (c .before .before .before .before .before .before .before .before .before .before .before .before .before .before .before .before .before .before .two-digits .ensures) (c .before .before .before .before .before .before .before .before .before .before .before .before .before .before .before .before .before .of .ensures) (c .before .before .before .before .before .before .before .before .before .before .before .before .before .before .before .before .four-digits .ensures))
-    (((c .before .before .before .before .before .before .before .before .before .before .before .before .before .before .byte .ensures then c .before .before .before .before .before .before .before .before .before .bytes .ensures) then c .before .before .before .before .before .put-digits .ensures) then c .bytes2 .ensures)
+    (((c .before .before .before .before .before .before .before .before .before .before .before .before .before .before .byte .ensures then c .before .before .before .before .before .before .before .before .before .bytes .ensures) then c .before .before .before .before .before .hex .ensures) then c .bytes2 .ensures)
 
 mul-two-digits : tie.Need-mul-two-digits
 mul-two-digits c = search needs
@@ -44,8 +44,8 @@ slice-aggregate-bytes c = search needs
 bytes-requires : tie.Need-bytes-requires
 bytes-requires c κs = search needs
 
-put-digits-requires : tie.Need-put-digits-requires
-put-digits-requires c κs = search needs
+hex-requires : tie.Need-hex-requires
+hex-requires c κs = search needs
 
 slice-aggregate-bytes-2 : tie.Need-slice-aggregate-bytes-2
 slice-aggregate-bytes-2 c = search needs
@@ -99,7 +99,7 @@ put-link-spec =
     byte-requires
     slice-aggregate-bytes
     bytes-requires
-    put-digits-requires
+    hex-requires
     slice-aggregate-bytes-2
     bytes-requires-2
     sub-of

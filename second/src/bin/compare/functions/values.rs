@@ -147,6 +147,7 @@ pub fn puts() -> Vec<Function> {
         function("puts::whole", 3, &["ok"], |r| {
             words([number(64, r), room(), at()])
         }),
+        function("puts::hex", 3, &["ok"], |r| words([bytes(r), room(), at()])),
     ]
 }
 

@@ -1,10 +1,10 @@
--- `json::hex_digits` meets its contract: all at once where the room has room for them.
+-- `puts::hex` meets its contract: all at once where the room has room for them.
 -- Assumes nothing.
 use native.Mathlib.Omega.{arith}
 use borrow.Author.Needs.{needs}
-use Rattle.json.proofs.Laws.Spelt.{put-hex}
-use Rattle.json.proofs.hex_digits.Statement.{statement}
-use Rattle.json.proofs.hex_digits.Tie as tie
+use Rattle.puts.proofs.Laws.Spelt.{put-hex}
+use Rattle.puts.proofs.hex.Statement.{statement}
+use Rattle.puts.proofs.hex.Tie as tie
 
 sub-if2 : tie.Need-sub-if2
 sub-if2 c = search needs
@@ -36,8 +36,8 @@ same-length-2 c = search needs
 returns-2 : tie.Need-returns-2
 returns-2 c = search needs
 
-pub hex-digits-spec : {M : Type 1} → statement M
-hex-digits-spec =
+pub hex-spec : {M : Type 1} → statement M
+hex-spec =
     tie.close
     (tie.spec
     sub-if2

@@ -1,4 +1,4 @@
--- `json::spell` meets its contract. The loop's invariant: what is left, stored from here on, makes the whole.
+-- `puts::spell` meets its contract. The loop's invariant: what is left, stored from here on, makes the whole.
 -- Assumes nothing.
 use mathlib.Core.Path.{_≡_, refl, sym, ap, _∙_}
 use mathlib.Core.List.{List, []}
@@ -8,9 +8,9 @@ use lib.ListN.{length, drop, length-set}
 use lib.Seq.{sets, drop-length}
 use borrow.Author.Needs.{needs}
 use Rattle.digits.specs.Paper.Hex.{hexBytes}
-use Rattle.json.proofs.Laws.Spelt.{two-stored}
-use Rattle.json.proofs.spell.Statement.{statement}
-use Rattle.json.proofs.spell.Tie as tie
+use Rattle.puts.proofs.Laws.Spelt.{two-stored}
+use Rattle.puts.proofs.spell.Statement.{statement}
+use Rattle.puts.proofs.spell.Tie as tie
 
 abbrev Inv-loop : tie.InvT-loop
 Inv-loop s room₀ at i₀ room i = (i ≤ length s) × (length room ≡ length room₀) × (sets room (at + 2 * i) (hexBytes (drop i s)) ≡ sets room₀ at (hexBytes s))
