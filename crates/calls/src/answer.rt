@@ -221,25 +221,20 @@ pub(crate) fn climate(c: Climate) -> Answer {
     said(26, single(c.temperature), of_word(26), single(c.humidity))
 }
 
-// The negative zero shows too, as `-0`.
+// A double holds every single.
 fn single(x: f32) -> Field {
-    if 1.0 / x < 0.0 {
-        return Field {
-            kind: 2,
-            value: float::of_single(-x),
-        };
-    }
-    plain(float::of_single(x))
+    double(std::num::f32_to_f64_with_nan(x))
 }
 
+// The negative zero shows too, as `-0`.
 fn double(x: f64) -> Field {
     if 1.0 / x < 0.0 {
         return Field {
             kind: 2,
-            value: float::of_double(-x),
+            value: float::whole(-x),
         };
     }
-    plain(float::of_double(x))
+    plain(float::whole(x))
 }
 
 pub(crate) fn refused(why: Refusal) -> Answer {

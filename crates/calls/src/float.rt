@@ -1,15 +1,15 @@
-// The whole numbers that floats are. (A cast from a float asks for a proof of what it is; these ask for none.)
+// The whole numbers that floats are. (A cast from a float asks for a proof of what it is; this asks for none.)
 
-// The whole number that a single from 0 on is, by its 33 binary digits, the highest first; the largest of 64 bits where it is none of so
+// The whole number that a float from 0 on is, by its 33 binary digits, the highest first; the largest of 64 bits where it is none of so
 // many.
-pub(crate) fn of_single(x: f32) -> u64 {
+pub(crate) fn whole(x: f64) -> u64 {
     let mut n: u64 = 0;
     let mut rest = x;
     let mut weight = 4294967296.0;
     let mut i = 0usize;
     while i < 33 {
         n = with_digit(n, weight <= rest);
-        rest = less_single(rest, weight);
+        rest = less(rest, weight);
         weight = weight / 2.0;
         i += 1;
     }
@@ -19,29 +19,7 @@ pub(crate) fn of_single(x: f32) -> u64 {
     u64::MAX
 }
 
-fn less_single(x: f32, weight: f32) -> f32 {
-    if weight <= x { x - weight } else { x }
-}
-
-// The same of a double.
-pub(crate) fn of_double(x: f64) -> u64 {
-    let mut n: u64 = 0;
-    let mut rest = x;
-    let mut weight = 4294967296.0;
-    let mut i = 0usize;
-    while i < 33 {
-        n = with_digit(n, weight <= rest);
-        rest = less_double(rest, weight);
-        weight = weight / 2.0;
-        i += 1;
-    }
-    if rest == 0.0 {
-        return n;
-    }
-    u64::MAX
-}
-
-fn less_double(x: f64, weight: f64) -> f64 {
+fn less(x: f64, weight: f64) -> f64 {
     if weight <= x { x - weight } else { x }
 }
 
