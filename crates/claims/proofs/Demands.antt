@@ -25,10 +25,11 @@ use Rattle.frames.specs.declared.Found.the-variants.{At, Refused}
 use Rattle.frames.proofs.Demand.{nikobus-links, nest-commands, nest-responses, nibe-frames, homiq-frames}
 use Rattle.frames.proofs.Laws.Kinds.{frame-known}
 use Rattle.frames.proofs.Laws.Runs as runs
-use Rattle.messages.specs.Paper.Answers.{DecodeCause, no-kind as unknown, no-message, Said, Decodes, is, refused}
+use Rattle.messages.specs.Paper.Answers.{DecodeCause, no-kind as unknown, no-message, Said, Decodes}
 use Rattle.messages.specs.declared.Decoded.{Decoded}
 use Rattle.messages.specs.declared.Decoded.the-variants.{Is, Refused as NoMessage}
 use Rattle.messages.specs.declared.Message.{Message as Coded}
+use Rattle.messages.proofs.Laws.Cases.{said-in}
 use Rattle.messages.proofs.Laws.Decode.{is-frame}
 use Rattle.messages.proofs.Theorems.{has-message, one-message-of}
 use Rattle.commands.proofs.Theorems.{same-bytes, same-message}
@@ -210,8 +211,8 @@ searched {k} {place} {s} kind inside (Refused why) a = of (refusalNumber why) (c
 
 -- a frame is never refused by the decoder
 decoded : {k : ℕ} {f : List ℕ} → Frame k f → (r : Decoded) → Decodes k f r → (e : Coded) × (from : ℕ) × (to : ℕ) × (r ≡ Is e from to) × Said k f e from to
-decoded h (Is e from to) (is c said) = (e, from, to, refl, said)
-decoded {k} {f} h (NoMessage why) (refused c) = absurd (never (cause-at c (some-number why)))
+decoded h (Is e from to) a = (e, from, to, refl, said-in a)
+decoded {k} {f} h (NoMessage why) a = absurd (never (cause-at (cause-of a) (some-number why)))
   where
     never : {n : ℕ} → DecodeCause k f n → ⊥
     never (unknown e) = true≢false (sym (frame-known h) ∙ e)

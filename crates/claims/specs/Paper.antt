@@ -1,6 +1,5 @@
 pub mod Causes
 pub mod Demands
-pub mod Enums
 pub mod Forms
 pub mod Points
 pub mod Row

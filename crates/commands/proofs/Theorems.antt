@@ -7,7 +7,7 @@ use native.Mathlib.Omega.{arith}
 use lib.ListN.{length, drop}
 use Rattle.digits.specs.Paper.Bytes.{part}
 use Rattle.digits.specs.Paper.LowFirst.{Width}
-use Rattle.digits.proofs.Laws.Refusals.{cause-at, some-number}
+use Rattle.digits.proofs.Laws.Refusals.{cause-at, cause-of, some-number}
 use Rattle.puts.specs.declared.Written.{Written}
 use Rattle.puts.specs.Paper.Wrote.{writtenRefusal, writtenCount}
 use Rattle.puts.specs.Paper.Right.{WroteRight, wrote, refused}
@@ -15,7 +15,7 @@ use Rattle.layouts.specs.Paper.Chars.{oneOf}
 use Rattle.layouts.specs.Paper.Made.{Wire, homiqOf}
 use Rattle.layouts.proofs.Laws.Made.{homiq-fit}
 use Rattle.frames.specs.Paper.Kinds.{known}
-use Rattle.messages.specs.Paper.Answers.{Stands, Said, Decodes, is}
+use Rattle.messages.specs.Paper.Answers.{Stands, Said, Decodes}
 use Rattle.messages.specs.Paper.Answers as decodes
 use Rattle.messages.specs.Paper.Fields.{onHomiq, kindOf, payloadIn}
 use Rattle.messages.specs.Paper.Message.{Message}
@@ -26,6 +26,7 @@ use Rattle.messages.specs.Work.Look.{look}
 use Rattle.messages.specs.declared.Decoded.{Decoded}
 use Rattle.messages.specs.declared.Decoded.the-variants.{Is, Refused}
 use Rattle.messages.specs.declared.Message.{Message as Coded}
+use Rattle.messages.proofs.Laws.Cases.{said-in}
 use Rattle.messages.proofs.Laws.Decode.{stands}
 use Rattle.messages.proofs.Laws.Says.{one-said, one-case}
 use Rattle.messages.proofs.Theorems.{one-message-of, beside}
@@ -73,7 +74,8 @@ same-bytes {k} {f} {e} {from} {to} said room later r h w =
 -- AN ENCODED MESSAGE DECODES TO ITSELF: the decoder answers the case that was encoded, and its message is the one
 pub same-message : {k : ℕ} (e : Coded) (s : List ℕ) (m : Message) → Good m → kindOf (fields m) ≡ k → Says e s m → (r : Decoded) → Decodes k (bytes m) r
     → (from : ℕ) × (to : ℕ) × (r ≡ Is e from to) × (said : Said k (bytes m) e from to) × (said .message ≡ m)
-same-message {k} e s m g kind says (Is d from to) (is c said) =
+same-message {k} e s m g kind says (Is d from to) a =
+    let said = said-in a in
     let n = said .message in
     let t : Stands k (bytes m) m = record { good = g; kind = kind; frame = refl } in
     let q : n ≡ m = one-message-of n m (said .stands) t in
@@ -86,7 +88,7 @@ same-message {k} e s m g kind says (Is d from to) (is c said) =
       to-is = said .to-is;
     } in
     (from, to, ap (λ (x : Coded). Is x from to) same, back, q)
-same-message e s m g kind says (Refused why) (decodes.refused c) = absurd (never-refused m (g .limits) kind refl (cause-at c (some-number why)))
+same-message e s m g kind says (Refused why) a = absurd (never-refused m (g .limits) kind refl (cause-at (cause-of a) (some-number why)))
 
 -- ---- THE ACKNOWLEDGEMENT of a frame
 

@@ -18,4 +18,5 @@ pub mod Links
 pub mod Responses
 pub mod NestUnique
 pub mod HomiqLook
+pub mod Cases
 pub mod Find

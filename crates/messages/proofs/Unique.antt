@@ -5,11 +5,11 @@ use mathlib.Core.List.{List}
 use Prim.Native.Nat.{ℕ, _+_, _-_}
 use native.Mathlib.Omega.{arith}
 use Rattle.digits.specs.Paper.Bytes.{part}
-use Rattle.digits.proofs.Laws.Refusals.{one-refusal, some-number, one-first, one-answer}
+use Rattle.digits.proofs.Laws.Refusals.{one-refusal, some-number, one-first, cause-of, one-answer}
 use Rattle.frames.specs.declared.Found.{Found}
 use Rattle.frames.specs.declared.Found.the-variants.{At as Hit, Refused as NoHit}
 use Rattle.frames.proofs.Unique.{searched-one, hit-or-none}
-use Rattle.messages.specs.Paper.Answers.{Stands, Said, Decodes, is, refused, Contents, Finds, at, none}
+use Rattle.messages.specs.Paper.Answers.{Stands, Said, Decodes, Contents, Finds}
 use Rattle.messages.specs.Paper.Fields.{payloadIn, payloadFrom, payloadTo}
 use Rattle.messages.specs.Paper.Message.{Message}
 use Rattle.messages.specs.Paper.Says.{Says}
@@ -25,6 +25,7 @@ use Rattle.messages.specs.Paper.Panel.{ShowsPair, ReadsVolts}
 use Rattle.messages.specs.declared.nest.Pair.{Pair}
 use Rattle.messages.specs.declared.nest.Response.{Response}
 use Rattle.messages.specs.declared.nest.Volts.{Volts}
+use Rattle.messages.proofs.Laws.Cases.{said-in, search-in, found-in, search-refused}
 use Rattle.messages.proofs.Laws.NestUnique.{one-pair, one-volts}
 use Rattle.messages.proofs.Laws.Says.{one-case}
 use Rattle.messages.proofs.Theorems.{one-message-of}
@@ -44,10 +45,10 @@ one-is {k} {f} {d} {e} {a} {b} {x} {y} s t =
     ap (λ (i : Coded). Is i a b) (one-coded s t) ∙ ap (λ (i : ℕ). Is e i b) p ∙ ap (Is e x) q
 
 pub decode : (k : ℕ) (f : List ℕ) (r q : Decoded) → Decodes k f r → Decodes k f q → r ≡ q
-decode k f (Is d a b) (Is e x y) (is c s) (is g t) = one-is s t
-decode k f (Is d a b) (Refused why) (is c s) (refused g) = let e = one-first c g in absurd (omega (arith, some-number why))
-decode k f (Refused why) (Is e x y) (refused c) (is g t) = let e = one-first c g in absurd (omega (arith, some-number why))
-decode k f (Refused why) (Refused other) (refused c) (refused g) = ap Refused (one-refusal why other (one-first c g))
+decode k f (Is d a b) (Is e x y) s t = one-is (said-in s) (said-in t)
+decode k f (Is d a b) (Refused why) s t = let e = one-first (cause-of s) (cause-of t) in absurd (omega (arith, some-number why))
+decode k f (Refused why) (Is e x y) s t = let e = one-first (cause-of s) (cause-of t) in absurd (omega (arith, some-number why))
+decode k f (Refused why) (Refused other) s t = ap Refused (one-refusal why other (one-first (cause-of s) (cause-of t)))
 
 -- message_in
 pub message-in : (k : ℕ) (f : List ℕ) (from to : ℕ) (r q : Coded) → Said k f r from to → Said k f q from to → r ≡ q
@@ -63,12 +64,12 @@ SaidOf k s e (Hit start len from to) = Said k (part start (start + len) s) e (fr
 SaidOf k s e (NoHit why) = Unit
 
 pub find : (k : ℕ) (s : List ℕ) (place : ℕ) (r q : Seen) → Finds k s place r → Finds k s place q → r ≡ q
-find k s place (At a b c d e) (At v w x y z) (at f g) (at h i) =
-    let one : Hit a b c d ≡ Hit v w x y = searched-one (Hit a b c d) (Hit v w x y) f h in
-    ap (with e) one ∙ ap (At v w x y) (one-coded (subst (SaidOf k s e) one g) i)
-find k s place (At a b c d e) (Unseen why) (at f g) (none h) = absurd (hit-or-none (searched-one (Hit a b c d) (NoHit why) f h))
-find k s place (Unseen why) (At a b c d e) (none f) (at g h) = absurd (hit-or-none (searched-one (Hit a b c d) (NoHit why) g f))
-find k s place (Unseen why) (Unseen other) (none f) (none g) = ap (with (Command 0)) (searched-one (NoHit why) (NoHit other) f g)
+find k s place (At a b c d e) (At v w x y z) f g =
+    let one : Hit a b c d ≡ Hit v w x y = searched-one (Hit a b c d) (Hit v w x y) (search-in f) (search-in g) in
+    ap (with e) one ∙ ap (At v w x y) (one-coded (subst (SaidOf k s e) one (found-in f)) (found-in g))
+find k s place (At a b c d e) (Unseen why) f g = absurd (hit-or-none (searched-one (Hit a b c d) (NoHit why) (search-in f) (search-refused why g)))
+find k s place (Unseen why) (At a b c d e) f g = absurd (hit-or-none (searched-one (Hit a b c d) (NoHit why) (search-in g) (search-refused why f)))
+find k s place (Unseen why) (Unseen other) f g = ap (with (Command 0)) (searched-one (NoHit why) (NoHit other) (search-refused why f) (search-refused other g))
 
 -- content
 one-part : {k : ℕ} {f : List ℕ} (p q : List ℕ) → ((m : Message) × (Stands k f m) × (p ≡ payloadIn (fields m))) → ((m : Message) × (Stands k f m) × (q ≡ payloadIn (fields m))) → p ≡ q

@@ -1,19 +1,17 @@
 -- The public functions of `lines`, but for `tested`, which asks something of its caller.
 -- Assumes nothing.
 use mathlib.Core.List.{List, [], _∷_}
-use mathlib.Core.Path.{refl}
+use mathlib.Core.Path.{refl, ap}
 use Prim.Native.Nat.{ℕ}
 use lib.ListN.{length}
-use native.Mathlib.Omega.{arith}
 use Rattle.digits.specs.Paper.Ascii.{ascii}
-use Rattle.digits.specs.Paper.Refusals.{refusalNumber, order, First}
-use Rattle.digits.proofs.Laws.Refusals.{cause-of}
+use Rattle.digits.specs.Paper.Refusals.{order, First}
+use Rattle.digits.proofs.Laws.Refusals.{cause-of, refused-zeros}
 use Rattle.frames.specs.Paper.Search.{SearchCause}
-use Rattle.lines.specs.Paper.Answers.{LineCause, PutsNext}
+use Rattle.lines.specs.Paper.Answers.{LineCause, listedNumber, listedPlaced, zeroPlaced, PutsNext}
 use Rattle.lines.specs.declared.Listed.{Listed}
 use Rattle.lines.proofs as lines
 use Rattle.lines.proofs.Unique as unique
-use Rattle.claims.specs.Paper.Enums.{listedNumber, listedValue, zeroListed}
 use Rattle.claims.specs.Paper.Forms.{writing}
 use Rattle.claims.specs.Paper.Row.{Row, Kept, AcceptsAll, Proper, Every, none, OneOf, here, there, tellsBeside}
 use Rattle.claims.proofs.Laws.Kept.{writing-right-kept, both, also}
@@ -58,21 +56,20 @@ next =
       Cause = λ κs a. SearchCause (a .0) (a .1 .0 .now) (a .1 .1 .0);
       Outcome = Listed × List ℕ;
       outcome = λ κs r s. (r, s .1 .1 .1 .0 .now);
-      Tells = λ κs a. tellsBeside listedNumber listedValue zeroListed (a .1 .1 .1 .0 .now);
+      Tells = λ κs a. tellsBeside listedNumber listedPlaced zeroPlaced (a .1 .1 .1 .0 .now);
     }
 
-told : {k : ℕ} {s : List ℕ} {place : ℕ} {room : List ℕ} {to : ℕ} {r : Listed} {later : List ℕ} → PutsNext k s place room to r later
-    → (no : ℕ) × (First (SearchCause k s place) order no × tellsBeside listedNumber listedValue zeroListed room (r, later) no)
-told (PutsNext.line-of f l p) = (0, (cause-of f, ((refl, λ h. absurd (omega (arith, h))), λ h. absurd (omega (arith, h)))))
-told (PutsNext.none {why = why} f) = (refusalNumber why, (cause-of f, ((refl, λ h. refl), λ h. refl)))
+told : {k : ℕ} {s : List ℕ} {place : ℕ} {room : List ℕ} {to : ℕ} (r : Listed) {later : List ℕ} → PutsNext k s place room to r later
+    → (no : ℕ) × (First (SearchCause k s place) order no × tellsBeside listedNumber listedPlaced zeroPlaced room (r, later) no)
+told r a = (listedNumber r, (cause-of a, ((refl, λ h. ap (λ v. v .0) (refused-zeros a h)), λ h. ap (λ v. v .1) (refused-zeros a h))))
 
 pub next-kept : Kept next
 next-kept =
     record {
       ends = lines.next.Met.met;
-      told = λ κs a r s p. told p;
+      told = λ κs a r s p. told r p;
       stated = λ κs a no c. search-stated c;
-      one = λ κs a r q s t x y. both (unique.next (a .0) (a .1 .0 .now) (a .1 .1 .0) (a .1 .1 .1 .0 .now) (a .1 .1 .1 .1 .0) x y);
+      one = λ κs a r q s t x y. both (unique.next (a .0) (a .1 .0 .now) (a .1 .1 .0) (a .1 .1 .1 .0 .now) (a .1 .1 .1 .1 .0) r q x y);
     }
 
 pub next-open : AcceptsAll next

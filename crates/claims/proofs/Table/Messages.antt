@@ -1,24 +1,14 @@
 -- The public functions of `messages`, but for `message_in`, which asks something of its caller.
 -- Assumes nothing.
 use mathlib.Core.List.{List, [], _∷_}
-use mathlib.Core.Option.{Option, some}
-use mathlib.Core.Path.{_≡_, refl}
-use Prim.Native.Nat.{ℕ, _+_, _-_}
+use Prim.Native.Nat.{ℕ}
 use Rattle.digits.specs.Paper.Ascii.{ascii}
-use Rattle.digits.specs.Paper.Bytes.{part}
-use Rattle.digits.specs.Paper.Refusals.{Answers, answers, refuses}
-use Rattle.digits.proofs.Laws.Refusals.{some-number, answered, cause-of}
-use Rattle.frames.specs.Paper.Search.{Hit, SearchCause, Leftmost}
-use Rattle.frames.specs.Paper.Whole.{Ends}
-use Rattle.messages.specs.Paper.Answers.{DecodeCause, Said, Decodes, Finds}
+use Rattle.frames.specs.Paper.Search.{SearchCause}
+use Rattle.messages.specs.Paper.Answers.{DecodeCause, decodedNumber, decodedValue, zeroDecoded, seenNumber, seenValue, zeroSeen}
 use Rattle.messages.specs.Paper.Panel.{PairCause, pairNumber, pairValue, zeroCounts, VoltsCause, voltsNumber, voltsValue, zeroVolts}
-use Rattle.messages.specs.declared.Decoded.{Decoded}
-use Rattle.messages.specs.declared.Message.{Message}
-use Rattle.messages.specs.declared.Seen.{Seen}
 use Rattle.messages.specs.declared.nest.Response.{Response}
 use Rattle.messages.proofs as messages
 use Rattle.messages.proofs.Unique as unique
-use Rattle.claims.specs.Paper.Enums.{decodedNumber, decodedValue, zeroDecoded, seenNumber, seenValue, zeroSeen}
 use Rattle.claims.specs.Paper.Forms.{answering, refusing, handing}
 use Rattle.claims.specs.Paper.Row.{Row, Kept, AcceptsAll, Proper, Every, none, OneOf, here, there}
 use Rattle.claims.proofs.Laws.Kept.{answering-kept, refusing-kept, handing-kept, also}
@@ -30,15 +20,6 @@ decode-stated : {k : ℕ} {f : List ℕ} {no : ℕ} → DecodeCause k f no → O
 decode-stated (DecodeCause.no-kind e) = here
 decode-stated (DecodeCause.no-message f) = there here
 
--- the right value: the message, and the places of what stands beside it
-abbrev DecodedTo : ℕ → List ℕ → Option Message × Ends → Type 0
-DecodedTo k f v = (e : Message) × (v .0 ≡ some e) × (Said k f e (v .1 .from) (v .1 .to))
-
-decoded : {k : ℕ} {f : List ℕ} {r : Decoded} → Decodes k f r
-    → Answers zeroDecoded (DecodeCause k f) (DecodedTo k f) (decodedNumber r) (decodedValue r)
-decoded (Decodes.is {e = e} c s) = answers c (e, refl, s)
-decoded (Decodes.refused {why = why} c) = refuses (some-number why) c
-
 abbrev pub decode : Row
 decode =
     refusing (ascii "messages::decode") messages.decode.Kinds.ps messages.decode.Kinds.r messages.decode.Reads.Pre
@@ -48,7 +29,7 @@ decode =
 pub decode-kept : Kept decode
 decode-kept =
     refusing-kept (λ M. messages.decode.Met.met) (λ κs a r q s t x y. unique.decode (a .0) (a .1 .0 .now) r q x y)
-    (λ κs a r s p. decoded p) (λ κs a no c. decode-stated c)
+    (λ κs a r s p. p) (λ κs a no c. decode-stated c)
 
 pub decode-open : AcceptsAll decode
 decode-open = λ κs a. tt
@@ -70,17 +51,6 @@ content-open = λ κs a. tt
 
 -- ---- find
 
--- the right value: what the search finds, and the message of that frame
-abbrev FoundAs : ℕ → List ℕ → ℕ → Option Message × Hit → Type 0
-FoundAs k s place v =
-    (e : Message) × (v .0 ≡ some e) × (Leftmost k s place (v .1))
-    × (Said k (part (v .1 .start) (v .1 .start + v .1 .len) s) e (v .1 .from - v .1 .start) (v .1 .to - v .1 .start))
-
-found : {k : ℕ} {s : List ℕ} {place : ℕ} {r : Seen} → Finds k s place r
-    → Answers zeroSeen (SearchCause k s place) (FoundAs k s place) (seenNumber r) (seenValue r)
-found (Finds.at {e = e} f g) = answers (cause-of f) (e, refl, answered f refl, g)
-found (Finds.none {why = why} f) = refuses (some-number why) (cause-of f)
-
 abbrev pub find : Row
 find =
     refusing (ascii "messages::find") messages.find.Kinds.ps messages.find.Kinds.r messages.find.Reads.Pre
@@ -90,7 +60,7 @@ find =
 pub find-kept : Kept find
 find-kept =
     refusing-kept (λ M. messages.find.Met.met) (λ κs a r q s t x y. unique.find (a .0) (a .1 .0 .now) (a .1 .1 .0) r q x y)
-    (λ κs a r s p. found p) (λ κs a no c. search-stated c)
+    (λ κs a r s p. p) (λ κs a no c. search-stated c)
 
 pub find-open : AcceptsAll find
 find-open = λ κs a. tt

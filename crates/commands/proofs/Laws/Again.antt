@@ -6,18 +6,20 @@ use mathlib.Core.List.{List}
 use mathlib.Core.Logic.{⊎-elim}
 use Prim.Native.Nat.{ℕ, _≤_, _<_}
 use native.Mathlib.Omega.{arith}
-use Rattle.digits.proofs.Laws.Refusals.{cause-at, some-number}
+use Rattle.digits.proofs.Laws.Refusals.{cause-at, cause-of, some-number}
 use Rattle.layouts.specs.Paper.Made.{Wire}
 use Rattle.frames.specs.Paper.Kinds.{Frame, known}
-use Rattle.messages.specs.Paper.Answers.{Stands, DecodeCause, no-kind, no-message, Decodes, is, refused}
+use Rattle.messages.specs.Paper.Answers.{Stands, DecodeCause, no-kind, no-message, Decodes}
 use Rattle.messages.specs.Paper.Fields.{Fields, onNikobus, asCommand, asResponse, onNibe, onHomiq, kindOf}
 use Rattle.messages.specs.Paper.Message.{Message, row}
 use Rattle.messages.specs.Paper.Says.{ofHomiq, Says}
 use Rattle.messages.specs.Paper.Table.{fields, bytes, Limits, Above}
 use Rattle.messages.specs.Work.Look.{look}
 use Rattle.messages.specs.declared.Decoded.{Decoded}
+use Rattle.messages.specs.declared.Decoded.the-variants.{Is, Refused}
 use Rattle.messages.specs.declared.Message.{Message as Coded}
 use Rattle.messages.specs.declared.homiq.Homiq.{Homiq}
+use Rattle.messages.proofs.Laws.Cases.{said-in}
 use Rattle.messages.proofs.Laws.Frames.{one-fields}
 use Rattle.messages.proofs.Laws.Says.{homiq-case, case-of}
 use Rattle.messages.proofs.Laws.Table.{found, fit, only}
@@ -73,23 +75,25 @@ module _ {k : ℕ} {whole : List ℕ} (m : Message) (l : Limits m) (kind : kindO
       ⊎-elim {C = n ≡ m} (λ (g : look (fields m) ≡ m). sym e ∙ g) (λ (g : row (look (fields m)) < row m). absurd (h (subst (λ (x : Message). row x < row m) e g)))
       (found m l)
 
-  pub is-above : {r : Decoded} → Decodes k whole r → rowOf r < row m → Above m
-  is-above (is {e = e} c s) h =
+  pub is-above : (r : Decoded) → Decodes k whole r → rowOf r < row m → Above m
+  is-above (Is e from to) d h =
+      let s = said-in d in
       above-of (s .message) (s .stands) (subst (λ (i : ℕ). i < row m) (sym (said-row e _ (s .message) (s .says))) h)
-  is-above (refused {why = why} c) h = absurd (never-refused (cause-at c (some-number why)))
+  is-above (Refused why) d h = absurd (never-refused (cause-at (cause-of d) (some-number why)))
 
-  pub is-free : {r : Decoded} → Decodes k whole r → (rowOf r < row m → ⊥) → Above m → ⊥
-  is-free (is {e = e} c s) h a =
+  pub is-free : (r : Decoded) → Decodes k whole r → (rowOf r < row m → ⊥) → Above m → ⊥
+  is-free (Is e from to) d h a =
+      let s = said-in d in
       let q = itself (s .message) (s .stands) (λ g. h (subst (λ (i : ℕ). i < row m) (said-row e _ (s .message) (s .says)) g)) in
       s .stands .good .free (subst Above (sym q) a)
-  is-free (refused {why = why} c) h a = never-refused (cause-at c (some-number why))
+  is-free (Refused why) d h a = never-refused (cause-at (cause-of d) (some-number why))
 
 -- ---- what is answered after reading it again
 
-module _ {k i n : ℕ} {whole room : List ℕ} {r : Decoded} (d : Decodes k whole r) (e : n ≡ rowOf r) where
+module _ {k i n : ℕ} {whole room : List ℕ} (r : Decoded) (d : Decodes k whole r) (e : n ≡ rowOf r) where
   pub refused-again : n < i → WritesFront k i whole room (NotWritten TakenAbove) room
-  refused-again h m l kind place same = has-above room m refl (the-only m) l (is-above m l kind same d (omega (arith, e, h, place)))
+  refused-again h m l kind place same = has-above room m refl (the-only m) l (is-above m l kind same r d (omega (arith, e, h, place)))
 
   pub written-again : {later : List ℕ} (q : Written) → i ≤ n → Writes (RoomCause (length room) (length whole)) whole room q later → WritesFront k i whole room q later
   written-again q h w m l kind place same =
-      fronted room m refl (the-only m) q l (is-free m l kind same d (λ g. omega (arith, e, h, place))) same w
+      fronted room m refl (the-only m) q l (is-free m l kind same r d (λ g. omega (arith, e, h, place))) same w

@@ -10,7 +10,7 @@ use lib.ListN.{length, getD}
 use Rattle.digits.specs.Paper.Bytes.{part}
 use Rattle.digits.specs.declared.refusal.Refusal.{Refusal}
 use Rattle.digits.specs.declared.refusal.Refusal.the-variants.{Limits as OutsideLimits, Above as TakenAbove}
-use Rattle.digits.proofs.Laws.Refusals.{cause-at, some-number}
+use Rattle.digits.proofs.Laws.Refusals.{cause-at, cause-of, some-number}
 use Rattle.puts.specs.Paper.Wrote.{RoomCause, Writes}
 use Rattle.puts.specs.declared.Written.{Written}
 use Rattle.puts.specs.declared.Written.the-variants.{Bytes, Refused}
@@ -21,7 +21,7 @@ use Rattle.builds.specs.Paper.Builds.{HomiqCause, HomiqBytes, BuildsHomiq}
 use Rattle.puts.specs.Paper.Right as wrotes
 use Rattle.puts.specs.Paper.Right.{WroteRight}
 use Rattle.builds.proofs.Laws.Homiq.{whole-frame, length-around, longest}
-use Rattle.messages.specs.Paper.Answers.{Stands, Decodes, is, refused}
+use Rattle.messages.specs.Paper.Answers.{Stands, Decodes}
 use Rattle.messages.specs.Paper.Fields.{onHomiq}
 use Rattle.messages.specs.Paper.Message.{Message, homiq, row}
 use Rattle.messages.specs.Paper.Says.{ofHomiq, SaysHomiq}
@@ -29,9 +29,11 @@ use Rattle.messages.specs.Paper.Table.{fields, bytes, Limits}
 use Rattle.messages.specs.Work.Homiq.{whichOf}
 use Rattle.messages.specs.Work.Look.{lookHomiq, look}
 use Rattle.messages.specs.declared.Decoded.{Decoded}
+use Rattle.messages.specs.declared.Decoded.the-variants.{Is, Refused as Undecoded}
 use Rattle.messages.specs.declared.Message.the-variants.{Homiq as OnHomiq}
 use Rattle.messages.specs.declared.homiq.Homiq.{Homiq}
 use Rattle.messages.specs.declared.homiq.Homiq.the-variants.{Output, Input, Shutter, Beat, Homiq as Rest}
+use Rattle.messages.proofs.Laws.Cases.{said-in}
 use Rattle.messages.proofs.Laws.Decode.{stands}
 use Rattle.messages.proofs.Laws.HomiqRows.{homiq-found}
 use Rattle.messages.proofs.Laws.HomiqTests.{output-which, input-which, shutter-which, beat-which}
@@ -89,12 +91,13 @@ module _ {p whole : List ℕ} (h : HomiqBytes p whole) where
   same = h .bytes
 
   -- the row of what it is decoded to
-  found-row : {r : Decoded} → Decodes 5 whole r → rowOf r ≡ homiqRow which
+  found-row : (r : Decoded) → Decodes 5 whole r → rowOf r ≡ homiqRow which
   unfolding fields
-  found-row (is {e = e} c s) =
+  found-row (Is e from to) d =
+      let s = said-in d in
       sym (said-row e _ (s .message) (s .says)) ∙ ap row (one-message-of (s .message) (lookHomiq w) (s .stands) standing)
       ∙ homiq-row which w
-  found-row (refused {why = why} c) = absurd (never-refused (homiq w) within refl same (cause-at c (some-number why)))
+  found-row (Undecoded why) d = absurd (never-refused (homiq w) within refl same (cause-at (cause-of d) (some-number why)))
 
   -- the one message that is said
   meant : (e : Homiq) → SaysHomiq e p (ofHomiq e w)
@@ -103,19 +106,19 @@ module _ {p whole : List ℕ} (h : HomiqBytes p whole) where
   one : (e : Homiq) (q : Message) → SaysHomiq e p q → q ≡ ofHomiq e w
   one e q s = one-said (OnHomiq e) p q (ofHomiq e w) s (meant e)
 
-  module _ {r : Decoded} (d : Decodes 5 whole r) {own found : ℕ} (e : Homiq) (its : own ≡ homiqRow e) (read : found ≡ rowOf r) where
+  module _ (r : Decoded) (d : Decodes 5 whole r) {own found : ℕ} (e : Homiq) (its : own ≡ homiqRow e) (read : found ≡ rowOf r) where
     -- its own row is found
     pub said-written : {room later : List ℕ} (q : Written) → found ≡ own → Writes (RoomCause (length room) (length whole)) whole room q later
         → WritesMessage (SaysHomiq e p) room q later
     said-written {room} {later} q g v =
-        subst (λ (x : Homiq). WritesMessage (SaysHomiq x p) room q later) (one-row which e (sym (found-row d) ∙ sym read ∙ g ∙ its))
+        subst (λ (x : Homiq). WritesMessage (SaysHomiq x p) room q later) (one-row which e (sym (found-row r d) ∙ sym read ∙ g ∙ its))
         (fronted room (lookHomiq w) (meant which) (one which) q (standing .good .limits) (standing .good .free) (sym (standing .frame)) v)
 
     -- another is found for the last
     lower : own ≡ 23 → (found ≡ own → ⊥) → row (lookHomiq w) < 23
     unfolding look fields
     lower g n =
-        ⊎-elim {C = row (lookHomiq w) < 23} (λ (q : lookHomiq w ≡ homiq w). absurd (n (read ∙ found-row d ∙ sym (homiq-row which w) ∙ ap row q ∙ sym g))) (λ (q : row (lookHomiq w) < 23). q)
+        ⊎-elim {C = row (lookHomiq w) < 23} (λ (q : lookHomiq w ≡ homiq w). absurd (n (read ∙ found-row r d ∙ sym (homiq-row which w) ∙ ap row q ∙ sym g))) (λ (q : row (lookHomiq w) < 23). q)
         (homiq-found w within)
 
     pub said-above : (room : List ℕ) → own ≡ 23 → (found ≡ own → ⊥) → WritesMessage (SaysHomiq e p) room (Refused TakenAbove) room
@@ -128,7 +131,7 @@ module _ {p whole : List ℕ} (h : HomiqBytes p whole) where
     pub said-outside : (room : List ℕ) → (own ≡ 23 → ⊥) → (found ≡ own → ⊥) → WritesMessage (SaysHomiq e p) room (Refused OutsideLimits) room
     said-outside room g n =
         not-within room (ofHomiq e w) (meant e) (one e)
-        (λ l. n (read ∙ found-row d ∙ ap homiqRow (which-is e w (λ x. g (its ∙ ap homiqRow x)) l) ∙ sym its))
+        (λ l. n (read ∙ found-row r d ∙ ap homiqRow (which-is e w (λ x. g (its ∙ ap homiqRow x)) l) ∙ sym its))
 
 -- ---- it is built aside
 

@@ -103,6 +103,11 @@ module _ {A : Type 0} {zeros : A} {Cause : ℕ → Type 0} {Right : A → Type 0
   cause-of (answers f r) = f
   cause-of (refuses p f) = f
 
+  -- and its value is zeros
+  pub refused-zeros : {k : ℕ} {v : A} → Answers zeros Cause Right k v → 0 < k → v ≡ zeros
+  refused-zeros (answers f r) h = absurd (omega arith)
+  refused-zeros (refuses p f) h = refl
+
   -- where only one value is right, two answers are the same
   pub one-answer : ((u v : A) → Right u → Right v → u ≡ v)
       → {j k : ℕ} {u v : A} → Answers zeros Cause Right j u → Answers zeros Cause Right k v → (j ≡ k) × (u ≡ v)

@@ -10,7 +10,7 @@ use lib.ListN.{length}
 use Rattle.digits.specs.Paper.Bytes.{part}
 use Rattle.digits.specs.Paper.Refusals.{order, First, clear, here, after}
 use Rattle.digits.specs.declared.refusal.Refusal.{Refusal}
-use Rattle.digits.proofs.Laws.Refusals.{cause-at, pass-over, some-number}
+use Rattle.digits.proofs.Laws.Refusals.{cause-at, cause-of, pass-over, some-number}
 use Rattle.layouts.specs.Paper.Layout as layout
 use Rattle.layouts.specs.Paper.Homiq as homiqs
 use Rattle.layouts.specs.Paper.Nest as nests
@@ -19,13 +19,14 @@ use Rattle.layouts.specs.Paper.Nikobus as nikobuses
 use Rattle.layouts.specs.declared.nest.Direction.the-variants.{Command, Response}
 use Rattle.frames.specs.Paper.Kinds.{Frame}
 use Rattle.frames.proofs.Laws.Kinds.{frame-known, laid-holds}
-use Rattle.messages.specs.Paper.Answers.{DecodeCause, Said, Decodes, is, refused}
+use Rattle.messages.specs.Paper.Answers.{DecodeCause, Said, Decodes}
 use Rattle.messages.specs.Paper.Answers as decoding
 use Rattle.messages.specs.Paper.Fields.{Fields, onNikobus, asCommand, asResponse, onNibe, onHomiq, laid, payloadFrom, payloadTo}
 use Rattle.messages.specs.Paper.Table.{fields}
 use Rattle.messages.specs.declared.Decoded.{Decoded}
 use Rattle.messages.specs.declared.Decoded.the-variants.{Is, Refused}
 use Rattle.messages.specs.declared.Message.{Message as Coded}
+use Rattle.messages.proofs.Laws.Cases.{said-in}
 use Rattle.messages.proofs.Laws.Decode.{is-frame}
 use Rattle.messages.proofs.Theorems.{has-message, one-message-of}
 use Rattle.puts.specs.Paper.Put.{last}
@@ -110,13 +111,10 @@ module _ {k : ℕ} {f : List ℕ} {place room : ℕ} where
 
 -- ---- the answers
 
-module _ {k : ℕ} {f : List ℕ} {r : Decoded} (a : Decodes k f r) where
+module _ {k : ℕ} {f : List ℕ} (r : Decoded) (a : Decodes k f r) where
   module _ {e : Coded} {from to : ℕ} (q : r ≡ Is e from to) where
     decoded : Decodes k f (Is e from to)
     decoded = subst (Decodes k f) q a
-
-    said-in : Decodes k f (Is e from to) → Said k f e from to
-    said-in (is c s) = s
 
     pub inside-frame : (from ≤ to) × (to ≤ length f)
     inside-frame = said-inside (said-in decoded)
@@ -133,7 +131,6 @@ module _ {k : ℕ} {f : List ℕ} {r : Decoded} (a : Decodes k f r) where
     written place room later w p = fronted-right w (the-line place) (enough (the-line place)) (too-few (the-line place)) p
 
   pub not-written : {why : Refusal} (place : ℕ) (room : List ℕ) → r ≡ Refused why → WritesLine k f place room (Unwritten why) room
-  not-written {why} place room q = go (subst (Decodes k f) q a)
-    where
-      go : Decodes k f (Refused why) → WritesLine k f place room (Unwritten why) room
-      go (refused c) = right.refused (some-number why) (refusing c (cause-at c (some-number why)))
+  not-written {why} place room q =
+      let c = cause-of (subst (Decodes k f) q a) in
+      right.refused (some-number why) (refusing c (cause-at c (some-number why)))

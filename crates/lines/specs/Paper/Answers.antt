@@ -6,13 +6,11 @@ use mathlib.Core.Path.{_≡_}
 use Prim.Native.Nat.{ℕ, _+_, _<_}
 use lib.ListN.{length}
 use Rattle.digits.specs.Paper.Bytes.{part}
-use Rattle.digits.specs.declared.refusal.Refusal.{Refusal}
-use Rattle.puts.specs.Paper.Put.{Put}
+use Rattle.digits.specs.Paper.Refusals.{refusalNumber, Answers}
 use Rattle.puts.specs.Paper.Right.{WritesRight, PutsRight}
 use Rattle.puts.specs.declared.Written.{Written}
 use Rattle.frames.specs.Paper.Kinds.{known, Frame}
-use Rattle.frames.specs.Paper.Search.{Searches}
-use Rattle.frames.specs.declared.Found.the-variants.{At as Found, Refused as None}
+use Rattle.frames.specs.Paper.Search.{Leftmost, SearchCause}
 use Rattle.messages.specs.Paper.Message.{Message}
 use Rattle.messages.specs.Paper.Answers.{Stands}
 use Rattle.lines.specs.Paper.Line.{line}
@@ -45,10 +43,32 @@ PutsLine k f at room later place behind = PutsRight (LineOf k f at) room later p
 
 -- ---- next
 
--- r is the right answer, and `later` the right room afterwards, of a call that searches the capture s from a place on and puts the
--- line of the frame that it finds at the place `to` of a lent room: the frame's start and length, and the place behind the line;
--- refused as the search is, and then the room is as it was
-pub data PutsNext (k : ℕ) (s : List ℕ) (place : ℕ) (room : List ℕ) (to : ℕ) : Listed → List ℕ → Type 0 where
-  line-of : {start len from end behind : ℕ} {t later : List ℕ} → Searches k s place (Found start len from end)
-      → LineOf k (part start (start + len) s) start t → Put room later to behind t → PutsNext k s place room to (At start len behind) later
-  none : {why : Refusal} → Searches k s place (None why) → PutsNext k s place room to (Refused why) room
+-- the refusal number and the values of an answer: the start and the length of the frame, and the place behind its line
+pub record Placed : Type 0 where
+  pub start : ℕ
+  pub len : ℕ
+  pub behind : ℕ
+
+abbrev pub listedNumber : Listed → ℕ
+listedNumber (At start len behind) = 0
+listedNumber (Refused why) = refusalNumber why
+
+abbrev pub zeroPlaced : Placed
+zeroPlaced = record { start = 0; len = 0; behind = 0 }
+
+abbrev pub listedPlaced : Listed → Placed
+listedPlaced (At start len behind) = record { start = start; len = len; behind = behind }
+listedPlaced (Refused why) = zeroPlaced
+
+-- the right values, and the right room afterwards: the search finds such a frame in the capture s, from a place on, and its line is put at the
+-- place `to` of the room
+pub record NextLine (k : ℕ) (s : List ℕ) (place : ℕ) (room : List ℕ) (to : ℕ) (v : Placed) (later : List ℕ) : Type 0 where
+  pub from : ℕ
+  pub end : ℕ
+  pub found : Leftmost k s place (record { start = v .start; len = v .len; from = from; to = end })
+  pub line : PutsLine k (part (v .start) (v .start + v .len) s) (v .start) room later to (v .behind)
+
+-- r is the right answer, and `later` the right room afterwards; refused as the search is, and then the room is as it was
+abbrev pub PutsNext : ℕ → List ℕ → ℕ → List ℕ → ℕ → Listed → List ℕ → Type 0
+PutsNext k s place room to r later =
+    Answers {A = Placed × List ℕ} (zeroPlaced, room) (SearchCause k s place) (λ v. NextLine k s place room to (v .0) (v .1)) (listedNumber r) (listedPlaced r, later)

@@ -19,9 +19,10 @@ use Rattle.frames.specs.Paper.Search.{Hit, SearchCause, no-frame, no-kind, no-p
 use Rattle.frames.specs.declared.Found.the-variants.{At, Refused}
 use Rattle.frames.proofs.Laws.Places.{positive}
 use Rattle.frames.proofs.Laws.Runs.{leftmost}
-use Rattle.lines.specs.Paper.Answers.{LineOf, PutsNext, line-of, none as none-left}
+use Rattle.lines.specs.Paper.Answers.{LineOf, PutsNext}
 use Rattle.lines.specs.declared.Listed.{Listed}
 use Rattle.lines.specs.declared.Listed.the-variants.{At as Line, Refused as NoLine}
+use Rattle.lines.proofs.Laws.Next.{next-found, line-put, none-found, room-kept}
 use Rattle.list.specs.Paper.Listing.{none, line, inside, lastLine, Lists}
 use Rattle.list.specs.Work.Rest.{Rest, PutsLists, Completes}
 
@@ -86,37 +87,33 @@ started =
     }
 
 -- what is next, where the answer is known
-module _ {k : ℕ} {s : List ℕ} {place : ℕ} {room : List ℕ} {to : ℕ} {r : Listed} {later : List ℕ} (n : PutsNext k s place room to r later) where
+module _ {k : ℕ} {s : List ℕ} {place : ℕ} {room : List ℕ} {to : ℕ} (r : Listed) {later : List ℕ} (n : PutsNext k s place room to r later) where
   known-next : {q : Listed} → r ≡ q → PutsNext k s place room to q later
   known-next e = subst (λ (q : Listed). PutsNext k s place room to q later) e n
 
   -- where the next frame stands
   pub next-place : {start len behind : ℕ} → r ≡ Line start len behind → (place ≤ start) × (start + len ≤ length s) × (0 < len)
-  next-place {start} {len} {behind} e = of (known-next e)
-    where
-      of : PutsNext k s place room to (Line start len behind) later → (place ≤ start) × (start + len ≤ length s) × (0 < len)
-      of (line-of a l p) = let q = leftmost a in (q .behind, q .stands .inside, positive (q .stands))
+  next-place e = let q = leftmost (next-found (known-next e)) in (q .behind, q .stands .inside, positive (q .stands))
 
-module _ {k : ℕ} {s room room₀ : List ℕ} {at next place count within : ℕ} (c : Completes k s room room₀ at next place count within) {r : Listed} {later : List ℕ} (n : PutsNext k s place room₀ next r later) where
+module _ {k : ℕ} {s room room₀ : List ℕ} {at next place count within : ℕ} (c : Completes k s room room₀ at next place count within) (r : Listed) {later : List ℕ} (n : PutsNext k s place room₀ next r later) where
   -- a line more
   pub turned : {start len behind : ℕ} → r ≡ Line start len behind → Completes k s room later at behind (start + len) (count + 1) (within + len)
-  turned {start} {len} {behind} e = of (known-next n e) (next-place n e)
-    where
-      of : PutsNext k s place room₀ next (Line start len behind) later → (place ≤ start) × (start + len ≤ length s) × (0 < len)
-          → Completes k s room later at behind (start + len) (count + 1) (within + len)
-      of (line-of a l p) h =
-          record {
-            place-in = h .1;
-            few = omega (arith, c .few, h .0, h .2);
-            within-place = omega (arith, c .within-place, h .0);
-            same = put-length p ∙ c .same;
-            whole = λ end to t x q. c .whole end to _ (found-line a l x) (p then q);
-          }
+  turned e =
+      let a = known-next r n e in
+      let h = next-place r n e in
+      let l = line-put a in
+      record {
+        place-in = h .1;
+        few = omega (arith, c .few, h .0, h .2);
+        within-place = omega (arith, c .within-place, h .0);
+        same = put-length (l .put) ∙ c .same;
+        whole = λ end to t x q. c .whole end to _ (found-line (next-found a) (l .right) x) (l .put then q);
+      }
 
   -- where none is left the room is as it was, and the last line completes the listing
   pub ended : {why : Refusal} {end : List ℕ} {behind : ℕ} → r ≡ NoLine why → known k ≡ true → Put later end next behind (lastLine count (length s - within))
       → PutsLists k s room end at behind
-  ended {why} {end} {behind} e kn p = of (known-next n e) p
-    where
-      of : {now : List ℕ} → PutsNext k s place room₀ next (NoLine why) now → Put now end next behind (lastLine count (length s - within)) → PutsLists k s room end at behind
-      of (none-left a) q = c .whole end behind _ (last-left (refused-none why kn (c .place-in) a)) q
+  ended {why} {end} {behind} e kn p =
+      let a = known-next r n e in
+      c .whole end behind _ (last-left (refused-none why kn (c .place-in) (none-found why a)))
+      (subst (λ (x : List ℕ). Put x end next behind (lastLine count (length s - within))) (room-kept why a) p)

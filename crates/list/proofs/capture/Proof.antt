@@ -26,31 +26,31 @@ enum-known-start : tie.Need-enum-known-start Inv-loop μ-loop
 enum-known-start c = search needs
 
 add-place : tie.Need-add-place Inv-loop μ-loop
-add-place c = let h = next-place (c .before .before .before .before .before .next .ensures) (c .before .start .given .1) in omega arith
+add-place c = let h = next-place (c .before .before .before .before .before .next .result) (c .before .before .before .before .before .next .ensures) (c .before .start .given .1) in omega arith
 
 add-frames : tie.Need-add-frames Inv-loop μ-loop
 add-frames c =
     let n = c .before .before .before .before .before in
     let i = n .before .before .loop .inv in
-    let h = next-place (n .next .ensures) (c .before .start .given .1) in
+    let h = next-place (n .next .result) (n .next .ensures) (c .before .start .given .1) in
     omega (arith, i .few)
 
 add-inside : tie.Need-add-inside Inv-loop μ-loop
 add-inside c =
     let n = c .before .before .before .before .before in
     let i = n .before .before .loop .inv in
-    let h = next-place (n .next .ensures) (c .before .start .given .1) in
+    let h = next-place (n .next .result) (n .next .ensures) (c .before .start .given .1) in
     omega (arith, i .within-place)
 
 loop-less : tie.Need-loop-less Inv-loop μ-loop
 loop-less c =
     let n = c .before .before .before .before .before in
     let i = n .before .before .loop .inv in
-    let h = next-place (n .next .ensures) (c .before .start .given .1) in
+    let h = next-place (n .next .result) (n .next .ensures) (c .before .start .given .1) in
     omega (arith, i .place-in)
 
 loop-again : tie.Need-loop-again Inv-loop μ-loop
-loop-again c = let n = c .before .before .before .before .before in turned (n .before .before .loop .inv) (n .next .ensures) (c .before .start .given .1)
+loop-again c = let n = c .before .before .before .before .before in turned (n .before .before .loop .inv) (n .next .result) (n .next .ensures) (c .before .start .given .1)
 
 enum-known-why : tie.Need-enum-known-why Inv-loop μ-loop
 enum-known-why c = search needs
@@ -65,7 +65,7 @@ returns : tie.Need-returns Inv-loop μ-loop
 returns c =
     let e = c .before .before .before .before in
     let n = e .before .before .before .before .before in
-    ended (n .before .before .loop .inv) (n .next .ensures) (e .before .why .given .1) (n .before .before .before .before .before .pre) (c .before .before .ending .ensures)
+    ended (n .before .before .loop .inv) (n .next .result) (n .next .ensures) (e .before .why .given .1) (n .before .before .before .before .before .pre) (c .before .before .ending .ensures)
 
 same-length : tie.Need-same-length Inv-loop μ-loop
 same-length c = search needs

@@ -11,10 +11,11 @@ use Rattle.digits.proofs.Laws.Refusals.{answered}
 use Rattle.frames.specs.Paper.Search.{Leftmost, Searches}
 use Rattle.frames.specs.declared.Found.{Found}
 use Rattle.frames.specs.declared.Found.the-variants.{At as Hit, Refused as NoHit}
-use Rattle.messages.specs.Paper.Answers.{Said, Finds, at, none}
+use Rattle.messages.specs.Paper.Answers.{Said, Finds}
 use Rattle.messages.specs.Work.Answers.{Payloaded}
 use Rattle.messages.specs.declared.Message.{Message as Coded}
 use Rattle.messages.specs.declared.Seen.the-variants.{At, Refused as Unseen}
+use Rattle.messages.proofs.Laws.Cases as cases
 
 module _ {k : ℕ} {s : List ℕ} {place : ℕ} {r : Found} (a : Searches k s place r) where
   module _ {start len from to : ℕ} (e : r ≡ Hit start len from to) where
@@ -34,7 +35,7 @@ module _ {k : ℕ} {s : List ℕ} {place : ℕ} {r : Found} (a : Searches k s pl
     payloaded = record { frame = leftmost .stands .frame; from-is = omega (arith, leftmost .from-is); to-is = omega (arith, leftmost .to-is) }
 
     pub found : {c : Coded} → Said k (part start (start + len) s) c (from - start) (to - start) → Finds k s place (At start len from to c)
-    found x = at finding x
+    found x = cases.found finding x
 
   pub not-found : {why : Refusal} → r ≡ NoHit why → Finds k s place (Unseen why)
-  not-found e = none (subst (Searches k s place) e a)
+  not-found {why} e = cases.unfound why (subst (Searches k s place) e a)

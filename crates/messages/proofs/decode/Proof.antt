@@ -1,7 +1,7 @@
 -- `messages::decode` meets its contract: where the whole is one frame, its message is the one; else it is no message's.
 -- Assumes nothing.
 use borrow.Author.Needs.{needs}
-use Rattle.messages.specs.Paper.Answers.{is, refused}
+use Rattle.messages.proofs.Laws.Cases.{decoded, undecoded}
 use Rattle.messages.proofs.Laws.Decode.{first-decode, one-frame, no-first, first-of}
 use Rattle.messages.proofs.decode.Statement.{statement}
 use Rattle.messages.proofs.decode.Tie as tie
@@ -19,10 +19,10 @@ enum-known-why : tie.Need-enum-known-why
 enum-known-why c = search needs
 
 returns : tie.Need-returns
-returns c = is (first-decode (no-first (c .before .before .before .before .one-frame .ensures) (c .before .before .from .given .1))) (c .message-in .ensures)
+returns c = decoded (first-decode (no-first (c .before .before .before .before .one-frame .ensures) (c .before .before .from .given .1))) (c .message-in .ensures)
 
 returns-2 : tie.Need-returns-2
-returns-2 c = refused (first-decode (first-of (c .before .before .before .one-frame .ensures) (c .before .why .given .1)))
+returns-2 c = undecoded (c .before .why .given .0 .0) (first-decode (first-of (c .before .before .before .one-frame .ensures) (c .before .why .given .1)))
 
 pub decode-spec : {M : Type 1} → statement M
 decode-spec =

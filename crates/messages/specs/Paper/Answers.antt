@@ -2,14 +2,13 @@
 -- Assumes nothing.
 use mathlib.Core.Bool.{false}
 use mathlib.Core.List.{List, []}
+use mathlib.Core.Option.{Option, none, some}
 use mathlib.Core.Path.{_≡_}
-use Prim.Native.Nat.{ℕ, _+_, _-_}
-use Rattle.digits.specs.Paper.Bytes.{part}
-use Rattle.digits.specs.declared.refusal.Refusal.{Refusal}
-use Rattle.digits.specs.Paper.Refusals.{refusalNumber, order, First, Answers}
+use Prim.Native.Nat.{ℕ, _-_}
+use Rattle.digits.specs.Paper.Refusals.{refusalNumber, Answers}
 use Rattle.frames.specs.Paper.Kinds.{known}
-use Rattle.frames.specs.Paper.Search.{Searches}
-use Rattle.frames.specs.declared.Found.the-variants.{At as Hit, Refused as NoHit}
+use Rattle.frames.specs.Paper.Search.{Hit, zeroHit, Leftmost, SearchCause, framePart}
+use Rattle.frames.specs.Paper.Whole.{Ends, zeroEnds}
 use Rattle.messages.specs.Paper.Fields.{kindOf, payloadIn, payloadFrom, payloadTo}
 use Rattle.messages.specs.Paper.Message.{Message}
 use Rattle.messages.specs.Paper.Says.{Says}
@@ -41,10 +40,25 @@ pub record Said (k : ℕ) (f : List ℕ) (e : Coded) (from to : ℕ) : Type 0 wh
   pub from-is : from ≡ payloadFrom (fields message)
   pub to-is : to ≡ payloadTo (fields message)
 
+-- the refusal number and the values of an answer: its message, and those places; of a refusal none, and zeros
+abbrev pub decodedNumber : Decoded → ℕ
+decodedNumber (Is e from to) = 0
+decodedNumber (Refused why) = refusalNumber why
+
+abbrev pub zeroDecoded : Option Coded × Ends
+zeroDecoded = (none, zeroEnds)
+
+abbrev pub decodedValue : Decoded → Option Coded × Ends
+decodedValue (Is e from to) = (some e, record { from = from; to = to })
+decodedValue (Refused why) = zeroDecoded
+
+-- the right values
+abbrev pub DecodedTo : ℕ → List ℕ → Option Coded × Ends → Type 0
+DecodedTo k f v = (e : Coded) × (v .0 ≡ some e) × Said k f e (v .1 .from) (v .1 .to)
+
 -- r is the right answer
-pub data Decodes (k : ℕ) (f : List ℕ) : Decoded → Type 0 where
-  is : {e : Coded} {from to : ℕ} → First (DecodeCause k f) order 0 → Said k f e from to → Decodes k f (Is e from to)
-  refused : {why : Refusal} → First (DecodeCause k f) order (refusalNumber why) → Decodes k f (Refused why)
+abbrev pub Decodes : ℕ → List ℕ → Decoded → Type 0
+Decodes k f r = Answers zeroDecoded (DecodeCause k f) (DecodedTo k f) (decodedNumber r) (decodedValue r)
 
 -- ---- content: what stands beside the message of a frame, "handed back as that part of the caller's buffer"; empty where refused
 
@@ -54,9 +68,25 @@ pub record Contents (k : ℕ) (f p : List ℕ) : Type 0 where
 
 -- ---- find: the search and the decoder in one
 
--- r is the right answer: what the search finds, and the message of that frame, with the places in the buffer of what stands beside
--- it; refused as the search is
-pub data Finds (k : ℕ) (s : List ℕ) (place : ℕ) : Seen → Type 0 where
-  at : {start len from to : ℕ} {e : Coded} → Searches k s place (Hit start len from to)
-      → Said k (part start (start + len) s) e (from - start) (to - start) → Finds k s place (At start len from to e)
-  none : {why : Refusal} → Searches k s place (NoHit why) → Finds k s place (Unseen why)
+-- the refusal number and the values of an answer: the message of the frame that is found, and what the search finds; of a refusal none,
+-- and zeros
+abbrev pub seenNumber : Seen → ℕ
+seenNumber (At start len from to e) = 0
+seenNumber (Unseen why) = refusalNumber why
+
+abbrev pub zeroSeen : Option Coded × Hit
+zeroSeen = (none, zeroHit)
+
+abbrev pub seenValue : Seen → Option Coded × Hit
+seenValue (At start len from to e) = (some e, record { start = start; len = len; from = from; to = to })
+seenValue (Unseen why) = zeroSeen
+
+-- the right values: the places are those in the buffer
+abbrev pub FoundAs : ℕ → List ℕ → ℕ → Option Coded × Hit → Type 0
+FoundAs k s place v =
+    (e : Coded) × (v .0 ≡ some e) × (Leftmost k s place (v .1))
+    × Said k (framePart s (v .1)) e (v .1 .from - v .1 .start) (v .1 .to - v .1 .start)
+
+-- r is the right answer; refused as the search is
+abbrev pub Finds : ℕ → List ℕ → ℕ → Seen → Type 0
+Finds k s place r = Answers zeroSeen (SearchCause k s place) (FoundAs k s place) (seenNumber r) (seenValue r)

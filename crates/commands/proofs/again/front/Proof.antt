@@ -12,7 +12,7 @@ row-of-requires : tie.Need-row-of-requires
 row-of-requires c κs = search needs
 
 returns : tie.Need-returns
-returns c = refused-again (c .before .before .decode .ensures) (c .before .row-of .ensures) (c .if1 .taken)
+returns c = refused-again (c .before .before .decode .result) (c .before .before .decode .ensures) (c .before .row-of .ensures) (c .if1 .taken)
 
 front-requires : tie.Need-front-requires
 front-requires c κs = search needs
@@ -21,7 +21,7 @@ same-length : tie.Need-same-length
 same-length c = search needs
 
 returns-2 : tie.Need-returns-2
-returns-2 c = let d = c .before .before .before .before .before in written-again (d .before .decode .ensures) (d .row-of .ensures) (c .before .before .front .result) (c .before .before .before .before .if1 .left) (c .before .before .front .ensures)
+returns-2 c = let d = c .before .before .before .before .before in written-again (d .before .decode .result) (d .before .decode .ensures) (d .row-of .ensures) (c .before .before .front .result) (c .before .before .before .before .if1 .left) (c .before .before .front .ensures)
 
 pub front-spec : {M : Type 1} → statement M
 front-spec =

@@ -21,13 +21,13 @@ same-length : tie.Need-same-length
 same-length c = search needs
 
 returns : tie.Need-returns
-returns c = let s = c .before .before .before .before .before .before .before .before .before .before .before in said-written (s .pre) (c .before .before .before .before .before .before .decode .ensures) (s .args .message) (c .before .before .before .before .before .before .before .homiq-row .ensures) (c .before .before .before .before .before .row-of .ensures) (c .before .before .front .result) (c .before .before .before .before .if1 .taken) (c .before .before .front .ensures)
+returns c = let s = c .before .before .before .before .before .before .before .before .before .before .before in said-written (s .pre) (c .before .before .before .before .before .before .decode .result) (c .before .before .before .before .before .before .decode .ensures) (s .args .message) (c .before .before .before .before .before .before .before .homiq-row .ensures) (c .before .before .before .before .before .row-of .ensures) (c .before .before .front .result) (c .before .before .before .before .if1 .taken) (c .before .before .front .ensures)
 
 returns-2 : tie.Need-returns-2
-returns-2 c = let s = c .before .before .before .before .before .before .before .before in said-above (s .pre) (c .before .before .before .decode .ensures) (s .args .message) (c .before .before .before .before .homiq-row .ensures) (c .before .before .row-of .ensures) (s .args .room .now) (c .if2 .taken) (c .before .if1 .left)
+returns-2 c = let s = c .before .before .before .before .before .before .before .before in said-above (s .pre) (c .before .before .before .decode .result) (c .before .before .before .decode .ensures) (s .args .message) (c .before .before .before .before .homiq-row .ensures) (c .before .before .row-of .ensures) (s .args .room .now) (c .if2 .taken) (c .before .if1 .left)
 
 returns-3 : tie.Need-returns-3
-returns-3 c = let s = c .before .before .before .before .before .before .before .before in said-outside (s .pre) (c .before .before .before .decode .ensures) (s .args .message) (c .before .before .before .before .homiq-row .ensures) (c .before .before .row-of .ensures) (s .args .room .now) (c .if2 .left) (c .before .if1 .left)
+returns-3 c = let s = c .before .before .before .before .before .before .before .before in said-outside (s .pre) (c .before .before .before .decode .result) (c .before .before .before .decode .ensures) (s .args .message) (c .before .before .before .before .homiq-row .ensures) (c .before .before .row-of .ensures) (s .args .room .now) (c .if2 .left) (c .before .if1 .left)
 
 pub write-whole-spec : {M : Type 1} → statement M
 write-whole-spec =
