@@ -26,8 +26,9 @@ class Log:
         self.said, self.waits, self.first = {}, {}, ""
         path = functions.ROOT / "target" / "must-fail" / crate / edit / ".log"
         lines = path.read_text(encoding="utf-8", errors="replace").splitlines() if path.exists() else []
+        error = re.compile(r".*/%s/%s/proofs/(\S+)/Proof\.antt:\d+:\d+: error: (.*)" % (crate, edit))
         for line in lines:
-            found = re.match(r"\S+?/proofs/(\S+)/Proof\.antt:\d+:\d+: error: (.*)", line)
+            found = error.match(line)
             if found:
                 self.said.setdefault("::".join([crate, *found.group(1).split("/")]), found.group(2))
             if not self.first and (" error: " in line or "it is not proved that" in line):
