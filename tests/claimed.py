@@ -47,7 +47,7 @@ def wrong_row(path, name, function, parts):
     if set(parts) != PARTS or set().union(*parts.values()) != {own}:
         return "%s: %s is not made of %s alone: %s" % (path, name, own, parts)
     with open(path, encoding="utf-8") as file:
-        listed = re.search(r"^(?:rows|asking) =(.*?)(?=\n\n|\Z)", file.read(), re.M | re.S)
+        listed = re.search(r"^rows =(.*?)(?=\n\n|\Z)", file.read(), re.M | re.S)
     if not listed or name not in re.findall(r"[\w-]+", listed.group(1)):
         return "%s: %s is not in the file's list" % (path, name)
     return None

@@ -137,12 +137,15 @@ def value(name, message):
 # ---- frames
 
 KINDS = (1, 2, 3, 4, 5)
+KIND_NAMES = dict(zip(KINDS, ("nikobus", "nest-command", "nest-response", "nibe", "homiq")))
 CHARACTER = rb"[!-:=?-~]"
 LINK = re.compile(rb"\$([0-9A-F]{2})((?:[0-9A-F]{2})+)([0-9A-F]{4})([0-9A-F]{2})\r")
 PRESS = re.compile(rb"#N([0-9A-F]{6})\r")
 # a tail's payload is empty; document 01 does not say where, docs/CALLS.md does: at the end
 TAIL = re.compile(rb"#E1\r()")
-HOMIQ = re.compile(rb"<;((C{1,8});(C{1,16});(C{1,4});(C{1,4});([1-9][0-9]*);([sa]));(0|[1-9][0-9]*);>\r\n".replace(b"C", CHARACTER))
+FIELDS = rb"(C{1,8});(C{1,16});(C{1,4});(C{1,4});([1-9][0-9]*);([sa])".replace(b"C", CHARACTER)
+HOMIQ = re.compile(rb"<;(%s);(0|[1-9][0-9]*);>\r\n" % FIELDS)
+COMMANDS = bytes.fromhex("606268696a6b6c")
 PREAMBLES = {2: bytes.fromhex("d5aa96"), 3: bytes.fromhex("d5d5aa96")}
 
 
@@ -175,7 +178,7 @@ def nest_at(kind, s, at):
 def nibe_at(s, at):
     """With the check byte behind them, the length and the data XOR to 0."""
     head, rest = s[at : at + 2], s[at + 2 :]
-    if head not in [bytes([0xC0, command]) for command in bytes.fromhex("606268696a6b6c")] or not rest or len(rest) < rest[0] + 2:
+    if head not in [bytes([0xC0, command]) for command in COMMANDS] or not rest or len(rest) < rest[0] + 2:
         return None
     end = at + rest[0] + 4
     return (end, at + 3, end - 1) if value("nibe xor", s[at + 2 : end]) == 0 else None
@@ -196,6 +199,20 @@ def frame_at(kind, s, at):
     if kind == 4:
         return nibe_at(s, at)
     return homiq_at(s, at) if kind == 5 else nest_at(kind, s, at)
+
+
+# what docs/CALLS.md says that a frame of a kind can begin with: a pattern of its first three bytes
+STARTS = {1: rb"[$#][^\x00-/].", 2: rb"\xd5\xaa\x96", 3: rb"\xd5\xd5\xaa", 4: rb"\xc0[\x60-\x6f].", 5: rb"<;."}
+
+
+def may_start(kind, s):
+    return bool(re.match(STARTS[kind], s, re.DOTALL))
+
+
+def is_payload(s):
+    """Whether these are Homiq's six fields; the ID's limit is compared as a number."""
+    found = re.fullmatch(FIELDS, s)
+    return bool(found) and int(found.group(5)) <= 511
 
 
 def search(kind, s, place):

@@ -333,6 +333,66 @@ def place_cases():
         yield from search_cases(kind, 1, b"")
 
 
+# ---- kinds, and what is asked of bytes alone
+
+BUSES = {1: "nikobus", 4: "nibe", 5: "homiq"}
+
+
+def kind_cases():
+    """Each number, and each name."""
+    for n in range(256):
+        yield request("frames::kinds::known", n), answer((n in paper.KINDS,))
+        yield request("frames::kinds::of", n), answer(or_refused(paper.KIND_NAMES.get(n), 2))
+    for n, name in paper.KIND_NAMES.items():
+        yield request("frames::kinds::number", name), answer((n,))
+
+
+def begin_case(kind, s):
+    """Whether a frame can begin so."""
+    asked = {2: "nest::may_start command", 3: "nest::may_start response"}.get(kind) or BUSES[kind] + "::may_start"
+    return request("layouts::" + asked, s), answer((paper.may_start(kind, s),))
+
+
+def begin_cases():
+    """The first bytes of a frame of each kind, with each byte at each of the first two places and some at the third; fewer; more."""
+    frames = [(1, LINK_A), (1, PRESSED), (2, RESET), (3, REPLY), (4, ASK), (5, HOMIQ_G)]
+    for kind, s in frames:
+        for at in (0, 1):
+            yield from (begin_case(kind, s[:at] + bytes([b]) + s[at + 1 : 3]) for b in range(256))
+        yield from (begin_case(kind, s[:2] + bytes([b])) for b in (0x00, 0x30, 0x96, 0x97, 0xAA, 0xAB, 0xD5, 0xFF))
+        yield from (begin_case(kind, s[:length]) for length in (0, 1, 2, 3, 4, len(s)))
+        yield begin_case(kind, b"\x00" + s)
+    for _, s in frames:
+        yield from (begin_case(kind, s) for kind in paper.KINDS)
+    yield begin_case(1, TAILED)
+
+
+def digits_case(s):
+    return request("layouts::nikobus::all_digits", s), answer((paper.hex_value(s) is not None,))
+
+
+def payload_case(s):
+    return request("layouts::homiq::is_payload", s), answer((paper.is_payload(s),))
+
+
+def test_cases():
+    """Each character for a digit, alone and among others; each command; fields at their limits and beyond."""
+    yield digits_case(b"")
+    for c in range(256):
+        yield digits_case(bytes([c]))
+        yield request("layouts::nibe::is_command", c), answer((c in paper.COMMANDS,))
+    for at in (0, 3, 5):
+        yield from (digits_case(b"12AB34"[:at] + bytes([c]) + b"12AB34"[at + 1 :]) for c in b"/0 9:@AFG`afg")
+    yield digits_case(b"A" * 244)
+    fields = [b"I.3", b"1", b"0H", b"0", b"42", b"s"]
+    for at, others in enumerate((b"|ABCDEFGH|ABCDEFGHI", b"|0123456789ABCDEF|0123456789ABCDEFG", b"|0HJK|0HJKL", b"|0LMN|0LMNO")):
+        yield from (payload_case(b";".join([*fields[:at], other, *fields[at + 1 :]])) for other in others.split(b"|"))
+        yield from (payload_case(b";".join([*fields[:at], bytes([c]), *fields[at + 1 :]])) for c in b" !:;<=>?~\x7f\x80")
+    yield from (payload_case(b";".join([*fields[:4], number, b"s"])) for number in b"|0|1|511|512|042|1000|4x|-1".split(b"|"))
+    yield from (payload_case(b";".join([*fields[:5], letter])) for letter in b"|s|a|x|S|ss|sa".split(b"|"))
+    yield from (payload_case(s) for s in (b"", b";;;;;", b"I.3;1;0H;0;42", b"I.3;1;0H;0;42;s;", b";I.3;1;0H;0;42;s", b"I.3;1;0H;0;0;42;s", HOMIQ_G))
+
+
 # ---- the requests themselves
 
 
@@ -396,6 +456,19 @@ NO_REQUESTS = [
     "commands::encode 1 tail 1 - 16",
     "commands::encode 1 press 3132414233 - 16",
     "messages::nest::for_panel tail",
+    # a kind otherwise named
+    "frames::kinds::number 4",
+    "frames::kinds::number Nibe",
+    "frames::kinds::number nest",
+    "frames::kinds::number nest_command",
+    "frames::kinds::of nibe",
+    "frames::kinds::of 256",
+    # a message without what stands beside it
+    "messages::allowed tail",
+    "lines::of tail 0 4 40 0",
+    # functions that there were
+    "messages::message_in 4 C06902640066",
+    "lines::tested 4 C06902640066 0 80 0",
 ]
 
 
@@ -422,6 +495,9 @@ SUBJECTS = [
     homiq_cases,
     start_cases,
     place_cases,
+    kind_cases,
+    begin_cases,
+    test_cases,
     no_request_cases,
 ]
 

@@ -16,6 +16,7 @@ from typing import NamedTuple
 sys.dont_write_bytecode = True  # or Python leaves a folder beside those that are imported
 
 import calls
+import lines
 import paper
 import table
 from calls import answer, in_room, request
@@ -27,12 +28,15 @@ paper.value = functools.lru_cache(maxsize=None)(paper.value)
 
 class Case(NamedTuple):
     test: str
-    asked: str  # decode, encode, acknowledge, field, voltages or pair
+    asked: str  # decode, encode, acknowledge, field, voltages, pair, meant, payload, allowed or line
     kind: int = 0
     name: str = "read"
     fields: dict = {}
     content: bytes = b""
     room: int = 0
+    to: int = 0
+    at: int = 0
+    length: int = 0
 
 
 def decoded(kind, s):
@@ -53,9 +57,35 @@ def shown(climate):
     return "single", climate["temperature"], "single", climate["humidity"]
 
 
+def meant(kind, fields, content):
+    """The message of a content, without a frame around it; six digits are also a press's."""
+    if kind == 1:
+        yield request("messages::nikobus::of_link", content), told(table.of_link(content))
+        yield request("messages::nikobus::of_press", content), told(table.of_press(content))
+    elif kind in (2, 3):
+        direction, number = {2: "command", 3: "response"}[kind], fields["id"]
+        yield request("messages::nest::of", direction, number, content), told(table.of_nest(kind, number, content))
+    elif kind == 4:
+        yield request("messages::nibe::of", fields["command"], content), told(table.of_nibe(fields["command"], content))
+    else:
+        yield request("messages::homiq::of", content), told(table.of_homiq(content))
+
+
+def told(found):
+    """The answer that is a message, or a refusal's number."""
+    return answer(found if isinstance(found, int) else calls.message(*found))
+
+
+def line_made(name, fields, content, at, length):
+    """A message's line; 5 where it is none of the table, whatever the cause."""
+    if table.allowed(name, fields, content) != ():
+        return 5
+    return lines.text(name, fields, content, at, length).encode("ascii") + b"\n"
+
+
 def pairs(case):
     """The requests of a case, each with its answer."""
-    _, asked, kind, name, fields, content, room = case
+    _, asked, kind, name, fields, content, room, to, at, length = case
     if asked == "decode":
         yield from decoded(kind, content)
     elif asked == "encode":
@@ -68,6 +98,15 @@ def pairs(case):
         yield request("messages::homiq::field", content, fields["number"]), answer((field,))
     elif asked == "voltages":
         yield request("messages::nest::voltages", content), answer(table.voltages(content))
+    elif asked == "meant":
+        yield from meant(kind, fields, content)
+    elif asked == "payload":
+        yield request("layouts::homiq::is_payload", content), answer((paper.is_payload(content),))
+    elif asked == "allowed":
+        yield request("messages::allowed", *calls.message(name, fields), content), answer(table.allowed(name, fields, content))
+    elif asked == "line":
+        made = line_made(name, fields, content, at, length)
+        yield request("lines::of", *calls.message(name, fields), content, at, length, room, to), in_room(made, room, to)
     else:
         yield request("messages::nest::for_panel", *calls.message(name, fields)), answer(shown(fields) if name == "climate" else 5)
 
@@ -202,7 +241,7 @@ def done_messages():
 
 
 def nibe_messages():
-    for command in (*table.COMMANDS, 0x00, 0x5F, 0x61, 0x63, 0x67, 0x6D, 0xC0, 0xFF):
+    for command in (*paper.COMMANDS, 0x00, 0x5F, 0x61, 0x63, 0x67, 0x6D, 0xC0, 0xFF):
         for length in (0, 1, 2, 3, 4, 5, 6, 7, 254, 255, 256, 300):
             yield {"command": command}, pattern(length)
         for content in (b"\x00", b"\x01", b"\x02", b"\xff", b"\x00\x00", b"\x01\x00"):
@@ -284,6 +323,31 @@ def encode_cases(name, fields, content):
             yield Case("encode as another kind " + name, "encode", other, name, fields, content, 64 * (len(content) & 1))
 
 
+FAR = 2**64 - 1
+
+
+def standing_cases(name, fields, content):
+    """Whether it is allowed; and its line into a room with just as many bytes left, one fewer, more, none, and a place beyond the room."""
+    kind, given = table.KINDS[name], (name, fields, content)
+    yield Case("allowed " + name, "allowed", kind, *given)
+    at, length = (0, FAR, 65535)[len(content) % 3], (0, 16, FAR)[len(content) % 3]
+    made = line_made(*given, at, length)
+    n = len(made) if isinstance(made, bytes) else 64
+    for room, to in ((n, 0), (n + 3, 3), (n + 9, 4), (n - 1, 0), (n + 2, 3), (0, 0), (n, n), (n, n + 1), (n, FAR)):
+        yield Case("line of " + name, "line", kind, *given, room, to, at, length)
+
+
+def content_cases(name, fields, content):
+    """The message that the content of a row with one is; a Nest payload's in both directions."""
+    kind = table.KINDS[name]
+    for other in (2, 3) if name in ("command", "text", "response") else (kind,) if name in table.LAST else ():
+        yield Case("meant, kind %d" % other, "meant", other, name, fields, content)
+    if name == "press":
+        yield Case("meant, a press", "meant", kind, name, fields, fields["digits"])
+    if name == "homiq":
+        yield Case("is_payload", "payload", content=content)
+
+
 def forced(name, fields, content):
     """The bytes that a message would have, right check values and all, also where a field is outside its limits; none where there are none."""
     kind = table.KINDS[name]
@@ -348,6 +412,8 @@ def limit_cases():
     for name in table.NAMES:
         for fields, content in MESSAGES[name]():
             yield from encode_cases(name, fields, content)
+            yield from standing_cases(name, fields, content)
+            yield from content_cases(name, fields, content)
             kind, s = table.KINDS[name], forced(name, fields, content)
             if s is None or len(s) > 1100 or (kind, s) in seen:
                 continue
@@ -392,7 +458,7 @@ def any_fields(name, rng):
         "width": width,
         "value": rng.randrange(1 << rng.choice((8 * min(width, 4) or 8, 32))),
         "ok": rng.randrange(2),
-        "command": rng.choice((*table.COMMANDS, rng.randrange(256))),
+        "command": rng.choice((*paper.COMMANDS, rng.randrange(256))),
     }
     if name == "text":
         drawn["id"] = rng.choice((*table.TEXTS, *table.TEXTS, any_word(rng)))
@@ -443,6 +509,12 @@ def random_cases(seed, count=3000):
         room = max(0, len(made) + rng.choice((-1, 0, 0, 5, rng.randint(-20, 20)))) if isinstance(made, bytes) else rng.randrange(80)
         asked = kind if rng.randrange(8) else rng.choice(ALL_KINDS)
         yield Case("encode at random " + name, "encode", asked, name, fields, content, room)
+        yield Case("allowed at random " + name, "allowed", kind, name, fields, content)
+        at, length, to = rng.randrange(1 << rng.choice((8, 64))), rng.randrange(1 << rng.choice((8, 64))), rng.randrange(9)
+        made = line_made(name, fields, content, at, length)
+        room = to + max(0, len(made) + rng.choice((-1, 0, 0, 5, rng.randint(-20, 20)))) if isinstance(made, bytes) else rng.randrange(80)
+        yield Case("line at random of " + name, "line", kind, name, fields, content, room, to, at, length)
+        yield from (case._replace(test=case.test + " at random") for case in content_cases(name, fields, content))
         s = forced(name, fields, content)
         if s is None or len(s) > 1100:
             continue
@@ -474,6 +546,8 @@ def known():
     yield table.encode(4, "ask", {"register": 40004}, b"") == paper.ASK_E
     yield table.decode(5, paper.HOMIQ_G)[0] == "input" and table.decode(5, paper.HOMIQ_G.replace(b"134", b"143")) == 5
     yield table.acknowledge(paper.HOMIQ_G) == paper.HOMIQ_H and table.acknowledge(paper.HOMIQ_H) == 5
+    yield table.of_link(b"110000") == ("link", {}) and table.of_link(b"120747") == ("read", {"group": 1, "address": 0x4707})
+    yield line_made("command", {"id": 255}, b"", 0, 9) == b'{"at":0,"len":9,"msg":"command","id":255,"data":""}\n'
 
 
 def reached(cases, exchanges):
@@ -485,6 +559,13 @@ def reached(cases, exchanges):
     yield {no for what, no in refused if what == "encode"} == set("24567")
     yield {no for what, no in refused if what == "acknowledge"} == set("45")
     yield {name for what, name, told in seen if (what, told) == ("encode", "refused 6")} == table.LAST
+    for what, refusals in (("allowed", "56"), ("line", "45")):
+        yield {name for asked, name, told in seen if asked == what and told.startswith("ok")} == set(table.NAMES)
+        yield {no for asked, no in refused if asked == what} == set(refusals)
+    yield {name for what, name, told in seen if (what, told) == ("allowed", "refused 6")} == table.LAST
+    meanings = {" ".join(right.split(" ")[:2]) for case, exchange in zip(cases, exchanges) if case.asked == "meant" for _, right in exchange}
+    yield meanings == {*("ok " + name for name in table.NAMES if name != "tail"), "refused 5"}
+    yield {right for case, ((_, right), *_) in zip(cases, exchanges) if case.asked == "payload"} == {"ok true", "ok false"}
 
 
 def round_trip(case):

@@ -20,10 +20,8 @@ KINDS = {name: kind for kind, names in OF_KIND.items() for name in names}
 # what "may not be encoded with a content that a message above them in the table has"
 LAST = {"link", "text", "response", "nibe", "homiq"}
 TEXTS = (0x0001, 0x0018, 0x0019)
-COMMANDS = bytes.fromhex("606268696a6b6c")
 DIGITS = re.compile(rb"(?:[0-9A-F]{2}){1,122}")
 SIX_DIGITS = re.compile(rb"[0-9A-F]{6}")
-FIELDS = re.compile(rb"(C{1,8});(C{1,16});(C{1,4});(C{1,4});([1-9][0-9]*);([sa])".replace(b"C", paper.CHARACTER))
 
 
 def u16(data, at):
@@ -135,8 +133,7 @@ def value_parts(command, f):
 
 
 def homiq_parts(_, content):
-    found = FIELDS.fullmatch(content)
-    return found.groups() if found and int(found.group(5)) <= 511 else None
+    return tuple(content.split(b";")) if paper.is_payload(content) else None
 
 
 MAKE = {
@@ -157,7 +154,7 @@ MAKE = {
     "reply": lambda f, content: value_parts(0x6A, f),
     "put": lambda f, content: value_parts(0x6B, f),
     "done": lambda f, content: (0x6C, bytes([f["ok"]])),
-    "nibe": lambda f, content: (f["command"], content) if f["command"] in COMMANDS and len(content) < 256 else None,
+    "nibe": lambda f, content: (f["command"], content) if f["command"] in paper.COMMANDS and len(content) < 256 else None,
     **{name: homiq_parts for name in HOMIQ},
 }
 
@@ -166,6 +163,31 @@ def first_row(kind, made):
     """The first row of the table that has these parts, and its fields."""
     rows = ((name, READ[name](*made)) for name in OF_KIND[kind])
     return next((name, fields) for name, fields in rows if fields is not None)
+
+
+def of_link(digits):
+    return row_or_refused(1, MAKE["link"]({}, digits))
+
+
+def of_press(digits):
+    return row_or_refused(1, MAKE["press"]({"digits": digits}, b""))
+
+
+def of_nest(kind, number, payload):
+    return row_or_refused(kind, nest_parts(number, payload))
+
+
+def of_nibe(command, data):
+    return row_or_refused(4, MAKE["nibe"]({"command": command}, data))
+
+
+def of_homiq(content):
+    return row_or_refused(5, homiq_parts({}, content))
+
+
+def row_or_refused(kind, made):
+    """The name and the fields of the row that has these parts; 5 where there are none."""
+    return 5 if made is None else first_row(kind, made)
 
 
 def decode(kind, s):
@@ -184,12 +206,18 @@ def encode(kind, name, fields, content):
         return 7
     if KINDS[name] != kind:
         return 5
-    made = MAKE[name](fields, content)
+    why = allowed(name, fields, content)
+    return why or frame(kind, MAKE[name](fields, content))
+
+
+def allowed(name, fields, content):
+    """Nothing, where the message with this content is one of the table; or the refusal's number."""
+    made = MAKE[name](fields, content) if fields.get("width", 1) in paper.WIDTHS else None
     if made is None:
         return 5
-    if first_row(kind, made)[0] != name:
+    if first_row(KINDS[name], made)[0] != name:
         return 6 if name in LAST else 5
-    return frame(kind, made)
+    return ()
 
 
 def acknowledge(s):

@@ -4,7 +4,7 @@ use crate::acknowledge;
 use crate::book;
 use crate::checks::{self, Check};
 use crate::digits;
-use crate::frames::{self, build, Head};
+use crate::frames::{self, build, starts, Head};
 use crate::lines::{self, Value};
 use crate::list;
 use crate::messages::{self, Message};
@@ -29,6 +29,7 @@ struct Answer {
 impl Answer {
     fn line(&self) -> Vec<u8> {
         let mut line = match &self.result {
+            Ok(values) if values.is_empty() => "ok".to_string(),
             Ok(values) => format!("ok {values}"),
             Err(refusal) => format!("refused {}", refusal.number()),
         };
@@ -77,9 +78,24 @@ fn tries(result: Result<impl ToString, Refusal>) -> Option<Answer> {
     })
 }
 
+/// Nothing, where it is not refused.
+fn passes(result: Result<(), Refusal>) -> Option<Answer> {
+    tries(result.map(|()| ""))
+}
+
+/// A message.
+fn means(result: Result<Message, Refusal>) -> Option<Answer> {
+    tries(result.map(|message| message_text(&message)))
+}
+
 /// Writes from the front of the room, all of it or nothing.
-fn writes(mut room: Room, result: Result<Vec<u8>, Refusal>) -> Option<Answer> {
-    let count = result.and_then(|bytes| room.write(&bytes));
+fn writes(room: Room, result: Result<Vec<u8>, Refusal>) -> Option<Answer> {
+    writes_at(room, 0, result)
+}
+
+/// The same from a place of the room on.
+fn writes_at(mut room: Room, to: u64, result: Result<Vec<u8>, Refusal>) -> Option<Answer> {
+    let count = result.and_then(|bytes| room.write_at(to, &bytes));
     Some(Answer {
         result: count.map(|count| count.to_string()),
         room: Some(room),
@@ -327,6 +343,13 @@ fn in_layouts(function: &str, words: &mut Words) -> Option<Answer> {
         "nibe::frame" => says(head_text(frames::nibe(&words.bytes()?))),
         "homiq::frame" => says(head_text(frames::homiq(&words.bytes()?))),
         "homiq::crc" => says(frames::homiq_crc(&words.bytes()?)),
+        "nikobus::may_start" => says(starts::nikobus(&words.bytes()?)),
+        "nest::may_start" => says(starts::nest(words.direction()?, &words.bytes()?)),
+        "nibe::may_start" => says(starts::nibe(&words.bytes()?)),
+        "homiq::may_start" => says(starts::homiq(&words.bytes()?)),
+        "nikobus::all_digits" => says(digits::all_hex(&words.bytes()?)),
+        "nibe::is_command" => says(frames::NIBE_COMMANDS.contains(&words.number()?)),
+        "homiq::is_payload" => says(frames::homiq_content(&words.bytes()?)),
         _ => None,
     }
 }
@@ -345,10 +368,17 @@ fn in_builds(function: &str, words: &mut Words) -> Option<Answer> {
 }
 
 fn in_frames(function: &str, words: &mut Words) -> Option<Answer> {
-    let kind = words.number()?;
-    if function == "kinds::known" {
-        return says(frames::known(kind));
+    match function {
+        "kinds::known" => says(frames::known(words.number()?)),
+        "kinds::of" => tries(frames::kind_name(words.number()?)),
+        "kinds::number" => says(words.kind()?),
+        _ => in_bytes(function, words),
     }
+}
+
+/// The frames of a kind in bytes.
+fn in_bytes(function: &str, words: &mut Words) -> Option<Answer> {
+    let kind = words.number()?;
     let bytes = words.bytes()?;
     if function == "one_frame" {
         return tries(frames::one_frame(kind, &bytes).map(places));
@@ -388,10 +418,15 @@ fn in_messages(function: &str, words: &mut Words) -> Option<Answer> {
             let head = frames::one_frame(kind, &bytes);
             part(head.map(|head| &bytes[head.begins..head.ends]))
         }
-        "message_in" => {
-            let decoded = messages::decode(words.number()?, &words.bytes()?);
-            tries(decoded.map(|(message, _)| message_text(&message)))
+        "nikobus::of_link" => means(messages::of_link(&words.bytes()?)),
+        "nikobus::of_press" => means(messages::of_press(&words.bytes()?)),
+        "nest::of" => {
+            let (preamble, id) = (words.direction()?, words.number()?);
+            means(messages::of_nest(preamble, id, &words.bytes()?))
         }
+        "nibe::of" => means(messages::of_nibe(words.number()?, &words.bytes()?)),
+        "homiq::of" => means(messages::of_homiq(&words.bytes()?)),
+        "allowed" => passes(messages::allowed(&words.message()?, &words.bytes()?)),
         "nest::for_panel" => for_panel(&words.message()?),
         "nest::voltages" => {
             let voltages = messages::voltages(&words.bytes()?);
@@ -444,28 +479,32 @@ fn in_commands(function: &str, words: &mut Words) -> Option<Answer> {
 }
 
 fn in_lines(function: &str, words: &mut Words) -> Option<Answer> {
-    let (kind, bytes, place) = (words.number()?, words.bytes()?, words.number()?);
-    let mut room = words.room()?;
-    let result = match function {
-        "write" => return writes(room, lines::line(kind, &bytes, place)),
+    match function {
+        "write" => {
+            let line = lines::line(words.number()?, &words.bytes()?, words.number()?);
+            writes(words.room()?, line)
+        }
         "next" => {
+            let next = lines::next(words.number()?, &words.bytes()?, words.number()?);
+            let mut room = words.room()?;
             let to = words.number()?;
-            lines::next(kind, &bytes, place).map(|(found, line)| {
+            let result = next.map(|(found, line)| {
                 let behind = room.put(to, &line);
                 format!("{} {} {behind}", found.start, found.length)
+            });
+            Some(Answer {
+                result,
+                room: Some(room),
             })
         }
-        "tested" => {
-            let to = words.number()?;
-            let line = lines::line(kind, &bytes, place);
-            line.map(|line| room.put(to, &line).to_string())
+        "of" => {
+            let (message, content) = (words.message()?, words.bytes()?);
+            let line = lines::of(&message, &content, words.number()?, words.number()?);
+            let room = words.room()?;
+            writes_at(room, words.number()?, line)
         }
-        _ => return None,
-    };
-    Some(Answer {
-        result,
-        room: Some(room),
-    })
+        _ => None,
+    }
 }
 
 fn in_book(function: &str, words: &mut Words) -> Option<Answer> {
@@ -534,7 +573,10 @@ mod tests {
             "commands::encode",
             "lines::write",
             "lines::next",
-            "lines::tested",
+            "lines::of",
+            "messages::allowed",
+            "messages::nest::of",
+            "frames::kinds::of",
             "book::open",
             "book::line",
             "book::add",

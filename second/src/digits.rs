@@ -25,6 +25,11 @@ pub fn hex(bytes: &[u8]) -> Vec<u8> {
     bytes.iter().flat_map(pair).collect()
 }
 
+/// Whether all are hex characters.
+pub fn all_hex(characters: &[u8]) -> bool {
+    characters.iter().all(|c| hex_value(*c).is_some())
+}
+
 /// The bytes whose characters these are, two a byte.
 pub fn bytes_of_hex(characters: &[u8]) -> Option<Vec<u8>> {
     if !characters.len().is_multiple_of(2) {

@@ -19,8 +19,29 @@ pub const MOST_NEST_PAYLOAD: usize = 1024;
 pub const MOST_NIBE_DATA: usize = 255;
 pub const NIBE_COMMANDS: &[u8] = &[0x60, 0x62, 0x68, 0x69, 0x6A, 0x6B, 0x6C];
 
+/// The kinds and the names that requests have for them.
+const KIND_NAMES: [(u8, &str); 5] = [
+    (NIKOBUS, "nikobus"),
+    (NEST_COMMAND, "nest-command"),
+    (NEST_RESPONSE, "nest-response"),
+    (NIBE, "nibe"),
+    (HOMIQ, "homiq"),
+];
+
 pub fn known(kind: u8) -> bool {
     (1..=5).contains(&kind)
+}
+
+/// The name of a kind: 2.
+pub fn kind_name(kind: u8) -> Result<&'static str, Refusal> {
+    let found = KIND_NAMES.iter().find(|(number, _)| *number == kind);
+    found.map(|(_, name)| *name).ok_or(Refusal::Kind)
+}
+
+/// The kind of that name.
+pub fn kind_named(name: &[u8]) -> Option<u8> {
+    let found = KIND_NAMES.iter().find(|(_, own)| own.as_bytes() == name);
+    found.map(|(number, _)| *number)
 }
 
 /// A frame at the head of bytes: its length, and where in it its payload begins and ends.
@@ -82,6 +103,26 @@ pub fn one_frame(kind: u8, bytes: &[u8]) -> Result<Head, Refusal> {
     match head(kind, bytes) {
         Some(frame) if frame.length == bytes.len() => Ok(frame),
         _ => Err(Refusal::Limits),
+    }
+}
+
+/// Whether a frame of a bus can begin with the first three bytes, as docs/CALLS.md says.
+pub mod starts {
+    pub fn nikobus(bytes: &[u8]) -> bool {
+        matches!(bytes, [b'$' | b'#', 0x30..=0xFF, _, ..])
+    }
+
+    /// By the direction's preamble, of which the first three bytes are looked at.
+    pub fn nest(preamble: &[u8], bytes: &[u8]) -> bool {
+        bytes.starts_with(&preamble[..3])
+    }
+
+    pub fn nibe(bytes: &[u8]) -> bool {
+        matches!(bytes, [0xC0, 0x60..=0x6F, _, ..])
+    }
+
+    pub fn homiq(bytes: &[u8]) -> bool {
+        bytes.len() >= 3 && bytes.starts_with(b"<;")
     }
 }
 

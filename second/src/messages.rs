@@ -171,6 +171,53 @@ fn nikobus_message(frame: &[u8], payload: &[u8]) -> Result<Message, Refusal> {
     Ok(link_message(&bytes))
 }
 
+/// The message of a link with these digits: 5.
+pub fn of_link(digits: &[u8]) -> Result<Message, Refusal> {
+    match digits::bytes_of_hex(digits) {
+        Some(payload) if (1..=frames::MOST_LINK_BYTES).contains(&payload.len()) => {
+            Ok(link_message(&payload))
+        }
+        _ => Err(Refusal::Limits),
+    }
+}
+
+/// The message of a press with these digits: 5.
+pub fn of_press(digits: &[u8]) -> Result<Message, Refusal> {
+    match <[u8; 6]>::try_from(digits) {
+        Ok(digits) if digits::all_hex(&digits) => Ok(Message::Press { digits }),
+        _ => Err(Refusal::Limits),
+    }
+}
+
+/// The message of a Nest command or response; the preamble says which: 5.
+pub fn of_nest(preamble: &[u8], id: u16, payload: &[u8]) -> Result<Message, Refusal> {
+    if payload.len() > frames::MOST_NEST_PAYLOAD {
+        Err(Refusal::Limits)
+    } else if preamble == frames::COMMAND_PREAMBLE {
+        Ok(Message::Command { id })
+    } else {
+        Ok(response_message(id, payload))
+    }
+}
+
+/// The message of a Nibe command with these data: 5.
+pub fn of_nibe(command: u8, data: &[u8]) -> Result<Message, Refusal> {
+    if frames::NIBE_COMMANDS.contains(&command) && data.len() <= frames::MOST_NIBE_DATA {
+        Ok(nibe_message(command, data))
+    } else {
+        Err(Refusal::Limits)
+    }
+}
+
+/// The message of CMD to TYPE: 5.
+pub fn of_homiq(content: &[u8]) -> Result<Message, Refusal> {
+    if frames::homiq_content(content) {
+        Ok(homiq_message(content))
+    } else {
+        Err(Refusal::Limits)
+    }
+}
+
 /// The message of a link's payload, as bytes.
 pub fn link_message(payload: &[u8]) -> Message {
     match payload {
@@ -378,6 +425,16 @@ pub fn encode(kind: u8, message: &Message, content: &[u8]) -> Result<Vec<u8>, Re
             }
             Ok(frame)
         }
+    }
+}
+
+/// Whether a message with this content is one of the table: 5, 6. It is what can be encoded, and a width that there is not is outside
+/// its limits here.
+pub fn allowed(message: &Message, content: &[u8]) -> Result<(), Refusal> {
+    match encode(message.kind(), message, content) {
+        Ok(_) => Ok(()),
+        Err(Refusal::Form) => Err(Refusal::Limits),
+        Err(refusal) => Err(refusal),
     }
 }
 

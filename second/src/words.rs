@@ -94,6 +94,11 @@ impl<'a> Words<'a> {
         }
     }
 
+    /// A kind, by its name.
+    pub fn kind(&mut self) -> Option<u8> {
+        frames::kind_named(self.word()?)
+    }
+
     /// A number of decimals of a reading.
     pub fn decimals(&mut self) -> Option<u32> {
         match self.word()? {
@@ -173,9 +178,16 @@ pub struct Room {
 impl Room {
     /// From the front, all of it or nothing: how many bytes; 4.
     pub fn write(&mut self, bytes: &[u8]) -> Result<usize, Refusal> {
-        match self.bytes.get_mut(..bytes.len()) {
-            Some(front) => {
-                front.copy_from_slice(bytes);
+        self.write_at(0, bytes)
+    }
+
+    /// The same from a place on; none are left behind a place that is beyond the room.
+    pub fn write_at(&mut self, to: u64, bytes: &[u8]) -> Result<usize, Refusal> {
+        let start = usize::try_from(to).map_err(|_| Refusal::Room)?;
+        let left = self.bytes.get_mut(start..).unwrap_or_default();
+        match left.get_mut(..bytes.len()) {
+            Some(place) => {
+                place.copy_from_slice(bytes);
                 Ok(bytes.len())
             }
             None => Err(Refusal::Room),

@@ -3,6 +3,8 @@ pub mod One
 pub mod Pieces
 pub mod Place
 pub mod Added
+pub mod Contents
+pub mod OneLine
 pub mod Turns
 pub mod BookLines
 pub mod Listed

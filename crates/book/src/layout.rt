@@ -99,7 +99,7 @@ pub(crate) fn put_end(count: usize, room: &mut [u8], at: usize) -> usize
 }
 
 // The number of two bytes at a place.
-fn two(s: &[u8], at: usize) -> usize
+pub(crate) fn two(s: &[u8], at: usize) -> usize
     requires { ⌜ at + 2 ≤ length (now s) ⌝ }
     ensures { λ r. ⌜ (r < 65536) × NumberAt (now (s .entry)) at 2 r ⌝ }
 {

@@ -1,5 +1,6 @@
 // The capture book: frames kept in one string of bytes, each entry with its kind, and a trailer that says where they stand.
 mod adding;
+mod contents;
 mod layout;
 mod listing;
 mod opening;

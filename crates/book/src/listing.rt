@@ -1,10 +1,26 @@
 // The lines of all entries of a book.
+use super::contents;
 use super::layout;
 use digits::refusal::Refusal;
+use messages::Meant;
 use puts::Written;
+ghost use mathlib.Core.Path.{_≡_};
+ghost use Prim.Native.Nat.{_-_};
+ghost use lib.ListN.{length};
+ghost use Rattle.frames.specs.Paper.Whole.{OneFrame};
+ghost use Rattle.puts.specs.Paper.Wrote.{writtenCount};
 ghost use Rattle.book.specs.Paper.Answers.{WritesBookLines};
 ghost use Rattle.book.specs.Work.Reading.{Noting};
-ghost use Rattle.book.specs.Work.Writing.{PutsBookLines, Sized, Fits};
+ghost use Rattle.book.specs.Work.Writing.{placeFor, Roomy, Lists, RoomFor, PutsOne, Sized, Fits};
+
+// No line of an entry is longer.
+const LONGEST: usize = 8368;
+
+// What lines are put for: to be written one behind the other, or to be measured, each at the front of a room that all of them may use.
+pub(crate) enum Aim {
+    Write,
+    Measure,
+}
 
 // Writes the lines of a valid book with so many entries, whose payloads' places have been noted.
 pub(crate) fn write(book: &[u8], count: usize, places: &[usize], room: &mut [u8]) -> Written
@@ -14,7 +30,7 @@ pub(crate) fn write(book: &[u8], count: usize, places: &[usize], room: &mut [u8]
     if !fits(book, count, places, room.len()) {
         return Written::Refused(Refusal::Room);
     }
-    Written::Bytes(put(book, count, places, room, 0))
+    Written::Bytes(put(book, count, places, Aim::Write, room))
 }
 
 // Whether a room of so many bytes has room for the lines. Only where it might not are they measured.
@@ -28,22 +44,23 @@ fn fits(book: &[u8], count: usize, places: &[usize], room: usize) -> bool
     size(book, count, places) <= room
 }
 
-// How long the lines are: the writer in a room too short.
+// How long the lines are.
 fn size(book: &[u8], count: usize, places: &[usize]) -> usize
     requires { ⌜ Noting (now book) count (now places) ⌝ }
     ensures { λ r. ⌜ Sized (now (book .entry)) r ⌝ }
 {
-    let mut none = [0u8; 1];
-    put(book, count, places, &mut none, 0)
+    let mut scratch = [0u8; LONGEST];
+    put(book, count, places, Aim::Measure, &mut scratch)
 }
 
-// Puts the lines, entry after entry.
-fn put(book: &[u8], count: usize, places: &[usize], room: &mut [u8], to: usize) -> usize
+// Puts the lines, entry after entry, and answers how long they are together.
+fn put(book: &[u8], count: usize, places: &[usize], aim: Aim, room: &mut [u8]) -> usize
     requires { ⌜ Noting (now book) count (now places) ⌝ }
-    ensures { λ r. ⌜ PutsBookLines (now (book .entry)) (now (room .entry)) (now (room .exit)) to r ⌝ }
+    requires { ⌜ Roomy aim (now book) (length (now room)) ⌝ }
+    ensures { λ r. ⌜ Lists aim (now (book .entry)) (now (room .entry)) (now (room .exit)) r ⌝ }
 {
     let mut at = 0;
-    let mut next = to;
+    let mut next = 0;
     let mut i = 0;
     while i < count {
         let head = layout::head_at(book, at);
@@ -52,9 +69,52 @@ fn put(book: &[u8], count: usize, places: &[usize], room: &mut [u8], to: usize) 
         let behind = head.to;
         let start = places[i];
         let stop = places[layout::MOST_ENTRIES + i];
-        next = lines::tested(kind, &book[from..behind], start, stop, at, room, next);
+        let to = place_for(aim, next);
+        next += put_line(kind, &book[from..behind], start, stop, at, room, to);
         at = behind;
         i += 1;
     }
     next
+}
+
+// Where the line behind so many bytes of lines goes.
+fn place_for(aim: Aim, bytes: usize) -> usize
+    ensures { λ r. ⌜ r ≡ placeFor aim bytes ⌝ }
+{
+    match aim {
+        Aim::Write => bytes,
+        Aim::Measure => 0,
+    }
+}
+
+// Puts the line of one frame, which stands at `at` of the book and whose payload goes from the one place to the other, at a place of a
+// room that has room for it there. Answers how long it is: neither the message nor its line is ever refused.
+fn put_line(
+    kind: u8,
+    frame: &[u8],
+    start: usize,
+    stop: usize,
+    at: usize,
+    room: &mut [u8],
+    to: usize,
+) -> usize
+    requires { ⌜ OneFrame kind (now frame) (record { from = start; to = stop }) ⌝ }
+    requires { ⌜ RoomFor kind (now frame) at (length (now room) - to) ⌝ }
+    ensures { λ r. ⌜ PutsOne kind (now (frame .entry)) at (now (room .entry)) (now (room .exit)) to r ⌝ }
+{
+    let payload = &frame[start..stop];
+    match contents::message(kind, frame, payload) {
+        Meant::Is(message) => { bytes_in(lines::of(message, payload, at, frame.len(), room, to)) }
+        Meant::Refused(why) => 0,
+    }
+}
+
+// How many bytes were written.
+fn bytes_in(written: Written) -> usize
+    ensures { λ r. ⌜ r ≡ writtenCount written ⌝ }
+{
+    match written {
+        Written::Bytes(n) => n,
+        Written::Refused(why) => 0,
+    }
 }

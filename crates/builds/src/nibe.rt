@@ -1,14 +1,13 @@
 // Nibe frames.
 use checks::nibe::Xor;
 use digits::refusal::Refusal;
+use layouts::nibe;
 use puts::Written;
-ghost use mathlib.Core.Path.{_≡_};
 ghost use Prim.Native.Nat.{_≤_};
 ghost use lib.ListN.{length};
-ghost use Rattle.layouts.specs.Paper.Chars.{oneOf};
 ghost use Rattle.layouts.specs.Paper.Layout.{bytesOf};
 ghost use Rattle.layouts.specs.Paper.Made.{nibeOf};
-ghost use Rattle.layouts.specs.Paper.Nibe.{nibe, commands};
+ghost use Rattle.layouts.specs.Paper.Nibe.{nibe};
 ghost use Rattle.puts.specs.Paper.Put.{Put};
 ghost use Rattle.builds.specs.Paper.Builds.{Builds};
 
@@ -16,7 +15,7 @@ ghost use Rattle.builds.specs.Paper.Builds.{Builds};
 pub fn frame(command: u8, content: &[u8], room: &mut [u8]) -> Written
     ensures { λ r. ⌜ Builds nibe (nibeOf command (now (content .entry))) (now (room .entry)) r (now (room .exit)) ⌝ }
 {
-    if !is_command(command) {
+    if !nibe::is_command(command) {
         return Written::Refused(Refusal::Limits);
     }
     if 255 < content.len() {
@@ -40,29 +39,4 @@ fn put_frame(command: u8, content: &[u8], room: &mut [u8]) -> usize
     let mut at = puts::bytes(&head, room, 0);
     at = puts::bytes(content, room, at);
     puts::byte(xor, room, at)
-}
-
-// Whether a command is one of the seven.
-fn is_command(c: u8) -> bool
-    ensures { λ r. ⌜ r ≡ oneOf commands c ⌝ }
-{
-    if c == 0x60 {
-        return true;
-    }
-    if c == 0x62 {
-        return true;
-    }
-    if c == 0x68 {
-        return true;
-    }
-    if c == 0x69 {
-        return true;
-    }
-    if c == 0x6A {
-        return true;
-    }
-    if c == 0x6B {
-        return true;
-    }
-    c == 0x6C
 }

@@ -3,11 +3,10 @@ use checks::nikobus::Crc8;
 use checks::nikobus::Crc16;
 use digits::hex;
 use digits::refusal::Refusal;
+use layouts::nikobus;
 use puts::Written;
-ghost use mathlib.Core.Path.{_≡_};
 ghost use Prim.Native.Nat.{_+_, _*_, _≤_};
 ghost use lib.ListN.{length};
-ghost use Rattle.layouts.specs.Paper.Chars.{all, isHex};
 ghost use Rattle.layouts.specs.Paper.Layout.{bytesOf};
 ghost use Rattle.layouts.specs.Paper.Made.{linkOf};
 ghost use Rattle.layouts.specs.Paper.Nikobus.{nikobus, press, tail};
@@ -56,7 +55,7 @@ pub fn press(digits: &[u8], room: &mut [u8]) -> Written
     if digits.len() != 6 {
         return Written::Refused(Refusal::Limits);
     }
-    if !all_hex(digits) {
+    if !nikobus::all_digits(digits) {
         return Written::Refused(Refusal::Limits);
     }
     let whole = [
@@ -71,21 +70,6 @@ pub fn press(digits: &[u8], room: &mut [u8]) -> Written
         13,
     ];
     puts::front(&whole, room)
-}
-
-// Whether each character is a hex digit, upper case only.
-fn all_hex(s: &[u8]) -> bool
-    ensures { λ r. ⌜ r ≡ all isHex (now (s .entry)) ⌝ }
-{
-    let mut i = 0;
-    while i < s.len() {
-        match hex::value(s[i]) {
-            hex::Byte::Is(_) => {}
-            hex::Byte::NoDigit => return false,
-        }
-        i += 1;
-    }
-    true
 }
 
 // A tail.

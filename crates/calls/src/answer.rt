@@ -7,6 +7,7 @@ use checks::rule::Order;
 use checks::rule::Rule;
 use digits::refusal;
 use digits::refusal::Refusal;
+use frames::kinds::Kind;
 use messages::nikobus::Six;
 use numbers::panel;
 use numbers::panel::Climate;
@@ -119,6 +120,21 @@ pub(crate) fn word(word: u64) -> Answer {
 
 pub(crate) fn truth(b: bool) -> Answer {
     word(truth_word(b))
+}
+
+pub(crate) fn kind(k: Kind) -> Answer {
+    word(kind_word(k))
+}
+
+// The names of the kinds are the words 30 to 34.
+fn kind_word(k: Kind) -> u64 {
+    match k {
+        Kind::Nikobus => 30,
+        Kind::NestCommand => 31,
+        Kind::NestResponse => 32,
+        Kind::Nibe => 33,
+        Kind::Homiq => 34,
+    }
 }
 
 // So many numbers before what is said, or behind it.
@@ -357,24 +373,27 @@ fn front(room: &[u8], n: u64) -> &[u8] {
 // A space and the word of a number; nothing for 0. The first 23 are the messages, in the order of the table.
 fn write_word(n: u64, out: &mut [u8], at: usize) -> usize {
     let words = b"\
-        read    set     answer  press   tail    link    command climate state   break   end     text    \
-        responseask     reply   put     done    nibe    output  input   shutter beat    homiq   \
-        true    false   single  double  high    low     ";
+        read            set             answer          press           tail            link            \
+        command         climate         state           break           end             text            \
+        response        ask             reply           put             done            nibe            \
+        output          input           shutter         beat            homiq           true            \
+        false           single          double          high            low             nikobus         \
+        nest-command    nest-response   nibe            homiq           ";
     if n == 0 {
         return at;
     }
-    output::word(eight(words, n), out, at)
+    output::word(sixteen(words, n), out, at)
 }
 
-// The n-th eight characters of the words, without the spaces behind.
-fn eight(words: &[u8], n: u64) -> &[u8] {
-    if words.len() / 8 < n as usize {
+// The n-th sixteen characters of the words, without the spaces behind.
+fn sixteen(words: &[u8], n: u64) -> &[u8] {
+    if words.len() / 16 < n as usize {
         return &words[0..0];
     }
     if n == 0 {
         return &words[0..0];
     }
-    let from = 8 * (n as usize - 1);
-    let w = &words[from..from + 8];
+    let from = 16 * (n as usize - 1);
+    let w = &words[from..from + 16];
     &w[0..table::until(w, b' ')]
 }

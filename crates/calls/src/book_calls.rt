@@ -2,20 +2,21 @@
 use super::answer;
 use super::answer::Answer;
 use super::digit_calls::put;
+use super::message;
 use super::put_calls::written;
 use super::request;
 use super::value;
 use book::Kept;
 use book::Opened;
-use frames::Whole;
 use lines::Listed;
+use puts::Written;
 
 pub(crate) fn read(line: &[u8], values: &mut [u64; 16], store: &mut [u8]) -> usize {
     request::read(
         b"\
         lines::write u8 bytes usize room\n\
         lines::next u8 bytes usize room usize\n\
-        lines::tested u8 bytes usize room usize\n\
+        lines::of Message bytes usize usize room usize\n\
         book::open bytes\n\
         book::entry bytes usize\n\
         book::frame bytes usize\n\
@@ -58,8 +59,19 @@ fn of_line(row: usize, values: &[u64; 16], store: &[u8], room: &mut [u8]) -> Ans
     match row {
         1 => written(lines::write(kind, s, at, room)),
         2 => listed(lines::next(kind, s, at, room, value::place(values[4]))),
-        _ => tested(kind, s, at, room, value::place(values[4])),
+        _ => written(line_of(values, store, room)),
     }
+}
+
+fn line_of(values: &[u64; 16], store: &[u8], room: &mut [u8]) -> Written {
+    lines::of(
+        message::of(values, store),
+        value::bytes(store, values[8], values[9]),
+        value::place(values[10]),
+        value::place(values[11]),
+        room,
+        value::place(values[12]),
+    )
 }
 
 fn listed(r: Listed) -> Answer {
@@ -68,16 +80,6 @@ fn listed(r: Listed) -> Answer {
             answer::three(start as u64, len as u64, behind as u64)
         }
         Listed::Refused(why) => answer::refused(why),
-    }
-}
-
-// The places are asked of the caller, and proved here: they are those of the one frame.
-fn tested(kind: u8, s: &[u8], at: usize, room: &mut [u8], to: usize) -> Answer {
-    match frames::one_frame(kind, s) {
-        Whole::Is { from, to: end } => {
-            answer::number(lines::tested(kind, s, from, end, at, room, to) as u64)
-        }
-        Whole::Refused(why) => answer::refused(why),
     }
 }
 

@@ -5,6 +5,7 @@ use super::book_calls;
 use super::check_calls;
 use super::digit_calls;
 use super::frame_calls;
+use super::layout_calls;
 use super::message_calls;
 use super::number_calls;
 use super::output;
@@ -60,7 +61,8 @@ fn row(library: usize, line: &[u8], values: &mut [u64; 16], store: &mut [u8]) ->
         2 => check_calls::read(line, values, store),
         3 | 4 => put_calls::read(line, values, store),
         5 => number_calls::read(line, values, store),
-        6 | 7 | 8 => frame_calls::read(line, values, store),
+        6 => layout_calls::read(line, values, store),
+        7 | 8 => frame_calls::read(line, values, store),
         9 | 10 => message_calls::read(line, values, store),
         11 | 12 | 13 => book_calls::read(line, values, store),
         _ => 0,
@@ -139,7 +141,8 @@ fn call(asked: Asked, values: &[u64; 16], store: &[u8], room: &mut [u8]) -> Answ
         2 => check_calls::call(row, values, store),
         3 | 4 => put_calls::call(row, values, store, room),
         5 => number_calls::call(row, values, store, room),
-        6 | 7 | 8 => frame_calls::call(row, values, store, room),
+        6 => layout_calls::call(row, values, store),
+        7 | 8 => frame_calls::call(row, values, store, room),
         9 | 10 => message_calls::call(row, values, store, room),
         _ => book_calls::call(row, values, store, room),
     }

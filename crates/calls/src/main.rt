@@ -8,6 +8,7 @@ mod check_calls;
 mod digit_calls;
 mod float;
 mod frame_calls;
+mod layout_calls;
 mod message;
 mod message_calls;
 mod number_calls;

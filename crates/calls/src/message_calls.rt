@@ -2,17 +2,21 @@
 use super::answer;
 use super::answer::Answer;
 use super::digit_calls::put;
+use super::layout_calls::direction;
 use super::message;
 use super::put_calls::written;
 use super::request;
 use super::value;
-use frames::Whole;
 use messages::Decoded;
+use messages::Meant;
 use messages::Seen;
+use messages::Standing;
 use messages::homiq;
 use messages::nest;
 use messages::nest::Pair;
 use messages::nest::Volts;
+use messages::nibe;
+use messages::nikobus;
 
 pub(crate) fn read(line: &[u8], values: &mut [u64; 16], store: &mut [u8]) -> usize {
     request::read(
@@ -20,7 +24,12 @@ pub(crate) fn read(line: &[u8], values: &mut [u64; 16], store: &mut [u8]) -> usi
         messages::decode u8 bytes\n\
         messages::find u8 bytes usize\n\
         messages::content u8 bytes\n\
-        messages::message_in u8 bytes\n\
+        messages::nikobus::of_link bytes\n\
+        messages::nikobus::of_press bytes\n\
+        messages::homiq::of bytes\n\
+        messages::nest::of Direction u16 bytes\n\
+        messages::nibe::of u8 bytes\n\
+        messages::allowed Message bytes\n\
         messages::nest::for_panel Message\n\
         messages::nest::voltages bytes\n\
         messages::homiq::field bytes usize\n\
@@ -33,15 +42,22 @@ pub(crate) fn read(line: &[u8], values: &mut [u64; 16], store: &mut [u8]) -> usi
 }
 
 pub(crate) fn call(row: usize, values: &[u64; 16], store: &[u8], room: &mut [u8]) -> Answer {
-    if row < 5 {
+    if row < 4 {
         return in_frame(row, values, store, room);
+    }
+    if row < 9 {
+        return meant(of_content(row, values, store));
     }
     let s = value::bytes(store, values[0], values[1]);
     match row {
-        5 => for_panel(values),
-        6 => volts(nest::voltages(s)),
-        7 => put(homiq::field(s, value::place(values[2])), room),
-        8 => written(commands::encode(
+        9 => standing(messages::allowed(
+            message::of(values, store),
+            value::bytes(store, values[8], values[9]),
+        )),
+        10 => for_panel(values),
+        11 => volts(nest::voltages(s)),
+        12 => put(homiq::field(s, value::place(values[2])), room),
+        13 => written(commands::encode(
             value::small(values[0]),
             message::of(values, store),
             value::bytes(store, values[8], values[9]),
@@ -57,8 +73,40 @@ fn in_frame(row: usize, values: &[u64; 16], store: &[u8], room: &mut [u8]) -> An
     match row {
         1 => decoded(messages::decode(kind, s)),
         2 => seen(messages::find(kind, s, value::place(values[3]))),
-        3 => put(messages::content(kind, s), room),
-        _ => message_in(kind, s),
+        _ => put(messages::content(kind, s), room),
+    }
+}
+
+fn of_content(row: usize, values: &[u64; 16], store: &[u8]) -> Meant {
+    let s = value::bytes(store, values[0], values[1]);
+    match row {
+        4 => nikobus::of_link(s),
+        5 => nikobus::of_press(s),
+        6 => homiq::of(s),
+        7 => nest::of(
+            direction(values[0]),
+            value::word(values[1]),
+            value::bytes(store, values[2], values[3]),
+        ),
+        _ => nibe::of(
+            value::small(values[0]),
+            value::bytes(store, values[1], values[2]),
+        ),
+    }
+}
+
+fn meant(r: Meant) -> Answer {
+    match r {
+        Meant::Is(message) => message::told(message),
+        Meant::Refused(why) => answer::refused(why),
+    }
+}
+
+// A message that is one of the table has no value.
+fn standing(r: Standing) -> Answer {
+    match r {
+        Standing::Good => answer::word(0),
+        Standing::Refused(why) => answer::refused(why),
     }
 }
 
@@ -95,14 +143,6 @@ fn seen(r: Seen) -> Answer {
             true,
         ),
         Seen::Refused(why) => answer::refused(why),
-    }
-}
-
-// The places are asked of the caller, and proved here: they are those of the one frame.
-fn message_in(kind: u8, s: &[u8]) -> Answer {
-    match frames::one_frame(kind, s) {
-        Whole::Is { from, to } => message::told(messages::message_in(kind, s, from, to)),
-        Whole::Refused(why) => answer::refused(why),
     }
 }
 

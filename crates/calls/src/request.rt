@@ -162,13 +162,13 @@ fn one(kind: &[u8], line: &[u8], c: Cursor, values: &mut [u64; 16], store: &mut 
     };
     let n = table::number(
         kind,
-        b"u8\nu16\nu32\nu64\nusize\ni16\ni32\ni64\nbool\nDirection\nDecimals\nRefusal\nroom\nbytes\nfour\nsix\n",
+        b"u8\nu16\nu32\nu64\nusize\ni16\ni32\ni64\nbool\nDirection\nDecimals\nRefusal\nKind\nroom\nbytes\nfour\nsix\n",
     );
     match n {
-        13 => room(word, next, values),
-        14 => bytes(word, next, values, store),
-        15 => so_many(4, c.used, bytes(word, next, values, store)),
-        16 => so_many(6, c.used, bytes(word, next, values, store)),
+        14 => room(word, next, values),
+        15 => bytes(word, next, values, store),
+        16 => so_many(4, c.used, bytes(word, next, values, store)),
+        17 => so_many(6, c.used, bytes(word, next, values, store)),
         _ => plain(n, word, next, values),
     }
 }

@@ -15,7 +15,7 @@ struct Made {
     wrong: bool,
 }
 
-// The value of a word that is to be of a type, by the type's number in `TYPES` of request.rt. A number below zero is its other bits.
+// The value of a word that is to be of a type, by the type's number in the list of request.rt. A number below zero is its other bits.
 pub(crate) fn of(kind: usize, word: &[u8]) -> Value {
     match kind {
         1 => unsigned(word, 255),
@@ -33,6 +33,7 @@ pub(crate) fn of(kind: usize, word: &[u8]) -> Value {
             word,
             b"NoFrame\nKind\nPlace\nRoom\nLimits\nAbove\nForm\nBook\n",
         ),
+        13 => named(word, b"nikobus\nnest-command\nnest-response\nnibe\nhomiq\n"),
         _ => Value::Wrong,
     }
 }

@@ -13,16 +13,12 @@ use Rattle.digits.specs.Paper.Refusals.{refusalNumber, order}
 use Rattle.digits.specs.declared.refusal.Refusal.{Refusal}
 use Rattle.digits.specs.declared.refusal.Refusal.the-variants.{NoFrame}
 use Rattle.numbers.proofs.Theorems.Text.{exact, written-then-read, read-then-written}
-use Rattle.checks.specs.Paper.Bits.{bitsOfBytes}
-use Rattle.checks.specs.Paper.Check.{Check}
-use Rattle.checks.specs.Paper.Stretch.{FitIn}
 use Rattle.layouts.specs.Paper.Chars.{oneOf}
-use Rattle.frames.specs.Paper.Demand.{Carries, link, command, response, nibe, homiq}
 use Rattle.frames.specs.Paper.Kinds.{known, Frame}
 use Rattle.frames.specs.Paper.Search.{SearchCause, no-frame, no-kind, no-place, Searches}
 use Rattle.frames.specs.declared.Found.{Found}
 use Rattle.frames.specs.declared.Found.the-variants.{At, Refused}
-use Rattle.frames.proofs.Demand.{nikobus-links, nest-commands, nest-responses, nibe-frames, homiq-frames}
+use Rattle.frames.proofs.Demand as frames-demand
 use Rattle.frames.proofs.Laws.Kinds.{frame-known}
 use Rattle.frames.proofs.Laws.Runs as runs
 use Rattle.messages.specs.Paper.Answers.{DecodeCause, no-kind as unknown, no-message, Said, Decodes}
@@ -31,12 +27,11 @@ use Rattle.messages.specs.declared.Decoded.the-variants.{Is, Refused as NoMessa
 use Rattle.messages.specs.declared.Message.{Message as Coded}
 use Rattle.messages.proofs.Laws.Cases.{said-in}
 use Rattle.messages.proofs.Laws.Decode.{is-frame}
-use Rattle.messages.proofs.Theorems.{has-message, one-message-of}
+use Rattle.messages.proofs.Theorems.{has-message, one-message-of, stands-bytes}
 use Rattle.commands.proofs.Theorems.{same-bytes, same-message}
 use Rattle.lines.proofs.Theorems.{has-line, one-line, same-frame}
-use Rattle.claims.specs.Paper.Row.{Row, Kept, Proper, Every}
+use Rattle.claims.specs.Paper.Row.{Row, Proper, Every}
 use Rattle.claims.proofs.Laws.Kept.{joined}
-use Rattle.claims.proofs.Table.Asking.{asking, asking-kept}
 use Rattle.claims.proofs.Table.Digits as digits
 use Rattle.claims.proofs.Table.Checks as checks
 use Rattle.claims.proofs.Table.Puts as puts
@@ -51,7 +46,7 @@ use Rattle.claims.proofs.Table.Lines as lines
 use Rattle.claims.proofs.Table.Book as book
 use Rattle.claims.proofs.Table.List as list
 use Rattle.claims.proofs.Table.Host as host
-use Rattle.claims.specs.Paper.Demands.{LeftmostOrNone, leftmost, none-exists, Demand2, stretch, bitOrder, Demand3}
+use Rattle.claims.specs.Paper.Demands.{LeftmostOrNone, leftmost, none-exists, Demand2, Demand3}
 
 -- ---- DEMAND 1
 
@@ -150,9 +145,16 @@ pub the-table : map {B = List ℕ × List ℕ} (λ (f : Row). (f .name, f .refus
     ∷ (ascii "json::unsigned", [])
     ∷ (ascii "layouts::homiq::frame", [])
     ∷ (ascii "layouts::homiq::crc", [])
+    ∷ (ascii "layouts::homiq::may_start", [])
+    ∷ (ascii "layouts::homiq::is_payload", [])
     ∷ (ascii "layouts::nest::frame", [])
+    ∷ (ascii "layouts::nest::may_start", [])
     ∷ (ascii "layouts::nibe::frame", [])
+    ∷ (ascii "layouts::nibe::may_start", [])
+    ∷ (ascii "layouts::nibe::is_command", [])
     ∷ (ascii "layouts::nikobus::frame", [])
+    ∷ (ascii "layouts::nikobus::may_start", [])
+    ∷ (ascii "layouts::nikobus::all_digits", [])
     ∷ (ascii "builds::homiq::frame", 5 ∷ 4 ∷ [])
     ∷ (ascii "builds::nest::frame", 5 ∷ 4 ∷ [])
     ∷ (ascii "builds::nibe::frame", 5 ∷ 4 ∷ [])
@@ -163,17 +165,26 @@ pub the-table : map {B = List ℕ × List ℕ} (λ (f : Row). (f .name, f .refus
     ∷ (ascii "frames::frame", 2 ∷ 3 ∷ 1 ∷ [])
     ∷ (ascii "frames::payload", 2 ∷ 3 ∷ 1 ∷ [])
     ∷ (ascii "frames::one_frame", 2 ∷ 5 ∷ [])
+    ∷ (ascii "frames::kinds::of", 2 ∷ [])
+    ∷ (ascii "frames::kinds::number", [])
     ∷ (ascii "frames::kinds::known", [])
     ∷ (ascii "messages::decode", 2 ∷ 5 ∷ [])
     ∷ (ascii "messages::find", 2 ∷ 3 ∷ 1 ∷ [])
     ∷ (ascii "messages::content", 2 ∷ 5 ∷ [])
+    ∷ (ascii "messages::allowed", 5 ∷ 6 ∷ [])
     ∷ (ascii "messages::homiq::field", [])
+    ∷ (ascii "messages::homiq::of", 5 ∷ [])
     ∷ (ascii "messages::nest::for_panel", 5 ∷ [])
     ∷ (ascii "messages::nest::voltages", 5 ∷ [])
+    ∷ (ascii "messages::nest::of", 5 ∷ [])
+    ∷ (ascii "messages::nibe::of", 5 ∷ [])
+    ∷ (ascii "messages::nikobus::of_link", 5 ∷ [])
+    ∷ (ascii "messages::nikobus::of_press", 5 ∷ [])
     ∷ (ascii "commands::encode", 2 ∷ 7 ∷ 5 ∷ 6 ∷ 4 ∷ [])
     ∷ (ascii "commands::acknowledge", 5 ∷ 4 ∷ [])
     ∷ (ascii "lines::write", 2 ∷ 5 ∷ 4 ∷ [])
     ∷ (ascii "lines::next", 2 ∷ 3 ∷ 1 ∷ [])
+    ∷ (ascii "lines::of", 5 ∷ 4 ∷ [])
     ∷ (ascii "book::open", 8 ∷ [])
     ∷ (ascii "book::entry", 8 ∷ 3 ∷ [])
     ∷ (ascii "book::frame", 8 ∷ 3 ∷ [])
@@ -192,10 +203,6 @@ the-table = refl
 pub in-order : map (λ (f : Row). keep (λ n. oneOf (f .refusals) n) order) table ≡ map (λ (f : Row). f .refusals) table
 unfolding oneOf
 in-order = refl
-
--- but for two that ask something of their callers, of which all else holds
-pub demand-1-but-for-all-inputs : Every Kept asking
-demand-1-but-for-all-inputs = asking-kept
 
 -- ---- DEMAND 2
 
@@ -225,6 +232,7 @@ demand-2 =
       a-message = has-message;
       one-message = one-message-of;
       a-frame = is-frame;
+      its-bytes = stands-bytes;
       decoded = decoded;
       a-line = has-line;
       one-line = one-line;
@@ -238,13 +246,5 @@ demand-2 =
 
 -- ---- DEMAND 3
 
-found : {k : ℕ} {f g : List ℕ} {c d : Check} {x y : List ℕ} {v w : ℕ} → Carries k f c x v → Carries k g d y w
-    → length x ≡ length y → v ≡ w → ¬ (x ≡ y) → ¬ FitIn (stretch k) (bitsOfBytes (bitOrder k) x) (bitsOfBytes (bitOrder k) y)
-found (link r e) (link q h) = nikobus-links (link r e) (link q h)
-found (command r) (command q) = nest-commands (command r) (command q)
-found (response r) (response q) = nest-responses (response r) (response q)
-found (nibe r) (nibe q) = nibe-frames (nibe r) (nibe q)
-found (homiq r) (homiq q) = homiq-frames (homiq r) (homiq q)
-
 pub demand-3 : Demand3
-demand-3 = record { found = found }
+demand-3 = record { found = frames-demand.demand-3 }

@@ -1,4 +1,3 @@
-pub mod Asking
 pub mod Book
 pub mod Builds
 pub mod Checks

@@ -1,9 +1,7 @@
 pub mod Written
 pub mod Encode
-pub mod Aside
 pub mod NikobusWrites
 pub mod NestWrites
-pub mod Again
 pub mod Widths
 pub mod Kinds
 pub mod NibeWrites

@@ -1,6 +1,7 @@
 -- What decoding and encoding come to, for a reader: demand 2's round trips, and the acknowledgement.
 -- Assumes nothing.
 use mathlib.Core.Path.{_≡_, refl, sym, _∙_, ap, subst}
+use mathlib.Core.Bool.{true≢false}
 use mathlib.Core.List.{List, _++_}
 use Prim.Native.Nat.{ℕ, _≤_}
 use native.Mathlib.Omega.{arith}
@@ -12,27 +13,28 @@ use Rattle.puts.specs.declared.Written.{Written}
 use Rattle.puts.specs.Paper.Wrote.{writtenRefusal, writtenCount}
 use Rattle.puts.specs.Paper.Right.{WroteRight, wrote, refused}
 use Rattle.layouts.specs.Paper.Chars.{oneOf}
-use Rattle.layouts.specs.Paper.Made.{Wire, homiqOf}
+use Rattle.layouts.specs.Paper.Made.{Wire}
 use Rattle.layouts.proofs.Laws.Made.{homiq-fit}
-use Rattle.frames.specs.Paper.Kinds.{known}
-use Rattle.messages.specs.Paper.Answers.{Stands, Said, Decodes}
+use Rattle.frames.specs.Paper.Kinds.{numberOf}
+use Rattle.frames.proofs.Laws.Kinds.{known-of, frame-known}
+use Rattle.messages.specs.Paper.Answers.{Stands, DecodeCause, Said, Decodes}
 use Rattle.messages.specs.Paper.Answers as decodes
-use Rattle.messages.specs.Paper.Fields.{onHomiq, kindOf, payloadIn}
+use Rattle.messages.specs.Paper.Content.{homiq, kindOf, payloadIn}
 use Rattle.messages.specs.Paper.Message.{Message}
 use Rattle.messages.specs.Paper.Says.{Says, ofHomiq}
-use Rattle.messages.specs.Paper.Table.{fields, bytes, HasWidth, in-reply, in-put, Limits, Above, Good}
+use Rattle.messages.specs.Paper.Table.{contentOf, bytes, HasWidth, in-reply, in-put, Limits, Above, Good}
 use Rattle.messages.specs.Work.Homiq.{whichOf}
 use Rattle.messages.specs.Work.Look.{look}
 use Rattle.messages.specs.declared.Decoded.{Decoded}
 use Rattle.messages.specs.declared.Decoded.the-variants.{Is, Refused}
 use Rattle.messages.specs.declared.Message.{Message as Coded}
 use Rattle.messages.proofs.Laws.Cases.{said-in}
-use Rattle.messages.proofs.Laws.Decode.{stands}
+use Rattle.messages.proofs.Laws.Decode.{stands-in}
+use Rattle.messages.proofs.Laws.Frames.{frame-of}
 use Rattle.messages.proofs.Laws.Says.{one-said, one-case}
-use Rattle.messages.proofs.Theorems.{one-message-of, beside}
+use Rattle.messages.proofs.Theorems.{one-message-of, stands-bytes, stands-kind, bytes-stand, beside}
 use Rattle.commands.specs.Paper.Acknowledge.{FrameOf, acknowledged, acknowledgement}
 use Rattle.commands.specs.Paper.Answers.{MessageCause, outside, taken, short, EncodeCause, no-kind, no-width, other-kind, by-message, MeantBytes, Encodes}
-use Rattle.commands.proofs.Laws.Again.{never-refused}
 use Rattle.commands.proofs.Laws.Kinds.{said-kind}
 
 -- ---- a message of the table that is said is encoded, where the room is long enough
@@ -41,7 +43,7 @@ width-there : (m : Message) (w : ℕ) → Limits m → HasWidth m w → Width w
 width-there m w l (in-reply {r = r} {v = v} e) = subst Limits e l .1 .known
 width-there m w l (in-put {r = r} {v = v} e) = subst Limits e l .1 .known
 
-module _ {k : ℕ} (e : Coded) (s room : List ℕ) (m : Message) (good : Good m) (kind : kindOf (fields m) ≡ k) (says : Says e s m)
+module _ {k : ℕ} (e : Coded) (s room : List ℕ) (m : Message) (good : Good m) (kind : numberOf (kindOf (contentOf m)) ≡ k) (says : Says e s m)
     (enough : length (bytes m) ≤ length room) where
   not-by-message : {no : ℕ} → MessageCause (Says e s) (length room) no → ⊥
   not-by-message (outside f) = f m says (good .limits)
@@ -49,9 +51,9 @@ module _ {k : ℕ} (e : Coded) (s room : List ℕ) (m : Message) (good : Good m)
   not-by-message (short {m = n} a h) = let q : length (bytes n) ≡ length (bytes m) = ap (λ (x : Message). length (bytes x)) (one-said e s n m a says) in omega (arith, q, h, enough)
 
   no-cause : {no : ℕ} → EncodeCause k e s (length room) no → ⊥
-  no-cause (no-kind h) = never-refused m (good .limits) kind refl (decodes.no-kind h)
+  no-cause (no-kind h) = true≢false (sym (known-of (kindOf (contentOf m)) kind) ∙ h)
   no-cause (no-width {m = n} {w = w} a h f) = f (width-there m w (good .limits) (subst (λ (x : Message). HasWidth x w) (one-said e s n m a says) h))
-  no-cause (other-kind h) = h (sym (said-kind e s m says) ∙ kind)
+  no-cause (other-kind h) = h (ap numberOf (sym (said-kind e s m says)) ∙ kind)
   no-cause (by-message c) = not-by-message c
 
   pub encoded : {no count : ℕ} {later : List ℕ} → WroteRight (EncodeCause k e s (length room)) (MeantBytes (Says e s)) room no count later
@@ -67,28 +69,32 @@ pub same-bytes : {k : ℕ} {f : List ℕ} {e : Coded} {from to : ℕ} (said : Sa
 same-bytes {k} {f} {e} {from} {to} said room later r h w =
     let t = said .stands in
     let s : Says e (part from to f) (said .message) = subst (λ (p : List ℕ). Says e p (said .message)) (sym (beside said)) (said .says) in
-    let enough : length (bytes (said .message)) ≤ length room = subst (λ (x : List ℕ). length x ≤ length room) (sym (t .frame)) h in
-    let q = encoded e (part from to f) room (said .message) (t .good) (t .kind) s enough w in
-    (q .0, q .1 ∙ ap length (t .frame), q .2 ∙ ap (λ (x : List ℕ). x ++ drop (length x) room) (t .frame))
+    let b : f ≡ bytes (said .message) = stands-bytes t in
+    let q = encoded e (part from to f) room (said .message) (t .good) (stands-kind t) s (subst (λ (x : List ℕ). length x ≤ length room) b h) w in
+    (q .0, q .1 ∙ ap length (sym b), q .2 ∙ ap (λ (x : List ℕ). x ++ drop (length x) room) (sym b))
+
+-- what a message stands in is decoded
+never-refused : {k no : ℕ} {f : List ℕ} {m : Message} → Stands k f m → DecodeCause k f no → ⊥
+never-refused s (decodes.no-kind h) = true≢false (sym (frame-known (s .frame)) ∙ h)
+never-refused {m = m} s (decodes.no-message h) = h m s
 
 -- AN ENCODED MESSAGE DECODES TO ITSELF: the decoder answers the case that was encoded, and its message is the one
-pub same-message : {k : ℕ} (e : Coded) (s : List ℕ) (m : Message) → Good m → kindOf (fields m) ≡ k → Says e s m → (r : Decoded) → Decodes k (bytes m) r
+pub same-message : {k : ℕ} (e : Coded) (s : List ℕ) (m : Message) → Good m → numberOf (kindOf (contentOf m)) ≡ k → Says e s m → (r : Decoded) → Decodes k (bytes m) r
     → (from : ℕ) × (to : ℕ) × (r ≡ Is e from to) × (said : Said k (bytes m) e from to) × (said .message ≡ m)
 same-message {k} e s m g kind says (Is d from to) a =
     let said = said-in a in
     let n = said .message in
-    let t : Stands k (bytes m) m = record { good = g; kind = kind; frame = refl } in
-    let q : n ≡ m = one-message-of n m (said .stands) t in
-    let same : d ≡ e = one-case d e (payloadIn (fields n)) s m (subst (Says d (payloadIn (fields n))) q (said .says)) says in
+    let q : n ≡ m = one-message-of n m (said .stands) (bytes-stand g kind refl) in
+    let same : d ≡ e = one-case d e (payloadIn (contentOf n)) s m (subst (Says d (payloadIn (contentOf n))) q (said .says)) says in
     let back : Said k (bytes m) e from to = record {
       message = n;
       stands = said .stands;
-      says = subst (λ (x : Coded). Says x (payloadIn (fields n)) n) same (said .says);
+      says = subst (λ (x : Coded). Says x (payloadIn (contentOf n)) n) same (said .says);
       from-is = said .from-is;
       to-is = said .to-is;
     } in
     (from, to, ap (λ (x : Coded). Is x from to) same, back, q)
-same-message e s m g kind says (Refused why) a = absurd (never-refused m (g .limits) kind refl (cause-at (cause-of a) (some-number why)))
+same-message e s m g kind says (Refused why) a = absurd (never-refused (bytes-stand g kind refl) (cause-at (cause-of a) (some-number why)))
 
 -- ---- THE ACKNOWLEDGEMENT of a frame
 
@@ -115,8 +121,7 @@ acknowledgement-frame {w = w} o =
 pub homiq-message : {f : List ℕ} {w : Wire} → FrameOf f w → Stands 5 f (ofHomiq (whichOf (w .cmd) (w .val)) w)
 unfolding look
 homiq-message {f} {w} o =
-    subst (λ (g : List ℕ). Stands 5 g (ofHomiq (whichOf (w .cmd) (w .val)) w)) (sym (o .frame))
-    (stands (onHomiq (homiqOf w)) (record { limits = o .limits; passes = refl }))
+    subst (λ (g : List ℕ). Stands 5 g (ofHomiq (whichOf (w .cmd) (w .val)) w)) (sym (o .frame)) (stands-in (frame-of (homiq w) (o .limits)))
 
 pub exchanged-message : {f : List ℕ} {w : Wire} → FrameOf f w → Stands 5 (acknowledgement w) (ofHomiq (whichOf (w .cmd) (w .val)) (acknowledged w))
 exchanged-message o = homiq-message (acknowledgement-frame o)

@@ -1,14 +1,14 @@
 // Homiq: messages into frames, and the acknowledgement.
-use super::again;
 use builds::homiq;
 use digits::refusal::Refusal;
 use frames::Whole;
+use frames::kinds;
+use frames::kinds::Kind;
 use messages::homiq::Homiq;
 use messages::homiq::field;
 use puts::Written;
 ghost use mathlib.Core.List.{_++_};
 ghost use Rattle.digits.specs.Paper.Ascii.{ascii};
-ghost use Rattle.builds.specs.Paper.Builds.{HomiqBytes};
 ghost use Rattle.puts.specs.Paper.Put.{Put};
 ghost use Rattle.messages.specs.Paper.Homiq.{fieldAt};
 ghost use Rattle.messages.specs.Paper.Says.{SaysHomiq};
@@ -16,38 +16,18 @@ ghost use Rattle.commands.specs.Paper.Acknowledge.{Acknowledges};
 ghost use Rattle.commands.specs.Work.Answers.{WritesMessage};
 ghost use Rattle.commands.specs.Work.Homiq.{Laid, Answered, relaid, exchanged};
 
-// Writes the frame of a message with CMD to TYPE beside it.
+// Writes the frame of a message with CMD to TYPE beside it: whichever the message, these are its fields.
 pub(crate) fn write(message: Homiq, content: &[u8], room: &mut [u8]) -> Written
     ensures { λ r. ⌜ WritesMessage (SaysHomiq message (now (content .entry))) (now (room .entry)) r (now (room .exit)) ⌝ }
 {
-    let mut whole = [0u8; 64];
-    match homiq::frame(content, &mut whole) {
-        Written::Bytes(n) => write_whole(message, content, &whole[0..n], room),
-        Written::Refused(why) => Written::Refused(Refusal::Limits),
-    }
-}
-
-// Writes the frame with CMD to TYPE, where its message is the one that is said.
-fn write_whole(message: Homiq, content: &[u8], whole: &[u8], room: &mut [u8]) -> Written
-    requires { ⌜ HomiqBytes (now content) (now whole) ⌝ }
-    ensures { λ r. ⌜ WritesMessage (SaysHomiq message (now (content .entry))) (now (room .entry)) r (now (room .exit)) ⌝ }
-{
-    let own = again::homiq_row(message);
-    let found = again::row_of(messages::decode(5, whole));
-    if found == own {
-        return puts::front(whole, room);
-    }
-    if own == again::HOMIQ {
-        return Written::Refused(Refusal::Above);
-    }
-    Written::Refused(Refusal::Limits)
+    homiq::frame(content, room)
 }
 
 // Writes the acknowledgement of a frame of type `s`.
 pub(crate) fn acknowledge(frame: &[u8], room: &mut [u8]) -> Written
     ensures { λ r. ⌜ Acknowledges (now (frame .entry)) (now (room .entry)) r (now (room .exit)) ⌝ }
 {
-    match frames::one_frame(5, frame) {
+    match frames::one_frame(kinds::number(Kind::Homiq), frame) {
         Whole::Is { from, to } => answer(&frame[from..to], room),
         Whole::Refused(why) => Written::Refused(Refusal::Limits),
     }

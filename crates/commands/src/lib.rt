@@ -1,5 +1,4 @@
 // Commands back to bytes: messages encoded into frames, and frames acknowledged.
-mod again;
 mod homiq;
 mod nest;
 mod nibe;
@@ -7,14 +6,16 @@ mod nikobus;
 
 use digits::refusal::Refusal;
 use frames::kinds;
+use frames::kinds::Kind;
 use messages::Message;
+use messages::Standing;
 use puts::Written;
 ghost use mathlib.Core.Path.{_≡_};
 ghost use Rattle.digits.specs.Paper.Read.{Tells};
-ghost use Rattle.messages.specs.Paper.Says.{kindIn};
+ghost use Rattle.messages.specs.Paper.Says.{Says, kindIn};
 ghost use Rattle.commands.specs.Paper.Answers.{Encodes};
 ghost use Rattle.commands.specs.Paper.Acknowledge.{Acknowledges};
-ghost use Rattle.commands.specs.Work.Answers.{WidthIn};
+ghost use Rattle.commands.specs.Work.Answers.{WidthIn, WritesMeant, WritesMessage};
 
 // Writes the frame of a message from the front of the room. Refusals: 2 for a kind that is not known, 7 for a width that is not 1,
 // 2 or 4, 5 for a message of another kind or a field outside its limits, 6 for a content that a message above has, 4 for a room
@@ -28,9 +29,26 @@ pub fn encode(kind: u8, message: Message, content: &[u8], room: &mut [u8]) -> Wr
     if !has_width(message) {
         return Written::Refused(Refusal::Form);
     }
-    if kind_of(message) != kind {
+    if kinds::number(kind_of(message)) != kind {
         return Written::Refused(Refusal::Limits);
     }
+    write_allowed(message, content, room)
+}
+
+// Writes the frame of a message of the table. Refusals: 5, 6 and 4, as above.
+fn write_allowed(message: Message, content: &[u8], room: &mut [u8]) -> Written
+    ensures { λ r. ⌜ WritesMeant (Says message (now (content .entry))) (now (room .entry)) r (now (room .exit)) ⌝ }
+{
+    match messages::allowed(message, content) {
+        Standing::Good => write(message, content, room),
+        Standing::Refused(why) => Written::Refused(why),
+    }
+}
+
+// Writes the frame of a message within its limits; of another nothing is promised, and nothing is tested here.
+fn write(message: Message, content: &[u8], room: &mut [u8]) -> Written
+    ensures { λ r. ⌜ WritesMessage (Says message (now (content .entry))) (now (room .entry)) r (now (room .exit)) ⌝ }
+{
     match message {
         Message::Nikobus(m) => nikobus::write(m, content, room),
         Message::Command { id } => nest::write_command(id, content, room),
@@ -62,14 +80,14 @@ fn has_width(message: Message) -> bool
 }
 
 // The kind whose message it is.
-fn kind_of(message: Message) -> u8
+fn kind_of(message: Message) -> Kind
     ensures { λ r. ⌜ r ≡ kindIn message ⌝ }
 {
     match message {
-        Message::Nikobus(m) => 1,
-        Message::Command { id } => 2,
-        Message::Response(m) => 3,
-        Message::Nibe(m) => 4,
-        Message::Homiq(m) => 5,
+        Message::Nikobus(m) => Kind::Nikobus,
+        Message::Command { id } => Kind::NestCommand,
+        Message::Response(m) => Kind::NestResponse,
+        Message::Nibe(m) => Kind::Nibe,
+        Message::Homiq(m) => Kind::Homiq,
     }
 }

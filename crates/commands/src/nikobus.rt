@@ -1,21 +1,19 @@
 // Nikobus: messages into frames.
-use super::again;
 use builds::nikobus;
 use digits::hex;
 use digits::hex::Byte;
 use digits::low_first;
-use digits::refusal::Refusal;
 use messages::nikobus::Nikobus;
 use messages::nikobus::Six;
 use puts::Written;
 ghost use mathlib.Core.Path.{_≡_};
 ghost use lib.ListN.{length};
-ghost use Rattle.digits.specs.Paper.Read.{Tells};
-ghost use Rattle.messages.specs.Paper.Message.{read, set, answer, press, tail, link};
+ghost use Rattle.messages.specs.Paper.Message.{read, set, answer};
 ghost use Rattle.messages.specs.Paper.Says.{six, SaysNikobus};
-ghost use Rattle.messages.specs.Paper.Table.{Group, codeOf};
+ghost use Rattle.messages.specs.Paper.Table.{codeOf};
 ghost use Rattle.messages.specs.declared.nikobus.Nikobus.the-variants.{Link};
-ghost use Rattle.commands.specs.Work.Answers.{WritesMessage, Only};
+ghost use Rattle.messages.specs.Work.Answers.{Only};
+ghost use Rattle.commands.specs.Work.Answers.{WritesMessage};
 ghost use Rattle.commands.specs.Work.Nikobus.{Unhexed};
 
 // Writes the frame of a message with this beside it.
@@ -34,8 +32,8 @@ pub(crate) fn write(message: Nikobus, content: &[u8], room: &mut [u8]) -> Writte
             third,
             out,
         } => write_answer(address, third, out, room),
-        Nikobus::Press(digits) => write_press(digits, room),
-        Nikobus::Tail => write_tail(room),
+        Nikobus::Press(d) => nikobus::press(&[d.a, d.b, d.c, d.d, d.e, d.f], room),
+        Nikobus::Tail => nikobus::tail(room),
         Nikobus::Link => write_link(content, room),
     }
 }
@@ -43,9 +41,6 @@ pub(crate) fn write(message: Nikobus, content: &[u8], room: &mut [u8]) -> Writte
 fn write_read(group: u8, address: u16, room: &mut [u8]) -> Written
     ensures { λ r. ⌜ WritesMessage (Only (read group address)) (now (room .entry)) r (now (room .exit)) ⌝ }
 {
-    if !is_group(group) {
-        return Written::Refused(Refusal::Limits);
-    }
     let a = low_first::two(address);
     nikobus::link(&[code_of(group, 0x12, 0x17), a[0], a[1]], room)
 }
@@ -53,9 +48,6 @@ fn write_read(group: u8, address: u16, room: &mut [u8]) -> Written
 fn write_set(group: u8, address: u16, out: Six, room: &mut [u8]) -> Written
     ensures { λ r. ⌜ WritesMessage (Only (set group address (six out))) (now (room .entry)) r (now (room .exit)) ⌝ }
 {
-    if !is_group(group) {
-        return Written::Refused(Refusal::Limits);
-    }
     let a = low_first::two(address);
     let payload = [
         code_of(group, 0x15, 0x16),
@@ -80,42 +72,13 @@ fn write_answer(address: u16, third: u8, out: Six, room: &mut [u8]) -> Written
     nikobus::link(&payload, room)
 }
 
-fn write_press(digits: Six, room: &mut [u8]) -> Written
-    ensures { λ r. ⌜ WritesMessage (Only (press (six digits))) (now (room .entry)) r (now (room .exit)) ⌝ }
-{
-    nikobus::press(
-        &[digits.a, digits.b, digits.c, digits.d, digits.e, digits.f],
-        room,
-    )
-}
-
-fn write_tail(room: &mut [u8]) -> Written
-    ensures { λ r. ⌜ WritesMessage (Only tail) (now (room .entry)) r (now (room .exit)) ⌝ }
-{
-    nikobus::tail(room)
-}
-
-// A link with these digits, where no message above has its payload.
+// A link with these digits.
 fn write_link(digits: &[u8], room: &mut [u8]) -> Written
     ensures { λ r. ⌜ WritesMessage (SaysNikobus Link (now (digits .entry))) (now (room .entry)) r (now (room .exit)) ⌝ }
 {
     let mut bytes = [0u8; 122];
     let n = values(digits, &mut bytes);
-    if n == 0 {
-        return Written::Refused(Refusal::Limits);
-    }
-    write_bytes(&bytes[0..n], room)
-}
-
-// A link with this payload, where no message above has it.
-fn write_bytes(payload: &[u8], room: &mut [u8]) -> Written
-    ensures { λ r. ⌜ WritesMessage (Only (link (now (payload .entry)))) (now (room .entry)) r (now (room .exit)) ⌝ }
-{
-    let mut whole = [0u8; 256];
-    match nikobus::link(payload, &mut whole) {
-        Written::Bytes(n) => again::front(1, again::LINK, &whole[0..n], room),
-        Written::Refused(why) => Written::Refused(Refusal::Limits),
-    }
+    nikobus::link(&bytes[0..n], room)
 }
 
 // Puts the bytes that digits are at the front of the room, and answers how many; 0 where they are none, or too many.
@@ -138,18 +101,6 @@ fn values(digits: &[u8], room: &mut [u8]) -> usize
         i += 1;
     }
     n
-}
-
-fn is_group(group: u8) -> bool
-    ensures { λ r. ⌜ Tells (Group group) r ⌝ }
-{
-    if group == 1 {
-        return true;
-    }
-    if group == 2 {
-        return true;
-    }
-    false
 }
 
 // The code of a group.

@@ -1,95 +1,115 @@
 -- DEMAND 3, over the frames.
 -- Assumes nothing.
 use mathlib.Core.List.{List, List·Memᴰ, List·Memᴰ·head, List·Memᴰ·tail}
-use mathlib.Core.Path.{_≡_, refl, sym, _∙_, subst}
+use mathlib.Core.Option.{Option, none, some}
+use mathlib.Core.Path.{_≡_, refl, sym, _∙_, ap, subst}
 use Prim.Native.Nat.{ℕ}
 use native.Mathlib.Omega.{arith}
 use lib.ListN.{length}
 use Rattle.digits.proofs.Laws.Bytes.{bytes-cons}
 use Rattle.digits.specs.Paper.Bytes.{Bytes}
 use Rattle.checks.proofs.Theorems.{burst-found-on-the-buses}
-use Rattle.checks.specs.Paper.Bits.{highFirst, lowFirst, bitsOfBytes}
+use Rattle.checks.specs.Paper.Bits.{highFirst, bitsOfBytes}
 use Rattle.checks.specs.Paper.Buses.{nikobusCrc16, nestCrc, nibeXor, homiqCrc, checks}
 use Rattle.checks.specs.Paper.Check.{Check, check}
 use Rattle.checks.specs.Paper.Stretch.{FitIn, Burst}
-use Rattle.frames.specs.Paper.Demand.{Carries, link, command, response, nibe, homiq}
+use Rattle.frames.specs.Paper.Demand.{Checked, checkedIn, stretch, bitOrder, Carries}
+use Rattle.frames.specs.Paper.Kinds.{layoutOf}
+use Rattle.frames.specs.declared.kinds.Kind.{Kind}
+use Rattle.frames.specs.declared.kinds.Kind.the-variants.{Nikobus, NestCommand, NestResponse, Nibe, Homiq}
+use Rattle.frames.proofs.Laws.Kinds.{one-kind}
 use Rattle.layouts.proofs.Laws.HomiqOne.{joined-bytes}
 use Rattle.layouts.proofs.Laws.Nest.{covered-bytes}
+use Rattle.layouts.specs.Paper.Nest as nests
 use Rattle.layouts.specs.Paper.Nikobus as N
 
 -- ---- what a frame that carries a check value says: it is the value of its bytes, under one of the buses' checks
 
-record Carried (c : Check) (x : List ℕ) (v : ℕ) : Type 0 where
-  value : v ≡ check c x
-  bytes : Bytes x
-  one-of : List·Memᴰ c checks
+record Carried (kind : Kind) (v : Checked) : Type 0 where
+  value : v .value ≡ check (v .check) (v .bytes)
+  bytes : Bytes (v .bytes)
+  one-of : List·Memᴰ (v .check) checks
+  wide : v .check .width ≡ stretch kind
+  ordered : v .check .order ≡ bitOrder kind
 
-link-carried : {m : N.Nikobus} {p : List ℕ} {crc16 crc8 : ℕ} → m ≡ N.link p crc16 crc8 → N.Limits m → N.Passes m → Carried nikobusCrc16 p crc16
-link-carried {m} {p} {crc16} {crc8} e l q = made (subst N.Limits e l) (subst N.Passes e q)
-  where
-    made : N.Limits (N.link p crc16 crc8) → N.Passes (N.link p crc16 crc8) → Carried nikobusCrc16 p crc16
-    made (N.link-limits a b c d f) (N.link-passes g h) = record { value = g; bytes = c; one-of = List·Memᴰ·head refl }
+-- what is not there says all
+abbrev CarriedBy : Kind → Option Checked → Type 0
+CarriedBy kind none = Unit
+CarriedBy kind (some v) = Carried kind v
 
-carried : {k : ℕ} {f : List ℕ} {c : Check} {x : List ℕ} {v : ℕ} → Carries k f c x v → Carried c x v
-carried (link r e) = link-carried e (r .form .limits) (r .passes)
-carried (command r) =
-    let m = r .form .fields in
-    record { value = r .passes; bytes = covered-bytes (m .id) (m .payload) (r .form .limits .bytes); one-of = List·Memᴰ·tail (List·Memᴰ·tail (List·Memᴰ·head refl)) }
-carried (response r) =
-    let m = r .form .fields in
-    record { value = r .passes; bytes = covered-bytes (m .id) (m .payload) (r .form .limits .bytes); one-of = List·Memᴰ·tail (List·Memᴰ·tail (List·Memᴰ·head refl)) }
-carried (nibe r) =
-    let m = r .form .fields in
-    let short = r .form .limits .short in
+abbrev third : List·Memᴰ nestCrc checks
+third = List·Memᴰ·tail (List·Memᴰ·tail (List·Memᴰ·head refl))
+
+nest-carried : (kind : Kind) (m : nests.Nest) → nests.Limits m → nests.Passes m → 16 ≡ stretch kind → highFirst ≡ bitOrder kind
+    → Carried kind (record { check = nestCrc; bytes = nests.covered (m .id) (m .payload); value = m .crc })
+nest-carried kind m l p w o = record { value = p; bytes = covered-bytes (m .id) (m .payload) (l .bytes); one-of = third; wide = w; ordered = o }
+
+carried-in : (kind : Kind) (m : layoutOf kind .Fields) → layoutOf kind .Limits m → layoutOf kind .Passes m → CarriedBy kind (checkedIn kind m)
+carried-in Nikobus (N.link p crc16 crc8) (N.link-limits a b c d f) (N.link-passes g h) =
+    record { value = g; bytes = c; one-of = List·Memᴰ·head refl; wide = refl; ordered = refl }
+carried-in Nikobus (N.press d) l q = tt
+carried-in Nikobus N.tail l q = tt
+carried-in NestCommand m l q = nest-carried NestCommand m l q refl refl
+carried-in NestResponse m l q = nest-carried NestResponse m l q refl refl
+carried-in Nibe m l q =
+    let short = l .short in
     record {
-      value = r .passes;
-      bytes = bytes-cons {b = length (m .content)} (omega arith) (r .form .limits .bytes);
+      value = q;
+      bytes = bytes-cons {b = length (m .content)} (omega arith) (l .bytes);
       one-of = List·Memᴰ·tail (List·Memᴰ·tail (List·Memᴰ·tail (List·Memᴰ·head refl)));
+      wide = refl;
+      ordered = refl;
     }
-carried (homiq r) =
+carried-in Homiq m l q =
     record {
-      value = r .passes;
-      bytes = joined-bytes (r .form .fields) (r .form .limits);
+      value = q;
+      bytes = joined-bytes m l;
       one-of = List·Memᴰ·tail (List·Memᴰ·tail (List·Memᴰ·tail (List·Memᴰ·tail (List·Memᴰ·head refl))));
+      wide = refl;
+      ordered = refl;
     }
+
+carried : {k : ℕ} {f : List ℕ} {c : Check} {x : List ℕ} {v : ℕ} (a : Carries k f c x v)
+    → Carried (a .frame .kind) (record { check = c; bytes = x; value = v })
+carried a =
+    let r = a .frame .frame in
+    subst (CarriedBy (a .frame .kind)) (a .carries) (carried-in (a .frame .kind) (r .form .fields) (r .form .limits) (r .passes))
 
 -- a kind has one such check
-pub one-check : {k : ℕ} {f g : List ℕ} {c d : Check} {x y : List ℕ} {v w : ℕ} → Carries k f c x v → Carries k g d y w → c ≡ d
-one-check (link r e) (link q h) = refl
-one-check (command r) (command q) = refl
-one-check (response r) (response q) = refl
-one-check (nibe r) (nibe q) = refl
-one-check (homiq r) (homiq q) = refl
+abbrev checked-by : Kind → Check
+checked-by Nikobus = nikobusCrc16
+checked-by NestCommand = nestCrc
+checked-by NestResponse = nestCrc
+checked-by Nibe = nibeXor
+checked-by Homiq = homiqCrc
 
--- TWO FRAMES OF ONE KIND THAT CARRY A CHECK VALUE: if their checked bytes are equally long and their check values equal, but the
--- checked bytes differ, then the differing bits do not fit in a stretch as long as the check is wide
-pub demand-3 : {k : ℕ} {f g : List ℕ} {c : Check} {x y : List ℕ} {v w : ℕ} → Carries k f c x v → Carries k g c y w
-    → length x ≡ length y → v ≡ w → ¬ (x ≡ y) → ¬ Burst c x y
-demand-3 {c = c} {x = x} {y = y} a b l e differ stretch =
+abbrev By : Check → Option Checked → Type 0
+By c none = Unit
+By c (some v) = v .check ≡ c
+
+by-kind : (kind : Kind) (m : layoutOf kind .Fields) → By (checked-by kind) (checkedIn kind m)
+by-kind Nikobus (N.link p crc16 crc8) = refl
+by-kind Nikobus (N.press d) = tt
+by-kind Nikobus N.tail = tt
+by-kind NestCommand m = refl
+by-kind NestResponse m = refl
+by-kind Nibe m = refl
+by-kind Homiq m = refl
+
+the-check : {k : ℕ} {f : List ℕ} {c : Check} {x : List ℕ} {v : ℕ} (a : Carries k f c x v) → c ≡ checked-by (a .frame .kind)
+the-check a = subst (By (checked-by (a .frame .kind))) (a .carries) (by-kind (a .frame .kind) (a .frame .frame .form .fields))
+
+pub one-check : {k : ℕ} {f g : List ℕ} {c d : Check} {x y : List ℕ} {v w : ℕ} → Carries k f c x v → Carries k g d y w → c ≡ d
+one-check a b = the-check a ∙ ap checked-by (one-kind (a .frame .kind) (b .frame .kind) (a .frame .number ∙ sym (b .frame .number))) ∙ sym (the-check b)
+
+-- TWO FRAMES OF ONE KIND THAT CARRY A CHECK VALUE: if their checked bytes are equally long and their check values equal, but the checked
+-- bytes differ, then the differing bits, in the kind's order, do not fit in the kind's stretch
+pub demand-3 : {k : ℕ} {f g : List ℕ} {c d : Check} {x y : List ℕ} {v w : ℕ} (a : Carries k f c x v) → Carries k g d y w
+    → length x ≡ length y → v ≡ w → ¬ (x ≡ y)
+    → ¬ FitIn (stretch (a .frame .kind)) (bitsOfBytes (bitOrder (a .frame .kind)) x) (bitsOfBytes (bitOrder (a .frame .kind)) y)
+demand-3 {c = c} {d = d} {x = x} {y = y} a b l e differ fits =
     let p = carried a in
     let q = carried b in
-    differ (burst-found-on-the-buses c (p .one-of) x y (p .bytes) (q .bytes) l stretch (sym (p .value) ∙ e ∙ q .value))
-
--- NIKOBUS, over its payload: 16 bits, high bit first
-pub nikobus-links : {f g x y : List ℕ} {v w : ℕ} → Carries 1 f nikobusCrc16 x v → Carries 1 g nikobusCrc16 y w
-    → length x ≡ length y → v ≡ w → ¬ (x ≡ y) → ¬ FitIn 16 (bitsOfBytes highFirst x) (bitsOfBytes highFirst y)
-nikobus-links = demand-3
-
--- NEST, commands and responses, over id, length and payload: 16 bits, high bit first
-pub nest-commands : {f g x y : List ℕ} {v w : ℕ} → Carries 2 f nestCrc x v → Carries 2 g nestCrc y w
-    → length x ≡ length y → v ≡ w → ¬ (x ≡ y) → ¬ FitIn 16 (bitsOfBytes highFirst x) (bitsOfBytes highFirst y)
-nest-commands = demand-3
-
-pub nest-responses : {f g x y : List ℕ} {v w : ℕ} → Carries 3 f nestCrc x v → Carries 3 g nestCrc y w
-    → length x ≡ length y → v ≡ w → ¬ (x ≡ y) → ¬ FitIn 16 (bitsOfBytes highFirst x) (bitsOfBytes highFirst y)
-nest-responses = demand-3
-
--- NIBE, over length and data: 8 bits, high bit first
-pub nibe-frames : {f g x y : List ℕ} {v w : ℕ} → Carries 4 f nibeXor x v → Carries 4 g nibeXor y w
-    → length x ≡ length y → v ≡ w → ¬ (x ≡ y) → ¬ FitIn 8 (bitsOfBytes highFirst x) (bitsOfBytes highFirst y)
-nibe-frames = demand-3
-
--- HOMIQ, over the six fields joined: 8 bits, low bit first
-pub homiq-frames : {f g x y : List ℕ} {v w : ℕ} → Carries 5 f homiqCrc x v → Carries 5 g homiqCrc y w
-    → length x ≡ length y → v ≡ w → ¬ (x ≡ y) → ¬ FitIn 8 (bitsOfBytes lowFirst x) (bitsOfBytes lowFirst y)
-homiq-frames = demand-3
+    let same : d ≡ c = one-check b a in
+    let burst : Burst c x y = rw (Carried.wide p, Carried.ordered p) fits in
+    differ (burst-found-on-the-buses c (p .one-of) x y (p .bytes) (q .bytes) l burst (sym (p .value) ∙ e ∙ q .value ∙ ap (λ (h : Check). check h y) same))

@@ -29,6 +29,10 @@ use Rattle.frames.proofs.Unique as unique
 pub one-length : {k : ℕ} {s : List ℕ} {i n m : ℕ} → FrameAt k s i n → FrameAt k s i m → n ≡ m
 one-length = places.one-length
 
+-- A FRAME ALONE: its bytes are a frame exactly if a frame of their length stands at their front
+pub alone : {k : ℕ} {f : List ℕ} → (Frame k f → FrameAt k f 0 (length f)) × (FrameAt k f 0 (length f) → Frame k f)
+alone = (places.frame-alone, places.alone-frame)
+
 -- A FRAME IS NEVER EMPTY
 pub never-empty : {k : ℕ} {f : List ℕ} → Frame k f → 0 < length f
 never-empty = places.never-empty

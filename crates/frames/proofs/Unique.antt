@@ -1,5 +1,6 @@
 -- For each public function: two answers that meet its promise are the same answer.
 -- Assumes nothing.
+use mathlib.Core.Bool.{true≢false}
 use mathlib.Core.List.{List, _∷_}
 use mathlib.Core.Logic.{_⊎_, inl, inr, ⊎-elim}
 use mathlib.Core.Path.{_≡_, refl, sym, _∙_, ap, ap₂, subst}
@@ -11,15 +12,17 @@ use Rattle.digits.proofs.Laws.Refusals.{some-number, same-answer, one-answer}
 use Rattle.digits.specs.Paper.Bytes.{part}
 use Rattle.digits.specs.Paper.Refusals.{refusalNumber}
 use Rattle.digits.specs.declared.refusal.Refusal.{Refusal}
+use Rattle.frames.specs.Paper.Kinds.{Resolves}
 use Rattle.frames.specs.Paper.Runs.{Run}
 use Rattle.frames.specs.Paper.Search.{FrameAt, Hit, Leftmost, foundNumber, foundHit, Searches, Hands}
 use Rattle.frames.specs.Paper.Whole.{Ends, OneFrame, wholeNumber, wholeEnds, TestsWhole}
-use Rattle.frames.specs.Work.Frames.{fromOf, toOf}
 use Rattle.frames.specs.declared.Found.{Found}
 use Rattle.frames.specs.declared.Found.the-variants.{At, Refused}
 use Rattle.frames.specs.declared.Whole.{Whole}
 use Rattle.frames.specs.declared.Whole.the-variants.{Is, Refused as NotWhole}
-use Rattle.frames.proofs.Laws.Kinds.{begins, ends}
+use Rattle.frames.specs.declared.kinds.Resolved.{Resolved}
+use Rattle.frames.specs.declared.kinds.Resolved.the-variants.{Is as Kinded, Unknown}
+use Rattle.frames.proofs.Laws.Kinds.{one-payload, one-kind, known-of, kind-is, kind-not}
 use Rattle.frames.proofs.Laws.Places.{one-length}
 use Rattle.frames.proofs.Laws.Runs.{leftmost, none-found}
 use Rattle.frames.specs.Paper.Runs as R
@@ -37,20 +40,15 @@ abbrev hit : (start len from to : ℕ) → Hit
 hit i n x y = record { start = i; len = n; from = x; to = y }
 
 module _ {k : ℕ} {s : List ℕ} {place : ℕ} where
-  from-of : {v : Hit} (l : Leftmost k s place v) → v .from ≡ v .start + fromOf k (part (v .start) (v .start + v .len) s)
-  from-of {v} l = l .from-is ∙ ap (λ (x : ℕ). v .start + x) (begins (l .stands .frame))
-
-  to-of : {v : Hit} (l : Leftmost k s place v) → v .to ≡ v .start + toOf k (part (v .start) (v .start + v .len) s)
-  to-of {v} l = l .to-is ∙ ap (λ (x : ℕ). v .start + x) (ends (l .stands .frame))
-
   pub leftmost-one : (u v : Hit) → Leftmost k s place u → Leftmost k s place v → u ≡ v
   leftmost-one u v a b =
       ⊎-elim
       (λ (e : u .start ≡ v .start).
       let n : u .len ≡ v .len = one-length (a .stands) (subst (λ (i : ℕ). FrameAt k s i (v .len)) (sym e) (b .stands)) in
       let p : part (u .start) (u .start + u .len) s ≡ part (v .start) (v .start + v .len) s = rw (e, n) in
-      let x : u .from ≡ v .from = from-of a ∙ ap₂ (λ (i : ℕ) (w : List ℕ). i + fromOf k w) e p ∙ sym (from-of b) in
-      let y : u .to ≡ v .to = to-of a ∙ ap₂ (λ (i : ℕ) (w : List ℕ). i + toOf k w) e p ∙ sym (to-of b) in
+      let q = one-payload p (a .stands .frame) (b .stands .frame) in
+      let x : u .from ≡ v .from = a .from-is ∙ ap₂ (λ (i j : ℕ). i + j) e (q .0) ∙ sym (b .from-is) in
+      let y : u .to ≡ v .to = a .to-is ∙ ap₂ (λ (i j : ℕ). i + j) e (q .1) ∙ sym (b .to-is) in
       same (u .start) (v .start) (u .len) (v .len) (u .from) (v .from) (u .to) (v .to) e n x y)
       (λ h. absurd (⊎-elim (λ (l : u .start < v .start). b .none-before (u .start) (u .len) (a .behind) l (a .stands)) (λ (l : v .start < u .start). a .none-before (v .start) (v .len) (b .behind) l (b .stands)) h))
       (apart (u .start) (v .start))
@@ -84,8 +82,9 @@ handed-one cut p q a b = one-answer (λ u v x y. x .2 ∙ ap cut (leftmost-one (
 module _ {k : ℕ} {s : List ℕ} where
   pub ends-one : (u v : Ends) → OneFrame k s u → OneFrame k s v → u ≡ v
   ends-one u v a b =
-      let x : u .from ≡ v .from = a .from-is ∙ begins (a .frame) ∙ sym (begins (b .frame)) ∙ sym (b .from-is) in
-      let y : u .to ≡ v .to = a .to-is ∙ ends (a .frame) ∙ sym (ends (b .frame)) ∙ sym (b .to-is) in
+      let q = one-payload refl (a .frame) (b .frame) in
+      let x : u .from ≡ v .from = a .from-is ∙ q .0 ∙ sym (b .from-is) in
+      let y : u .to ≡ v .to = a .to-is ∙ q .1 ∙ sym (b .to-is) in
       same (u .from) (v .from) (u .to) (v .to) x y
     where
       same : (x x′ y y′ : ℕ) → x ≡ x′ → y ≡ y′ → _≡_ {A = Ends} (record { from = x; to = y }) (record { from = x′; to = y′ })
@@ -100,6 +99,14 @@ module _ {k : ℕ} {s : List ℕ} where
 
       whole-answer : (r q : Whole) → wholeNumber r ≡ wholeNumber q → wholeEnds r ≡ wholeEnds q → r ≡ q
       whole-answer = same-answer (λ (v : Ends). Is (v .from) (v .to)) NotWhole wholeNumber wholeEnds (λ v. refl) (λ why. refl) (λ v. refl) whole-cases
+
+-- ---- frames::kinds::of
+
+pub resolved-one : {k : ℕ} (r q : Resolved) → Resolves k r → Resolves k q → r ≡ q
+resolved-one (Kinded a) (Kinded b) x y = ap Kinded (one-kind a b (kind-is a x ∙ sym (kind-is b y)))
+resolved-one (Kinded a) Unknown x y = absurd (true≢false (sym (known-of a (kind-is a x)) ∙ kind-not y))
+resolved-one Unknown (Kinded b) x y = absurd (true≢false (sym (known-of b (kind-is b y)) ∙ kind-not x))
+resolved-one Unknown Unknown x y = refl
 
 -- ---- one search after the other
 

@@ -1,4 +1,4 @@
-// The kinds: 1 Nikobus, 2 Nest command, 3 Nest response, 4 Nibe, 5 Homiq.
+// The kinds. Outside, a kind is a number; inside, it is a case of `Kind`, and what belongs to one kind is an arm of a `match` here.
 use layouts::Spot;
 use layouts::homiq;
 use layouts::nest;
@@ -6,111 +6,91 @@ use layouts::nest::Direction;
 use layouts::nibe;
 use layouts::nikobus;
 ghost use mathlib.Core.Path.{_≡_};
-ghost use mathlib.Core.Bool.{true, _&&_, _||_};
-ghost use Prim.Native.Nat.{_/_, _≤_};
-ghost use lib.Dec.{eqb, leb};
-ghost use lib.ListN.{length, getD};
+ghost use Prim.Native.Nat.{_+_, _≤_};
+ghost use lib.ListN.{length};
 ghost use Rattle.frames.specs.Paper.Kinds as paper;
-ghost use Rattle.frames.specs.Work.Frames.{frameLen, headFrom, headTo, mayStart};
+ghost use Rattle.frames.specs.Paper.Kinds.{Resolves, numberOf};
+ghost use Rattle.frames.specs.Work.Frames.{Spotted, mayStart};
 
-// Whether a kind is one of those.
-pub fn known(kind: u8) -> bool
-    ensures { λ r. ⌜ r ≡ paper.known kind ⌝ }
-{
-    if kind < 1 {
-        return false;
-    }
-    kind <= 5
+// A bus and a direction.
+pub enum Kind {
+    Nikobus,
+    NestCommand,
+    NestResponse,
+    Nibe,
+    Homiq,
 }
 
-// The frame of a known kind at the head of s.
-pub(crate) fn at_head(kind: u8, s: &[u8]) -> Spot
-    requires { ⌜ paper.known kind ≡ true ⌝ }
-    ensures { λ r. ⌜ r .len ≡ frameLen kind (now (s .entry)) ⌝ }
-    ensures { λ r. ⌜ r .from ≡ headFrom kind (now (s .entry)) ⌝ }
-    ensures { λ r. ⌜ r .to ≡ headTo kind (now (s .entry)) ⌝ }
-{
-    if kind == 1 {
-        return nikobus::frame(s);
-    }
-    if kind == 2 {
-        return nest::frame(Direction::Command, s);
-    }
-    if kind == 3 {
-        return nest::frame(Direction::Response, s);
-    }
-    if kind == 4 {
-        return nibe::frame(s);
-    }
-    homiq::frame(s)
+// What a number is resolved to: a kind, or that there is none of that number.
+pub enum Resolved {
+    Is(Kind),
+    Unknown,
 }
 
-// Whether a frame of the kind can begin with the first three bytes of s: the start mark, and where that is one byte, what follows
-// it. A byte is read only where those before it left it open.
-pub(crate) fn may_start(kind: u8, s: &[u8]) -> bool
-    requires { ⌜ 3 ≤ length (now s) ⌝ }
-    ensures { λ r. ⌜ r ≡ mayStart kind (getD (now (s .entry)) 0 0) (getD (now (s .entry)) 1 0) (getD (now (s .entry)) 2 0) ⌝ }
+// The kind of a number.
+pub fn of(number: u8) -> Resolved
+    ensures { λ r. ⌜ Resolves number r ⌝ }
 {
-    if kind == 1 {
-        return starts_nikobus(s);
+    match number {
+        1 => Resolved::Is(Kind::Nikobus),
+        2 => Resolved::Is(Kind::NestCommand),
+        3 => Resolved::Is(Kind::NestResponse),
+        4 => Resolved::Is(Kind::Nibe),
+        5 => Resolved::Is(Kind::Homiq),
+        _ => Resolved::Unknown,
     }
-    if kind == 2 {
-        return three(s, 0xD5, 0xAA, 0x96);
-    }
-    if kind == 3 {
-        return three(s, 0xD5, 0xD5, 0xAA);
-    }
-    if kind == 4 {
-        return starts_nibe(s);
-    }
-    starts_homiq(s)
 }
 
-// `$` or `#`, and then a digit or a letter.
-fn starts_nikobus(s: &[u8]) -> bool
-    requires { ⌜ 3 ≤ length (now s) ⌝ }
-    ensures { λ r. ⌜ r ≡ ((eqb (getD (now (s .entry)) 0 0) 36 || eqb (getD (now (s .entry)) 0 0) 35) && leb 48 (getD (now (s .entry)) 1 0)) ⌝ }
+// The number of a kind.
+pub fn number(kind: Kind) -> u8
+    ensures { λ r. ⌜ r ≡ numberOf kind ⌝ }
 {
-    if s[0] == b'$' {
-        return b'0' <= s[1];
+    match kind {
+        Kind::Nikobus => 1,
+        Kind::NestCommand => 2,
+        Kind::NestResponse => 3,
+        Kind::Nibe => 4,
+        Kind::Homiq => 5,
     }
-    if s[0] == b'#' {
-        return b'0' <= s[1];
-    }
-    false
 }
 
-// These three bytes; the last first, since a run of start bytes differs there.
-fn three(s: &[u8], first: u8, second: u8, third: u8) -> bool
-    requires { ⌜ 3 ≤ length (now s) ⌝ }
-    ensures { λ r. ⌜ r ≡ (eqb (getD (now (s .entry)) 0 0) first && (eqb (getD (now (s .entry)) 1 0) second && eqb (getD (now (s .entry)) 2 0) third)) ⌝ }
+// Whether a number is that of a kind.
+pub fn known(number: u8) -> bool
+    ensures { λ r. ⌜ r ≡ paper.known number ⌝ }
 {
-    if s[2] == third {
-        if s[1] == second {
-            return s[0] == first;
-        }
+    match of(number) {
+        Resolved::Is(kind) => true,
+        Resolved::Unknown => false,
     }
-    false
 }
 
-// C0, and then a command, all of which begin with 6.
-fn starts_nibe(s: &[u8]) -> bool
-    requires { ⌜ 3 ≤ length (now s) ⌝ }
-    ensures { λ r. ⌜ r ≡ (eqb (getD (now (s .entry)) 0 0) 0xC0 && eqb (getD (now (s .entry)) 1 0 / 16) 6) ⌝ }
+// The frame at a place of a buffer.
+pub(crate) fn at(kind: Kind, buffer: &[u8], place: usize) -> Spot
+    requires { ⌜ place ≤ length (now buffer) ⌝ }
+    ensures { λ r. ⌜ Spotted kind (now (buffer .entry)) place (r .len) (r .from) (r .to) ⌝ }
 {
-    if s[0] == 0xC0 {
-        return s[1] / 16 == 6;
+    let s = &buffer[place..];
+    match kind {
+        Kind::Nikobus => nikobus::frame(s),
+        Kind::NestCommand => nest::frame(Direction::Command, s),
+        Kind::NestResponse => nest::frame(Direction::Response, s),
+        Kind::Nibe => nibe::frame(s),
+        Kind::Homiq => homiq::frame(s),
     }
-    false
 }
 
-// `<;`
-fn starts_homiq(s: &[u8]) -> bool
-    requires { ⌜ 3 ≤ length (now s) ⌝ }
-    ensures { λ r. ⌜ r ≡ (eqb (getD (now (s .entry)) 0 0) 60 && eqb (getD (now (s .entry)) 1 0) 59) ⌝ }
+// Whether a frame can begin at a place of a buffer, by the first three bytes from there on. (A part of three bytes, whose length the
+// compiler knows: the layouts' own test for so many costs nothing then.)
+pub(crate) fn may_start(kind: Kind, buffer: &[u8], place: usize) -> bool
+    requires { ⌜ place + 3 ≤ length (now buffer) ⌝ }
+    ensures { λ r. ⌜ r ≡ mayStart kind (now (buffer .entry)) place ⌝ }
 {
-    if s[0] == b'<' {
-        return s[1] == b';';
+    let s = &buffer[place..place + 3];
+    match kind {
+        Kind::Nikobus => nikobus::may_start(s),
+        Kind::NestCommand => nest::may_start(Direction::Command, s),
+        Kind::NestResponse => nest::may_start(Direction::Response, s),
+        Kind::Nibe => nibe::may_start(s),
+        Kind::Homiq => homiq::may_start(s),
     }
-    false
 }

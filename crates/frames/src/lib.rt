@@ -3,7 +3,9 @@ pub mod kinds;
 mod seek;
 
 use digits::refusal::Refusal;
-ghost use mathlib.Core.Path.{_≡_};
+use kinds::Kind;
+use kinds::Resolved;
+ghost use Rattle.frames.specs.Paper.Kinds.{numberOf};
 ghost use Rattle.frames.specs.Paper.Search.{Searches, Hands, framePart, payloadPart};
 ghost use Rattle.frames.specs.Paper.Whole.{TestsWhole};
 
@@ -29,13 +31,15 @@ pub enum Whole {
 pub fn search(kind: u8, buffer: &[u8], place: usize) -> Found
     ensures { λ r. ⌜ Searches kind (now (buffer .entry)) place r ⌝ }
 {
-    if !kinds::known(kind) {
-        return Found::Refused(Refusal::Kind);
+    match kinds::of(kind) {
+        Resolved::Is(known) => {
+            if buffer.len() < place {
+                return Found::Refused(Refusal::Place);
+            }
+            seek::first(known, buffer, place)
+        }
+        Resolved::Unknown => Found::Refused(Refusal::Kind),
     }
-    if buffer.len() < place {
-        return Found::Refused(Refusal::Place);
-    }
-    seek::first(kind, buffer, place)
 }
 
 // That frame, as a part of the buffer; empty for a refusal.
@@ -72,16 +76,22 @@ pub fn payload(kind: u8, buffer: &[u8], place: usize) -> &[u8]
 pub fn one_frame(kind: u8, s: &[u8]) -> Whole
     ensures { λ r. ⌜ TestsWhole kind (now (s .entry)) r ⌝ }
 {
-    if !kinds::known(kind) {
-        return Whole::Refused(Refusal::Kind);
+    match kinds::of(kind) {
+        Resolved::Is(known) => one_of_kind(known, s),
+        Resolved::Unknown => Whole::Refused(Refusal::Kind),
     }
-    let n = s.len();
-    if n == 0 {
+}
+
+// The same for a kind that there is.
+fn one_of_kind(kind: Kind, s: &[u8]) -> Whole
+    ensures { λ r. ⌜ TestsWhole (numberOf kind) (now (s .entry)) r ⌝ }
+{
+    let spot = kinds::at(kind, s, 0);
+    let len = spot.len;
+    if len == 0 {
         return Whole::Refused(Refusal::Limits);
     }
-    let spot = kinds::at_head(kind, s);
-    let len = spot.len;
-    if len != n {
+    if len != s.len() {
         return Whole::Refused(Refusal::Limits);
     }
     Whole::Is {

@@ -11,3 +11,5 @@ pub mod HomiqFrame
 pub mod HexDigits
 pub mod Nikobus
 pub mod Made
+pub mod Starts
+pub mod HomiqPayload

@@ -2,15 +2,19 @@
 -- Assumes nothing.
 use mathlib.Core.Bool.{Bool}
 use mathlib.Core.List.{List}
-use mathlib.Core.Path.{_≡_, sym, _∙_}
+use mathlib.Core.Path.{_≡_}
 use Prim.Native.Nat.{ℕ, suc, _<_}
 use native.Mathlib.Omega.{arith}
+use Rattle.digits.proofs.Unique.{equation, test}
+use Rattle.digits.specs.Paper.Read.{Tells}
 use Rattle.checks.specs.Paper.Buses.{homiqCrc}
 use Rattle.checks.specs.Paper.Check.{check}
+use Rattle.layouts.specs.Paper.Chars.{oneOf, all, isHex}
 use Rattle.layouts.specs.Paper.Homiq.{homiq, kept}
 use Rattle.layouts.specs.Paper.Layout.{Layout, Leads}
+use Rattle.layouts.specs.Paper.Made.{Wire, Payload}
 use Rattle.layouts.specs.Paper.Nest.{preamble, nest}
-use Rattle.layouts.specs.Paper.Nibe.{nibe}
+use Rattle.layouts.specs.Paper.Nibe.{nibe, commands}
 use Rattle.layouts.specs.Paper.Nikobus.{nikobus}
 use Rattle.layouts.specs.declared.Spot.{Spot}
 use Rattle.layouts.specs.declared.nest.Direction.{Direction}
@@ -54,4 +58,15 @@ homiq-frame = one-spot homiq-bus
 
 -- homiq::crc: the promise is an equation
 pub homiq-crc : (s : List ℕ) {r q : ℕ} → r ≡ check homiqCrc (kept s) → q ≡ check homiqCrc (kept s) → r ≡ q
-homiq-crc s e f = e ∙ sym f
+homiq-crc s = equation
+
+-- nibe::is_command and nikobus::all_digits: so too
+pub nibe-is-command : (c : ℕ) {r q : Bool} → r ≡ oneOf commands c → q ≡ oneOf commands c → r ≡ q
+nibe-is-command c = equation
+
+pub nikobus-all-digits : (s : List ℕ) {r q : Bool} → r ≡ all isHex s → q ≡ all isHex s → r ≡ q
+nikobus-all-digits s = equation
+
+-- homiq::is_payload
+pub homiq-is-payload : (p : List ℕ) {r q : Bool} → Tells ((w : Wire) × Payload p w) r → Tells ((w : Wire) × Payload p w) q → r ≡ q
+homiq-is-payload p = test

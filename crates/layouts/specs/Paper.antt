@@ -5,3 +5,4 @@ pub mod Nest
 pub mod Nibe
 pub mod Homiq
 pub mod Made
+pub mod Starts

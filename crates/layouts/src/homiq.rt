@@ -8,15 +8,19 @@ ghost use mathlib.Core.List.{[], _∷_};
 ghost use Prim.Native.Nat.{_≤_, _<_, _^_};
 ghost use lib.Dec.{T};
 ghost use lib.ListN.{length};
+ghost use Rattle.digits.specs.Paper.Ascii.{ascii};
 ghost use Rattle.digits.specs.Paper.Decimal.{decimal};
+ghost use Rattle.digits.specs.Paper.Read.{Tells};
 ghost use Rattle.digits.specs.Work.Decimal.{guess};
 ghost use Rattle.checks.specs.Paper.Check.{feed, check};
 ghost use Rattle.checks.specs.Paper.Buses.{homiqCrc};
-ghost use Rattle.layouts.specs.Paper.Chars.{all};
+ghost use Rattle.layouts.specs.Paper.Chars.{oneOf, all};
 ghost use Rattle.layouts.specs.Paper.Layout.{Leads};
 ghost use Rattle.layouts.specs.Paper.Homiq.{homiq, fieldChar, kept};
+ghost use Rattle.layouts.specs.Paper.Starts.{homiqStarts};
+ghost use Rattle.layouts.specs.Paper.Made.{Wire, Payload};
 ghost use Rattle.layouts.specs.Work.Heads.{leading, onward};
-ghost use Rattle.layouts.specs.Work.Homiq.{fieldLen, isFigure, numberLen, typeLen, headLen};
+ghost use Rattle.layouts.specs.Work.Homiq.{fieldLen, isFigure, numberLen, typeLen, headLen, fiveLen};
 
 // The frame at the head of s; its payload is CMD to TYPE.
 pub fn frame(s: &[u8]) -> Spot
@@ -28,7 +32,9 @@ pub fn frame(s: &[u8]) -> Spot
     if n == 0 {
         return nothing();
     }
-    if crc(&s[2..before]) as u16 != value(&s[before..behind - 1]) {
+    // before the CRC is worked out, so that less is kept over its loop
+    let claimed = value(&s[before..behind - 1]);
+    if crc(&s[2..before]) as u16 != claimed {
         return nothing();
     }
     Spot {
@@ -36,6 +42,19 @@ pub fn frame(s: &[u8]) -> Spot
         from: 2,
         to: before - 1,
     }
+}
+
+// Whether a frame can begin with the first three bytes of s: `<;`.
+pub fn may_start(s: &[u8]) -> bool
+    ensures { λ r. ⌜ r ≡ homiqStarts (now (s .entry)) ⌝ }
+{
+    if s.len() < 3 {
+        return false;
+    }
+    if s[0] == b'<' {
+        return s[1] == b';';
+    }
+    false
 }
 
 // The CRC that closes a payload, CMD to TYPE: over its characters without the separators.
@@ -49,6 +68,40 @@ pub fn crc(s: &[u8]) -> u8
         i += 1;
     }
     sum.value
+}
+
+// Whether p is CMD;VAL;SRC;DST;ID;TYPE of fields within their limits: five fields with their `;`, and then TYPE, with which it ends.
+pub fn is_payload(p: &[u8]) -> bool
+    ensures { λ r. ⌜ Tells ((w : Wire) × Payload (now (p .entry)) w) r ⌝ }
+{
+    let last = five(p);
+    if last == 0 {
+        return false;
+    }
+    if p.len() != last + 1 {
+        return false;
+    }
+    is_type(p[last])
+}
+
+// The end of CMD to ID, each with its `;`.
+fn five(p: &[u8]) -> usize
+    ensures { λ r. ⌜ r ≡ fiveLen (now (p .entry)) ⌝ }
+{
+    let a = field(p, 8);
+    let b = field_at(p, a, 16);
+    let c = field_at(p, b, 4);
+    let d = field_at(p, c, 4);
+    number_at(p, d, 1, 511)
+}
+
+fn is_type(c: u8) -> bool
+    ensures { λ r. ⌜ r ≡ oneOf (ascii "sa") c ⌝ }
+{
+    if c == b's' {
+        return true;
+    }
+    c == b'a'
 }
 
 // The end of `<;` and six fields, each with its `;`.

@@ -5,10 +5,13 @@ use super::words;
 use checks::nest::Crc;
 use digits::low_first;
 ghost use mathlib.Core.Path.{_≡_};
+ghost use mathlib.Core.Bool.{_&&_};
 ghost use Prim.Native.Nat.{_≤_, _<_};
+ghost use lib.Dec.{eqb};
 ghost use lib.ListN.{length};
 ghost use Rattle.layouts.specs.Paper.Layout.{Leads};
 ghost use Rattle.layouts.specs.Paper.Nest.{nest, nestWith};
+ghost use Rattle.layouts.specs.Paper.Starts.{firstThree, nestStarts};
 ghost use Rattle.layouts.specs.Work.Heads.{onward};
 ghost use Rattle.layouts.specs.Work.Nest.{bodyLen, nestFormLen, crcPasses};
 
@@ -26,6 +29,31 @@ pub fn frame(direction: Direction, s: &[u8]) -> Spot
         Direction::Command => framed(s, b"\xD5\xAA\x96"),
         Direction::Response => framed(s, b"\xD5\xD5\xAA\x96"),
     }
+}
+
+// Whether a frame can begin with the first three bytes of s.
+pub fn may_start(direction: Direction, s: &[u8]) -> bool
+    ensures { λ r. ⌜ r ≡ nestStarts direction (now (s .entry)) ⌝ }
+{
+    match direction {
+        Direction::Command => three(s, 0xD5, 0xAA, 0x96),
+        Direction::Response => three(s, 0xD5, 0xD5, 0xAA),
+    }
+}
+
+// These three bytes; the last first, since a run of start bytes differs there.
+fn three(s: &[u8], first: u8, second: u8, third: u8) -> bool
+    ensures { λ r. ⌜ r ≡ firstThree (λ a b c. eqb a first && (eqb b second && eqb c third)) (now (s .entry)) ⌝ }
+{
+    if s.len() < 3 {
+        return false;
+    }
+    if s[2] == third {
+        if s[1] == second {
+            return s[0] == first;
+        }
+    }
+    false
 }
 
 // The frame with this preamble.

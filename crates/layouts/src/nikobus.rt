@@ -16,6 +16,7 @@ ghost use Rattle.checks.specs.Paper.Buses.{nikobusCrc16};
 ghost use Rattle.layouts.specs.Paper.Chars.{all, isHex};
 ghost use Rattle.layouts.specs.Paper.Layout.{Leads};
 ghost use Rattle.layouts.specs.Paper.Nikobus.{nikobus};
+ghost use Rattle.layouts.specs.Paper.Starts.{nikobusStarts};
 ghost use Rattle.layouts.specs.Work.Heads.{onward};
 ghost use Rattle.layouts.specs.Work.Nikobus as work;
 ghost use Rattle.layouts.specs.Work.Nikobus.{hexPair, bytesOf, digitsLen, llOf, linkFormLen, linkLen, pressLen, tailLen};
@@ -35,6 +36,22 @@ pub fn frame(s: &[u8]) -> Spot
         return button(s);
     }
     nothing()
+}
+
+// Whether a frame can begin with the first three bytes of s: `$` or `#`, and then a digit or a letter.
+pub fn may_start(s: &[u8]) -> bool
+    ensures { λ r. ⌜ r ≡ nikobusStarts (now (s .entry)) ⌝ }
+{
+    if s.len() < 3 {
+        return false;
+    }
+    if s[0] == b'$' {
+        return b'0' <= s[1];
+    }
+    if s[0] == b'#' {
+        return b'0' <= s[1];
+    }
+    false
 }
 
 // A link.
@@ -159,7 +176,7 @@ fn digits(s: &[u8], k: usize) -> usize
 }
 
 // Whether all characters of s are digits.
-fn all_digits(s: &[u8]) -> bool
+pub fn all_digits(s: &[u8]) -> bool
     ensures { λ r. ⌜ r ≡ all isHex (now (s .entry)) ⌝ }
 {
     let mut i = 0;

@@ -3,7 +3,6 @@
 ghost use mathlib.Core.Path.{_≡_};
 ghost use Prim.Native.Nat.{_+_, _^_, _≤_, _<_};
 ghost use lib.ListN.{length, take};
-ghost use Rattle.layouts.specs.Paper.Chars.{oneOf};
 ghost use Rattle.layouts.specs.Work.Heads.{starts, wordLen, on, onward};
 
 // Whether s starts with the bytes of p.
@@ -66,18 +65,4 @@ pub(crate) fn first(s: &[u8], k: usize) -> &[u8]
         return &s[0..k];
     }
     s
-}
-
-// Whether x is one of the bytes of l.
-pub(crate) fn one_of(l: &[u8], x: u8) -> bool
-    ensures { λ r. ⌜ r ≡ oneOf (now (l .entry)) x ⌝ }
-{
-    let mut i = 0;
-    while i < l.len() {
-        if x == l[i] {
-            return true;
-        }
-        i += 1;
-    }
-    false
 }

@@ -5,4 +5,6 @@ pub mod Put
 pub mod Said
 pub mod Fields
 pub mod Next
+pub mod Placed
 pub mod Write
+pub mod Of

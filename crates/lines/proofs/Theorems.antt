@@ -1,15 +1,22 @@
 -- What the definition of a line comes to, for a reader.
 -- Assumes nothing.
 use mathlib.Core.List.{List}
-use mathlib.Core.Path.{_≡_, refl}
-use Prim.Native.Nat.{ℕ, _^_, _≤_, _<_}
+use mathlib.Core.Path.{_≡_, refl, ap, _∙_}
+use Prim.Native.Nat.{ℕ, _+_, _*_, _^_, _≤_, _<_}
 use native.Mathlib.Omega.{arith}
 use lib.ListN.{length}
 use Rattle.frames.specs.Paper.Kinds.{Frame}
+use Rattle.messages.specs.Paper.Answers.{Stands}
+use Rattle.messages.specs.Paper.Message.{Message}
+use Rattle.messages.specs.Paper.Says.{Says}
+use Rattle.messages.specs.Paper.Table.{Good}
+use Rattle.messages.specs.declared.Message.{Message as Coded}
+use Rattle.messages.proofs.Laws.Says.{one-said}
 use Rattle.messages.proofs.Theorems.{has-message}
 use Rattle.puts.specs.Paper.Put.{last}
-use Rattle.lines.specs.Paper.Answers.{LineOf, LineCause, short}
+use Rattle.lines.specs.Paper.Answers.{LineOf, LineCause, short, LineSaid, SaidCause}
 use Rattle.lines.specs.Paper.Line.{line, lineRoom}
+use Rattle.lines.proofs.Laws.Of as of
 use Rattle.lines.proofs.Laws.Same as same
 use Rattle.lines.proofs.Laws.Sizes as sizes
 use Rattle.lines.proofs.Laws.Write as writes
@@ -32,3 +39,27 @@ line-room h l = sizes.line-room h l
 -- so a room of that size is never refused with 4
 pub never-short : {k : ℕ} {f : List ℕ} {at room : ℕ} → at ≤ last → lineRoom (length f) ≤ room → LineCause k f at room 4 → ⊥
 never-short {f = f} {at = at} h r (short l g) = let few : at < 10 ^ 20 = omega arith in omega (arith, line-room few l)
+
+-- no line of a frame is longer than 8,368 bytes
+pub line-most : {k : ℕ} {f : List ℕ} {at : ℕ} {t : List ℕ} → at < 10 ^ 20 → LineOf k f at t → length t ≤ 8368
+line-most h l = sizes.line-most h l
+
+-- ---- THE LINE OF A MESSAGE
+
+-- every message of the table has a line, whatever place and length it is to say, and one only
+pub has-line-said : (e : Coded) (s : List ℕ) (at len : ℕ) {m : Message} → Good m → Says e s m → (t : List ℕ) × LineSaid e s at len t
+has-line-said e s at len {m} g x = (line at len m, record { message = m; good = g; says = x; is = refl })
+
+pub one-line-said : {e : Coded} {s : List ℕ} {at len : ℕ} (t u : List ℕ) → LineSaid e s at len t → LineSaid e s at len u → t ≡ u
+one-line-said = of.one-line-said
+
+-- THE LINE OF A FRAME'S MESSAGE, with the frame's length, IS THE FRAME'S LINE
+pub said-of-frame : {k : ℕ} {f : List ℕ} {m : Message} (e : Coded) {s : List ℕ} {at : ℕ} {t : List ℕ} → Stands k f m → Says e s m
+    → LineSaid e s at (length f) t → LineOf k f at t
+said-of-frame {f = f} {m = m} e {s} {at} r x l =
+    record { message = m; stands = r; is = l .is ∙ ap (line at (length f)) (one-said e s (l .message) m (l .says) x) }
+
+-- A LINE IS WITHIN 8 TIMES WHAT STANDS BESIDE ITS MESSAGE AND 352 BYTES (place and length are numbers of 64 bits): so such a room is never
+-- refused with 4
+pub never-short-said : {e : Coded} {s : List ℕ} {at len left : ℕ} → at ≤ last → len ≤ last → 8 * length s + 352 ≤ left → SaidCause e s at len left 4 → ⊥
+never-short-said h k r (short l g) = omega (arith, sizes.line-bounded h k l .most)

@@ -4,24 +4,31 @@ use mathlib.Core.Path.{_≡_, sym, ap, _∙_, subst}
 use mathlib.Core.List.{List}
 use Prim.Native.Nat.{ℕ, _+_}
 use Rattle.digits.specs.Paper.Bytes.{part}
+use Rattle.digits.proofs.Laws.Refusals.{one-answer}
 use Rattle.frames.specs.declared.Found.{Found}
 use Rattle.frames.specs.declared.Found.the-variants.{At as Hit, Refused as NoHit}
 use Rattle.frames.proofs.Unique.{searched-one, hit-or-none}
+use Rattle.messages.specs.declared.Message.{Message as Coded}
 use Rattle.puts.specs.declared.Written.{Written}
 use Rattle.puts.proofs.Laws.Right.{one-wrote, one-puts}
-use Rattle.lines.specs.Paper.Answers.{WritesLine, PutsLine, PutsNext}
+use Rattle.puts.proofs.Unique.{written-answer}
+use Rattle.lines.specs.Paper.Answers.{WritesLine, WritesSaid, PutsLine, PutsNext}
 use Rattle.lines.specs.declared.Listed.{Listed}
 use Rattle.lines.specs.declared.Listed.the-variants.{At, Refused}
 use Rattle.lines.proofs.Laws.Next.{next-hit, next-found, line-put, none-found, room-kept}
+use Rattle.lines.proofs.Laws.Of.{one-put-said}
 use Rattle.lines.proofs.Laws.Write.{one-line}
 
 -- write
 pub write : (k : ℕ) (f : List ℕ) (at : ℕ) (room : List ℕ) {r q : Written} {s t : List ℕ} → WritesLine k f at room r s → WritesLine k f at room q t → (r ≡ q) × (s ≡ t)
 write k f at room a b = one-wrote one-line a b
 
--- tested: a frame has one line
-pub tested : {k : ℕ} {f : List ℕ} {at : ℕ} {room : List ℕ} {place b c : ℕ} {x y : List ℕ} → PutsLine k f at room x place b → PutsLine k f at room y place c → (b ≡ c) × (x ≡ y)
-tested p q = one-puts one-line p q
+-- of: a message and what stands beside it say one line
+pub of : {e : Coded} {s : List ℕ} {at len : ℕ} {room : List ℕ} {to : ℕ} {x y : List ℕ} (r q : Written) → WritesSaid e s at len room to r x
+    → WritesSaid e s at len room to q y → (r ≡ q) × (x ≡ y)
+of r q a b =
+    let e = one-answer one-put-said a b in
+    (written-answer r q (e .0) (ap (λ v. v .0) (e .1)), ap (λ v. v .1) (e .1))
 
 -- next: what the search finds is the same, and then its line, and then what is put
 abbrev with : ℕ → Found → Listed
@@ -36,7 +43,7 @@ module _ (k : ℕ) (s : List ℕ) (place : ℕ) (room : List ℕ) (to : ℕ) whe
   pub next : (r q : Listed) {x y : List ℕ} → PutsNext k s place room to r x → PutsNext k s place room to q y → (r ≡ q) × (x ≡ y)
   next (At a b m) (At v w n) {x} {y} f g =
       let one : next-hit f ≡ next-hit g = searched-one (next-hit f) (next-hit g) (next-found f) (next-found g) in
-      let puts : (m ≡ n) × (x ≡ y) = tested (subst (Puts k s room to x m) one (line-put f)) (line-put g) in
+      let puts : (m ≡ n) × (x ≡ y) = one-puts one-line (subst (Puts k s room to x m) one (line-put f)) (line-put g) in
       (ap (with m) one ∙ ap (λ (i : ℕ). At v w i) (puts .0), puts .1)
   next (At a b m) (Refused why) f g = absurd (hit-or-none (searched-one (next-hit f) (NoHit why) (next-found f) (none-found why g)))
   next (Refused why) (At a b m) f g = absurd (hit-or-none (searched-one (next-hit g) (NoHit why) (next-found g) (none-found why f)))

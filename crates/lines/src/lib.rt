@@ -9,15 +9,20 @@ use digits::refusal::Refusal;
 use messages::Decoded;
 use messages::Message;
 use messages::Seen;
+use messages::Standing;
 use puts::Written;
 ghost use mathlib.Core.Path.{_≡_};
-ghost use Prim.Native.Nat.{_≤_};
+ghost use Prim.Native.Nat.{_-_};
+ghost use lib.Dec.{leb};
 ghost use lib.ListN.{length};
-ghost use Rattle.puts.specs.Paper.Put.{Put, last};
-ghost use Rattle.puts.specs.Paper.Wrote.{RoomCause, Writes};
-ghost use Rattle.frames.specs.Paper.Whole.{OneFrame};
-ghost use Rattle.lines.specs.Paper.Answers.{WritesLine, PutsLine, PutsNext};
-ghost use Rattle.lines.specs.Work.Put.{restOf, put};
+ghost use Rattle.puts.specs.Paper.Put.{Put};
+ghost use Rattle.lines.specs.Paper.Answers.{WritesLine, WritesSaid, PutsNext};
+ghost use Rattle.lines.specs.Work.Put.{restOf, put, Bounded, AllOrNone};
+
+// No line is longer than so many bytes, and so many more for each byte that stands beside its message.
+const MOST: usize = 352;
+
+const MOST_A_BYTE: usize = 8;
 
 // What stands next in a capture: a frame's start and length, and the place in the room behind its line.
 pub enum Listed {
@@ -36,29 +41,28 @@ pub fn write(kind: u8, frame: &[u8], at: usize, room: &mut [u8]) -> Written
 {
     match messages::decode(kind, frame) {
         Decoded::Is { message, from, to } => {
-            front(message, &frame[from..to], at, frame.len(), room)
+            placed(message, &frame[from..to], at, frame.len(), room, 0)
         }
         Decoded::Refused(why) => Written::Refused(why),
     }
 }
 
-// Puts the line of one frame whose payload goes from the one place to the other, as `frames::one_frame` has answered, at a place of the
-// room and as far as the room goes. The frame stands at a place of a capture or of a book. Nothing is tested again, so this is asked of
-// the caller and proved at each call.
-pub fn tested(
-    kind: u8,
-    frame: &[u8],
-    from: usize,
-    to: usize,
+// Puts the line of a message, with its content beside it, at a place of the room: all of it, or none where too little of the room is left
+// behind that place. Refusals: 5 where message and content say no message of the table, 4 for a room that is too short.
+pub fn of(
+    message: Message,
+    content: &[u8],
     at: usize,
+    len: usize,
     room: &mut [u8],
-    place: usize,
-) -> usize
-    requires { ⌜ OneFrame kind (now frame) (record { from = from; to = to }) ⌝ }
-    ensures { λ r. ⌜ PutsLine kind (now (frame .entry)) at (now (room .entry)) (now (room .exit)) place r ⌝ }
+    to: usize,
+) -> Written
+    ensures { λ r. ⌜ WritesSaid message (now (content .entry)) at len (now (room .entry)) to r (now (room .exit)) ⌝ }
 {
-    let message = messages::message_in(kind, frame, from, to);
-    line(message, &frame[from..to], at, frame.len(), room, place)
+    match messages::allowed(message, content) {
+        Standing::Good => placed(message, content, at, len, room, to),
+        Standing::Refused(why) => Written::Refused(Refusal::Limits),
+    }
 }
 
 // Puts the line of the frame with the smallest start at or after a place of the capture, at a place of the room and as far as the room
@@ -82,20 +86,50 @@ pub fn next(kind: u8, capture: &[u8], place: usize, room: &mut [u8], to: usize) 
     }
 }
 
-// Writes a line from the front of the room: all of it, or none where the room is too short.
-fn front(message: Message, content: &[u8], at: usize, len: usize, room: &mut [u8]) -> Written
-    requires { ⌜ length (put message (now content) at len) ≤ last ⌝ }
-    ensures { λ r. ⌜ Writes (RoomCause (length (now (room .entry))) (length (put message (now (content .entry)) at len))) (put message (now (content .entry)) at len) (now (room .entry)) r (now (room .exit)) ⌝ }
+// Puts a line at a place of the room: all of it, or none where too little of the room is left.
+fn placed(
+    message: Message,
+    content: &[u8],
+    at: usize,
+    len: usize,
+    room: &mut [u8],
+    to: usize,
+) -> Written
+    requires { ⌜ Bounded (put message (now content) at len) (length (now content)) ⌝ }
+    ensures { λ r. ⌜ AllOrNone (put message (now (content .entry)) at len) (now (room .entry)) to r (now (room .exit)) ⌝ }
 {
-    if room.len() < size(message, content, at, len) {
+    if !fits(message, content, at, len, left(room.len(), to)) {
         return Written::Refused(Refusal::Room);
     }
-    Written::Bytes(line(message, content, at, len, room, 0))
+    Written::Bytes(line(message, content, at, len, room, to) - to)
+}
+
+// How much of a room of so many bytes is left behind a place.
+fn left(room: usize, to: usize) -> usize
+    ensures { λ r. ⌜ r ≡ room - to ⌝ }
+{
+    if room < to {
+        return 0;
+    }
+    room - to
+}
+
+// Whether a line fits into so many bytes. Only where it might not is it measured.
+fn fits(message: Message, content: &[u8], at: usize, len: usize, bytes: usize) -> bool
+    requires { ⌜ Bounded (put message (now content) at len) (length (now content)) ⌝ }
+    ensures { λ r. ⌜ r ≡ leb (length (put message (now (content .entry)) at len)) bytes ⌝ }
+{
+    if MOST <= bytes {
+        if content.len() <= (bytes - MOST) / MOST_A_BYTE {
+            return true;
+        }
+    }
+    size(message, content, at, len) <= bytes
 }
 
 // How long a line is: the writer in a room too short.
 fn size(message: Message, content: &[u8], at: usize, len: usize) -> usize
-    requires { ⌜ length (put message (now content) at len) ≤ last ⌝ }
+    requires { ⌜ Bounded (put message (now content) at len) (length (now content)) ⌝ }
     ensures { λ r. ⌜ r ≡ length (put message (now (content .entry)) at len) ⌝ }
 {
     let mut none = [0u8; 1];

@@ -15,14 +15,14 @@ use Rattle.digits.specs.Paper.LowFirst.{lowFirst}
 use Rattle.digits.specs.declared.refusal.Refusal.the-variants.{NoFrame}
 use Rattle.checks.specs.Paper.Bits.{bits, ofLows, number, bitsOfBytes}
 use Rattle.checks.specs.Paper.Check.{polyBits, feed}
-use Rattle.layouts.specs.Paper.Chars.{all, CR, LF}
+use Rattle.layouts.specs.Paper.Chars.{all, oneOf, CR, LF}
 use Rattle.layouts.specs.Work.Heads.{onlyIf, starts, wordLen, runLen, isByte, on}
-use Rattle.layouts.specs.Work.Nest.{bodyLen, nestFormLen, crcPasses, nestPasses, nestLen}
+use Rattle.layouts.specs.Work.Nest.{bodyLen, nestFormLen, crcPasses, nestPasses}
 use Rattle.frames.specs.Paper.Kinds.{known}
 use Rattle.frames.specs.Paper.Runs.{ends, finds}
 use Rattle.frames.specs.Paper.Search.{Searches}
-use Rattle.frames.specs.Work.Frames.{frameLen, fromOf, toOf, headFrom, headTo}
-use Rattle.frames.specs.Work.Seek.{seek, searched}
+use Rattle.frames.specs.Work.Frames.{lenAt, fromAt, toAt}
+use Rattle.frames.specs.Work.Seek.{seekAmong, seek, among, resolved, searched}
 use Rattle.frames.specs.declared.Found.the-variants.{At, Refused}
 use Rattle.frames.proofs.Theorems.{an-answer}
 use Rattle.messages.specs.Paper.Message.{command}
@@ -40,11 +40,11 @@ abbrev capture : List ℕ
 capture = 0xD5 ∷ 0xAA ∷ 0x96 ∷ 0xFF ∷ 0x00 ∷ 0x00 ∷ 0x00 ∷ 0xA3 ∷ 0x4B ∷ 0xFF ∷ []
 
 first : searched 2 capture 0 ≡ At 0 9 7 7
-unfolding searched known seek frameLen headFrom headTo fromOf toOf nestLen nestFormLen nestPasses crcPasses bodyLen isByte all onlyIf starts wordLen runLen on lowFirst feed polyBits bits lows number ofLows bitsOfBytes
+unfolding searched resolved among seek seekAmong lenAt fromAt toAt nestFormLen nestPasses crcPasses bodyLen isByte all onlyIf starts wordLen runLen on lowFirst feed polyBits bits lows number ofLows bitsOfBytes
 first = refl
 
 second : searched 2 capture 9 ≡ Refused NoFrame
-unfolding searched known seek frameLen headFrom headTo fromOf toOf nestLen nestFormLen nestPasses crcPasses bodyLen isByte all onlyIf starts wordLen runLen on lowFirst feed polyBits bits lows number ofLows bitsOfBytes
+unfolding searched resolved among seek seekAmong lenAt fromAt toAt nestFormLen nestPasses crcPasses bodyLen isByte all onlyIf starts wordLen runLen on lowFirst feed polyBits bits lows number ofLows bitsOfBytes
 second = refl
 
 its-line : LineOf 2 (0xD5 ∷ 0xAA ∷ 0x96 ∷ 0xFF ∷ 0x00 ∷ 0x00 ∷ 0x00 ∷ 0xA3 ∷ 0x4B ∷ []) 0 (ascii "{\"at\":0,\"len\":9,\"msg\":\"command\",\"id\":255,\"data\":\"\"}\n")
@@ -53,7 +53,7 @@ its-line = record { message = command 0x00FF []; stands = messages.c; is = refl 
 
 -- "Input `2`, LF, .. prints, whole"
 pub example : Listing (0x32 ∷ LF ∷ capture) (ascii "{\"at\":0,\"len\":9,\"msg\":\"command\",\"id\":255,\"data\":\"\"}\n{\"frames\":1,\"skipped\":1}\n")
-unfolding known inside object further decimal decimalIn enough
+unfolding known oneOf inside object further decimal decimalIn enough
 example =
     listed (record { kind = 2; is-kind = refl; capture = capture; is = refl }) (lit≤ tt)
     (record {
@@ -68,11 +68,11 @@ example =
 
 -- a capture of no bytes
 nothing : searched 5 [] 0 ≡ Refused NoFrame
-unfolding searched known seek
+unfolding searched resolved among seek seekAmong
 nothing = refl
 
 pub empty-capture : Listing (0x35 ∷ LF ∷ []) (ascii "{\"frames\":0,\"skipped\":0}\n")
-unfolding known inside object further decimal decimalIn enough
+unfolding known oneOf inside object further decimal decimalIn enough
 empty-capture =
     listed (record { kind = 5; is-kind = refl; capture = []; is = refl }) (lit≤ tt)
     (record { frames = []; run = ends (subst (Searches 5 [] 0) nothing (an-answer 5 [] 0)); lines = []; each = none; is = refl })
@@ -84,11 +84,11 @@ unfolding object further decimal decimalIn enough
 refused-2 f = bad-start f
 
 no-kind-6 : Input (ascii "6\n") → ⊥
-unfolding known
+unfolding known oneOf
 no-kind-6 i = false≢true (kind-known i)
 
 no-kind-0 : Input (ascii "0\n") → ⊥
-unfolding known
+unfolding known oneOf
 no-kind-0 i = false≢true (kind-known i)
 
 pub digit-6 : Listing (ascii "6\n") (ascii "{\"refused\":2}\n")

@@ -15,44 +15,37 @@ use Rattle.checks.specs.Paper.Check.{polyBits, feed}
 use Rattle.layouts.specs.Paper.Chars.{CR}
 use Rattle.messages.specs.Paper.Answers.{Stands}
 use Rattle.messages.specs.Paper.Message.{read, link, command, ask}
-use Rattle.messages.specs.Paper.Table.{fields}
+use Rattle.messages.specs.Paper.Table.{contentOf}
 use Rattle.messages.specs.Work.Look.{look, lookLink, lookNibe, isRead, isSet, isAsk}
 use Rattle.messages.proofs.Laws.Table.{free}
+use Rattle.messages.proofs.Theorems.{bytes-stand}
 
 -- (a) "`$10110000B8CF9D` CR is link"
 pub a : Stands 1 (ascii "$10110000B8CF9D" ++ (CR ∷ [])) (link (0x11 ∷ 0x00 ∷ 0x00 ∷ []))
-unfolding fields look lookLink isRead isSet hexDigit hexByte hexBytes hexWord feed polyBits bits lows number ofLows bitsOfBytes
+unfolding contentOf look lookLink isRead isSet hexDigit hexByte hexBytes hexWord feed polyBits bits lows number ofLows bitsOfBytes
 a =
-    record {
-      good =
-          record {
-            limits = record { enough = lit≤ tt; short = lit≤ tt; bytes = bytes-cons (lit< tt) (bytes-cons (lit< tt) (bytes-cons (lit< tt) bytes-nil)) };
-            free = free (link (0x11 ∷ 0x00 ∷ 0x00 ∷ [])) refl;
-          };
-      kind = refl;
-      frame = refl;
-    }
+    bytes-stand
+    (record {
+      limits = record { enough = lit≤ tt; short = lit≤ tt; bytes = bytes-cons (lit< tt) (bytes-cons (lit< tt) (bytes-cons (lit< tt) bytes-nil)) };
+      free = free (link (0x11 ∷ 0x00 ∷ 0x00 ∷ [])) refl;
+    }) refl refl
 
 -- (b) "`$10120747402BFC` CR is read, group 1, 4707"
 pub b : Stands 1 (ascii "$10120747402BFC" ++ (CR ∷ [])) (read 1 0x4707)
-unfolding fields look lookLink isRead lowFirst hexDigit hexByte hexBytes hexWord feed polyBits bits lows number ofLows bitsOfBytes
-b = record { good = record { limits = (inl refl, lit< tt); free = free (read 1 0x4707) refl }; kind = refl; frame = refl }
+unfolding contentOf look lookLink isRead lowFirst hexDigit hexByte hexBytes hexWord feed polyBits bits lows number ofLows bitsOfBytes
+b = bytes-stand (record { limits = (inl refl, lit< tt); free = free (read 1 0x4707) refl }) refl refl
 
 -- (c) the reset frame
 pub c : Stands 2 (0xD5 ∷ 0xAA ∷ 0x96 ∷ 0xFF ∷ 0x00 ∷ 0x00 ∷ 0x00 ∷ 0xA3 ∷ 0x4B ∷ []) (command 0x00FF [])
-unfolding fields look lowFirst feed polyBits bits lows number ofLows bitsOfBytes
+unfolding contentOf look lowFirst feed polyBits bits lows number ofLows bitsOfBytes
 c =
-    record {
-      good =
-          record {
-            limits = (lit< tt, record { enough = lit≤ tt; short = lit≤ tt; bytes = bytes-nil });
-            free = free (command 0x00FF []) refl;
-          };
-      kind = refl;
-      frame = refl;
-    }
+    bytes-stand
+    (record {
+      limits = (lit< tt, record { enough = lit≤ tt; short = lit≤ tt; bytes = bytes-nil });
+      free = free (command 0x00FF []) refl;
+    }) refl refl
 
 -- (e) "`C0 69 02 44 9C DA` asks 40004"
 pub e : Stands 4 (0xC0 ∷ 0x69 ∷ 0x02 ∷ 0x44 ∷ 0x9C ∷ 0xDA ∷ []) (ask 40004)
-unfolding fields look lookNibe isAsk lowFirst feed polyBits bits lows number ofLows bitsOfBytes
-e = record { good = record { limits = lit< tt; free = free (ask 40004) refl }; kind = refl; frame = refl }
+unfolding contentOf look lookNibe isAsk lowFirst feed polyBits bits lows number ofLows bitsOfBytes
+e = bytes-stand (record { limits = lit< tt; free = free (ask 40004) refl }) refl refl

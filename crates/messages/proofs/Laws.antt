@@ -20,3 +20,6 @@ pub mod NestUnique
 pub mod HomiqLook
 pub mod Cases
 pub mod Find
+pub mod Meant
+pub mod Allowed
+pub mod Given

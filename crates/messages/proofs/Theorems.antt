@@ -1,55 +1,65 @@
 -- What the table comes to, for a reader: demand 2's messages.
 -- Assumes nothing.
 use mathlib.Core.List.{List, [], _∷_}
-use mathlib.Core.Path.{_≡_, refl, sym, _∙_, ap}
+use mathlib.Core.Path.{_≡_, refl, sym, _∙_, ap, subst}
 use Prim.Native.Nat.{ℕ}
 use lib.Dec.{T}
 use Rattle.digits.specs.Paper.Bytes.{part}
-use Rattle.frames.specs.Paper.Kinds.{Frame}
+use Rattle.frames.specs.Paper.Kinds.{numberOf, Frame}
 use Rattle.messages.specs.Paper.Answers.{Stands, Said}
-use Rattle.messages.specs.Paper.Fields.{kindOf, payloadIn, payloadFrom, payloadTo}
+use Rattle.messages.specs.Paper.Content.{Content, kindOf, laid, payloadIn, payloadFrom, payloadTo}
 use Rattle.messages.specs.Paper.Message.{Message, read, set, answer, press, tail, link, command, climate, state, break, end, text, response, ask, reply, put, done, nibe, output, input, shutter, beat, homiq, row}
 use Rattle.layouts.specs.Paper.Chars.{oneOf}
-use Rattle.messages.specs.Paper.Table.{fields, bytes, Limits, Above, Good}
+use Rattle.messages.specs.Paper.Table.{contentOf, bytes, Limits, Above, Good}
 use Rattle.messages.specs.Work.Look.{look}
 use Rattle.messages.specs.declared.Message.{Message as Coded}
 use Rattle.messages.proofs.Laws.Decode as decoding
-use Rattle.messages.proofs.Laws.Frames.{one-fields, frame-of}
+use Rattle.messages.proofs.Laws.Frames.{made-content, content-bytes, content-kind, one-content, frame-of}
 use Rattle.messages.proofs.Laws.HomiqRows.{output-found, input-found, shutter-found, beat-found}
 use Rattle.messages.proofs.Laws.NestRows.{climate-found, state-found, break-found, end-found}
 use Rattle.messages.proofs.Laws.NibeRows.{ask-found, reply-found, put-found, done-found}
 use Rattle.messages.proofs.Laws.NikobusRows.{read-found, set-found, answer-found}
 use Rattle.messages.proofs.Laws.Table.{fit, free, one-message}
 
--- COVERAGE: every frame of a kind is the bytes of a message of the table
+-- COVERAGE: in every frame of a kind stands a message of the table
 pub has-message : {k : ℕ} {f : List ℕ} → Frame k f → (m : Message) × Stands k f m
 has-message = decoding.message-of
 
--- UNIQUENESS: and of no other
+-- UNIQUENESS: and no other
 pub one-message-of : {k : ℕ} {f : List ℕ} (m n : Message) → Stands k f m → Stands k f n → m ≡ n
-one-message-of m n s t =
-    let e = one-fields (fields m) (fields n) (fit m (s .good .limits)) (fit n (t .good .limits)) (s .kind ∙ sym (t .kind)) (s .frame ∙ sym (t .frame)) in
-    one-message m n (s .good) (t .good) e
+one-message-of m n s t = one-message m n (s .good) (t .good) (sym (s .content) ∙ one-content (s .frame) (t .frame) ∙ t .content)
+
+-- A MESSAGE STANDS IN ITS BYTES AND IN NO OTHERS, as a frame of its kind
+pub stands-bytes : {k : ℕ} {f : List ℕ} {m : Message} → Stands k f m → f ≡ bytes m
+stands-bytes s = content-bytes (s .frame) ∙ ap laid (s .content)
+
+pub stands-kind : {k : ℕ} {f : List ℕ} {m : Message} → Stands k f m → numberOf (kindOf (contentOf m)) ≡ k
+stands-kind s = ap (λ (c : Content). numberOf (kindOf c)) (sym (s .content)) ∙ content-kind (s .frame)
 
 -- THE BYTES OF EVERY MESSAGE within its limits are a frame, whether a message above has its content or not
-pub bytes-frame : (m : Message) → Limits m → Frame (kindOf (fields m)) (bytes m)
-bytes-frame m l = frame-of (fields m) (fit m l)
+abbrev pub bytes-frame : (m : Message) → Limits m → Frame (numberOf (kindOf (contentOf m))) (bytes m)
+bytes-frame m l = frame-of (contentOf m) (fit m l)
 
 -- so a message of the table is the message of its own bytes
-pub own-bytes : (m : Message) → Good m → Stands (kindOf (fields m)) (bytes m) m
-own-bytes m g = record { good = g; kind = refl; frame = refl }
+pub own-bytes : (m : Message) → Good m → Stands (numberOf (kindOf (contentOf m))) (bytes m) m
+own-bytes m g = record { good = g; frame = bytes-frame m (g .limits); content = made-content (contentOf m) }
+
+-- and bytes that are a message's are its frame: `Stands` says the same as that f is the bytes of m, of m's kind
+pub bytes-stand : {k : ℕ} {f : List ℕ} {m : Message} → Good m → numberOf (kindOf (contentOf m)) ≡ k → bytes m ≡ f → Stands k f m
+bytes-stand {k} {f} {m} g e b =
+    subst (λ (j : ℕ). Stands j f m) e (subst (λ (s : List ℕ). Stands (numberOf (kindOf (contentOf m))) s m) b (own-bytes m g))
 
 -- and what a frame is decoded to has the frame's payload beside it
-pub beside : {k : ℕ} {f : List ℕ} {e : Coded} {from to : ℕ} (said : Said k f e from to) → part from to f ≡ payloadIn (fields (said .message))
+pub beside : {k : ℕ} {f : List ℕ} {e : Coded} {from to : ℕ} (said : Said k f e from to) → part from to f ≡ payloadIn (contentOf (said .message))
 beside {f = f} {from = from} {to = to} said =
-    let x = fields (said .message) in
+    let x = contentOf (said .message) in
     ap (λ (i : ℕ). part i to f) (said .from-is) ∙ ap (λ (i : ℕ). part (payloadFrom x) i f) (said .to-is)
-    ∙ ap (part (payloadFrom x) (payloadTo x)) (sym (said .stands .frame)) ∙ decoding.payload-part x
+    ∙ ap (part (payloadFrom x) (payloadTo x)) (stands-bytes (said .stands)) ∙ decoding.payload-part x
 
 -- "Link, text, response, nibe and homiq": of the messages within their limits only these, the rows
 -- 6, 12, 13, 18 and 23, can have the content of one above
 pub only-these : (m : Message) → Limits m → Above m → T (oneOf (6 ∷ 12 ∷ 13 ∷ 18 ∷ 23 ∷ []) (row m))
-unfolding look fields oneOf
+unfolding look contentOf oneOf
 only-these (read g a) l x = absurd (free (read g a) (read-found g a l) x)
 only-these (set g a out) l x = absurd (free (set g a out) (set-found g a out l) x)
 only-these (answer a third out) l x = absurd (free (answer a third out) (answer-found a third out l) x)

@@ -10,10 +10,12 @@ use Rattle.frames.specs.declared.Found.{Found}
 use Rattle.frames.specs.declared.Found.the-variants.{At as Hit, Refused as NoHit}
 use Rattle.frames.proofs.Unique.{searched-one, hit-or-none}
 use Rattle.messages.specs.Paper.Answers.{Stands, Said, Decodes, Contents, Finds}
-use Rattle.messages.specs.Paper.Fields.{payloadIn, payloadFrom, payloadTo}
+use Rattle.messages.specs.Paper.Allowed.{Allows}
+use Rattle.messages.specs.Paper.Content.{Content, payloadIn, payloadFrom, payloadTo}
+use Rattle.messages.specs.Paper.Meant.{LinkWith, HomiqWith, Means}
 use Rattle.messages.specs.Paper.Message.{Message}
 use Rattle.messages.specs.Paper.Says.{Says}
-use Rattle.messages.specs.Paper.Table.{fields}
+use Rattle.messages.specs.Paper.Table.{contentOf}
 use Rattle.messages.specs.declared.Message.{Message as Coded}
 use Rattle.messages.specs.declared.Decoded.{Decoded}
 use Rattle.messages.specs.declared.Decoded.the-variants.{Is, Refused}
@@ -25,6 +27,10 @@ use Rattle.messages.specs.Paper.Panel.{ShowsPair, ReadsVolts}
 use Rattle.messages.specs.declared.nest.Pair.{Pair}
 use Rattle.messages.specs.declared.nest.Response.{Response}
 use Rattle.messages.specs.declared.nest.Volts.{Volts}
+use Rattle.messages.specs.declared.Meant.{Meant}
+use Rattle.messages.specs.declared.Standing.{Standing}
+use Rattle.messages.proofs.Laws.Allowed.{one-standing}
+use Rattle.messages.proofs.Laws.Meant.{one-link, one-homiq, one-equal, one-meant}
 use Rattle.messages.proofs.Laws.Cases.{said-in, search-in, found-in, search-refused}
 use Rattle.messages.proofs.Laws.NestUnique.{one-pair, one-volts}
 use Rattle.messages.proofs.Laws.Says.{one-case}
@@ -34,14 +40,14 @@ use Rattle.messages.proofs.Theorems.{one-message-of}
 one-coded : {k : ℕ} {f : List ℕ} {d e : Coded} {a b x y : ℕ} → Said k f d a b → Said k f e x y → d ≡ e
 one-coded {k} {f} {d} {e} s t =
     let m : s .message ≡ t .message = one-message-of (s .message) (t .message) (s .stands) (t .stands) in
-    let u : Says d (payloadIn (fields (s .message))) (t .message) = subst (Says d (payloadIn (fields (s .message)))) m (s .says) in
-    one-case d e (payloadIn (fields (s .message))) (payloadIn (fields (t .message))) (t .message) u (t .says)
+    let u : Says d (payloadIn (contentOf (s .message))) (t .message) = subst (Says d (payloadIn (contentOf (s .message)))) m (s .says) in
+    one-case d e (payloadIn (contentOf (s .message))) (payloadIn (contentOf (t .message))) (t .message) u (t .says)
 
 one-is : {k : ℕ} {f : List ℕ} {d e : Coded} {a b x y : ℕ} → Said k f d a b → Said k f e x y → Is d a b ≡ Is e x y
 one-is {k} {f} {d} {e} {a} {b} {x} {y} s t =
     let m : s .message ≡ t .message = one-message-of (s .message) (t .message) (s .stands) (t .stands) in
-    let p : a ≡ x = s .from-is ∙ ap (λ (n : Message). payloadFrom (fields n)) m ∙ sym (t .from-is) in
-    let q : b ≡ y = s .to-is ∙ ap (λ (n : Message). payloadTo (fields n)) m ∙ sym (t .to-is) in
+    let p : a ≡ x = s .from-is ∙ ap (λ (n : Message). payloadFrom (contentOf n)) m ∙ sym (t .from-is) in
+    let q : b ≡ y = s .to-is ∙ ap (λ (n : Message). payloadTo (contentOf n)) m ∙ sym (t .to-is) in
     ap (λ (i : Coded). Is i a b) (one-coded s t) ∙ ap (λ (i : ℕ). Is e i b) p ∙ ap (Is e x) q
 
 pub decode : (k : ℕ) (f : List ℕ) (r q : Decoded) → Decodes k f r → Decodes k f q → r ≡ q
@@ -49,10 +55,6 @@ decode k f (Is d a b) (Is e x y) s t = one-is (said-in s) (said-in t)
 decode k f (Is d a b) (Refused why) s t = let e = one-first (cause-of s) (cause-of t) in absurd (omega (arith, some-number why))
 decode k f (Refused why) (Is e x y) s t = let e = one-first (cause-of s) (cause-of t) in absurd (omega (arith, some-number why))
 decode k f (Refused why) (Refused other) s t = ap Refused (one-refusal why other (one-first (cause-of s) (cause-of t)))
-
--- message_in
-pub message-in : (k : ℕ) (f : List ℕ) (from to : ℕ) (r q : Coded) → Said k f r from to → Said k f q from to → r ≡ q
-message-in k f from to r q s t = one-coded s t
 
 -- find: what the search finds is the same, and then the message
 abbrev with : Coded → Found → Seen
@@ -72,8 +74,8 @@ find k s place (Unseen why) (At a b c d e) f g = absurd (hit-or-none (searched-o
 find k s place (Unseen why) (Unseen other) f g = ap (with (Command 0)) (searched-one (NoHit why) (NoHit other) (search-refused why f) (search-refused other g))
 
 -- content
-one-part : {k : ℕ} {f : List ℕ} (p q : List ℕ) → ((m : Message) × (Stands k f m) × (p ≡ payloadIn (fields m))) → ((m : Message) × (Stands k f m) × (q ≡ payloadIn (fields m))) → p ≡ q
-one-part p q s t = s .2 ∙ ap (λ (n : Message). payloadIn (fields n)) (one-message-of (s .0) (t .0) (s .1) (t .1)) ∙ sym (t .2)
+one-part : {k : ℕ} {f : List ℕ} (p q : List ℕ) → ((m : Message) × (Stands k f m) × (p ≡ payloadIn (contentOf m))) → ((m : Message) × (Stands k f m) × (q ≡ payloadIn (contentOf m))) → p ≡ q
+one-part p q s t = s .2 ∙ ap (λ (n : Message). payloadIn (contentOf n)) (one-message-of (s .0) (t .0) (s .1) (t .1)) ∙ sym (t .2)
 
 pub content : (k : ℕ) (f p q : List ℕ) → Contents k f p → Contents k f q → p ≡ q
 content k f p q a b = one-answer one-part (a .answer) (b .answer) .1
@@ -89,3 +91,17 @@ for-panel = one-pair
 -- nest::voltages
 pub voltages : (p : List ℕ) (r q : Volts) → ReadsVolts p r → ReadsVolts p q → r ≡ q
 voltages = one-volts
+
+-- nikobus::of_link, nikobus::of_press, nest::of, nibe::of, homiq::of
+pub of-link : (d : List ℕ) (r q : Meant) → Means (LinkWith d) r → Means (LinkWith d) q → r ≡ q
+of-link d = one-meant one-link
+
+pub of-content : (c : Content) (r q : Meant) → Means (λ x. x ≡ c) r → Means (λ x. x ≡ c) q → r ≡ q
+of-content c = one-meant one-equal
+
+pub of-homiq : (p : List ℕ) (r q : Meant) → Means (HomiqWith p) r → Means (HomiqWith p) q → r ≡ q
+of-homiq p = one-meant one-homiq
+
+-- allowed
+pub allowed : (e : Coded) (s : List ℕ) (r q : Standing) → Allows e s r → Allows e s q → r ≡ q
+allowed e s = one-standing

@@ -1,7 +1,9 @@
 pub mod Message
-pub mod Fields
+pub mod Content
 pub mod Table
 pub mod Homiq
 pub mod Says
 pub mod Answers
 pub mod Panel
+pub mod Meant
+pub mod Allowed

@@ -1,4 +1,4 @@
-pub mod Fields
+pub mod Content
 pub mod Homiq
 pub mod Look
 pub mod Answers

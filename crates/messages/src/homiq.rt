@@ -1,15 +1,26 @@
 // Homiq: the messages of a payload CMD to TYPE, and its fields.
+use super::Meant;
+use super::Message;
+use super::Standing;
 use digits::decimal;
 use digits::decimal::Whole;
+use digits::refusal::Refusal;
 use digits::slices;
+use layouts::homiq;
 ghost use mathlib.Core.Path.{_≡_};
 ghost use Prim.Native.Nat.{_+_, _≤_};
 ghost use lib.ListN.{length, drop};
 ghost use Rattle.digits.specs.Paper.Ascii.{ascii};
 ghost use Rattle.digits.specs.Paper.Read.{Tells};
+ghost use Rattle.messages.specs.Paper.Allowed.{StandsSo};
 ghost use Rattle.messages.specs.Paper.Homiq.{upTo, fieldAt};
+ghost use Rattle.messages.specs.Paper.Meant.{Means, HomiqWith};
+ghost use Rattle.messages.specs.Paper.Says.{SaysHomiq};
 ghost use Rattle.messages.specs.Paper.Table.{Numbered, Letter};
-ghost use Rattle.messages.specs.Work.Homiq.{whichOf};
+ghost use Rattle.messages.specs.Work.Homiq.{whichOf, caseNumber};
+
+// The number of the message that all the rest is.
+const REST: u8 = 4;
 
 // Beside each stands CMD to TYPE.
 pub enum Homiq {
@@ -18,6 +29,46 @@ pub enum Homiq {
     Shutter,
     Beat,
     Homiq,
+}
+
+// The message of CMD to TYPE; 5 where they are not the six fields within their limits.
+pub fn of(payload: &[u8]) -> Meant
+    ensures { λ r. ⌜ Means (HomiqWith (now (payload .entry))) r ⌝ }
+{
+    if !homiq::is_payload(payload) {
+        return Meant::Refused(Refusal::Limits);
+    }
+    Meant::Is(Message::Homiq(message_of(payload)))
+}
+
+// Whether a message, with CMD to TYPE beside it, is one of the table: the one that they are.
+pub(crate) fn allowed(message: Homiq, payload: &[u8]) -> Standing
+    ensures { λ r. ⌜ StandsSo (SaysHomiq message (now (payload .entry))) r ⌝ }
+{
+    if !homiq::is_payload(payload) {
+        return Standing::Refused(Refusal::Limits);
+    }
+    let own = case_number(message);
+    if own == case_number(message_of(payload)) {
+        return Standing::Good;
+    }
+    if own == REST {
+        return Standing::Refused(Refusal::Above);
+    }
+    Standing::Refused(Refusal::Limits)
+}
+
+// Which case a message is: two are compared by this.
+fn case_number(message: Homiq) -> u8
+    ensures { λ r. ⌜ r ≡ caseNumber message ⌝ }
+{
+    match message {
+        Homiq::Output => 0,
+        Homiq::Input => 1,
+        Homiq::Shutter => 2,
+        Homiq::Beat => 3,
+        Homiq::Homiq => REST,
+    }
 }
 
 // A field of CMD to TYPE, by its number from 0, as a part of them; empty where there is none.

@@ -8,12 +8,17 @@ mod words;
 use digits::refusal::Refusal;
 use frames::Found;
 use frames::Whole;
+use frames::kinds;
+use frames::kinds::Kind;
+use frames::kinds::Resolved;
 use homiq::Homiq;
 use nest::Response;
 use nibe::Nibe;
 use nikobus::Nikobus;
-ghost use Rattle.frames.specs.Paper.Whole.{OneFrame};
+ghost use Rattle.frames.specs.Paper.Kinds.{numberOf};
+ghost use Rattle.messages.specs.Paper.Allowed.{Allows};
 ghost use Rattle.messages.specs.Paper.Answers.{Decodes, Said, Contents, Finds};
+ghost use Rattle.messages.specs.Work.Answers.{Payloaded};
 
 // A message. Its bytes of free length stand beside it, as its frame's payload has them: a link's digits, Nest's payload, Nibe's
 // data, Homiq's CMD to TYPE. A message without such bytes takes nothing from there, whatever stands there.
@@ -48,11 +53,33 @@ pub enum Seen {
     Refused(Refusal),
 }
 
+// What a content means: its message. (The content's parts are a link's digits, a press's digits, a direction with an id and a payload, a
+// command and its data, CMD to TYPE.)
+pub enum Meant {
+    Is(Message),
+    Refused(Refusal),
+}
+
+// How a message stands, with what is beside it: it is one of the table, or why it is not.
+pub enum Standing {
+    Good,
+    Refused(Refusal),
+}
+
 // The message of one frame. Refusals: 2 for a kind that is not known, 5 for anything else than one frame.
 pub fn decode(kind: u8, frame: &[u8]) -> Decoded
     ensures { λ r. ⌜ Decodes kind (now (frame .entry)) r ⌝ }
 {
-    match frames::one_frame(kind, frame) {
+    match kinds::of(kind) {
+        Resolved::Is(known) => decode_as(known, frame),
+        Resolved::Unknown => Decoded::Refused(Refusal::Kind),
+    }
+}
+
+fn decode_as(kind: Kind, frame: &[u8]) -> Decoded
+    ensures { λ r. ⌜ Decodes (numberOf kind) (now (frame .entry)) r ⌝ }
+{
+    match frames::one_frame(kinds::number(kind), frame) {
         Whole::Is { from, to } => Decoded::Is {
             message: message_in(kind, frame, from, to),
             from: from,
@@ -67,7 +94,16 @@ pub fn decode(kind: u8, frame: &[u8]) -> Decoded
 pub fn find(kind: u8, buffer: &[u8], place: usize) -> Seen
     ensures { λ r. ⌜ Finds kind (now (buffer .entry)) place r ⌝ }
 {
-    match frames::search(kind, buffer, place) {
+    match kinds::of(kind) {
+        Resolved::Is(known) => find_as(known, buffer, place),
+        Resolved::Unknown => Seen::Refused(Refusal::Kind),
+    }
+}
+
+fn find_as(kind: Kind, buffer: &[u8], place: usize) -> Seen
+    ensures { λ r. ⌜ Finds (numberOf kind) (now (buffer .entry)) place r ⌝ }
+{
+    match frames::search(kinds::number(kind), buffer, place) {
         Found::At {
             start,
             len,
@@ -94,25 +130,33 @@ pub fn content(kind: u8, frame: &[u8]) -> &[u8]
     }
 }
 
-// The message of one frame whose payload goes from the one place to the other, as `frames::one_frame` has answered. Nothing is tested
-// again, so this is asked of the caller and proved at each call.
-pub fn message_in(kind: u8, frame: &[u8], from: usize, to: usize) -> Message
-    requires { ⌜ OneFrame kind (now frame) (record { from = from; to = to }) ⌝ }
-    ensures { λ r. ⌜ Said kind (now (frame .entry)) r from to ⌝ }
+// The message of one frame whose payload goes from the one place to the other, as it was tested: nothing is tested again.
+fn message_in(kind: Kind, frame: &[u8], from: usize, to: usize) -> Message
+    requires { ⌜ Payloaded (numberOf kind) (now frame) from to ⌝ }
+    ensures { λ r. ⌜ Said (numberOf kind) (now (frame .entry)) r from to ⌝ }
 {
-    if kind == 1 {
-        return Message::Nikobus(nikobus::message(frame, &frame[from..to]));
-    }
-    if kind == 2 {
-        return Message::Command {
+    let payload = &frame[from..to];
+    match kind {
+        Kind::Nikobus => Message::Nikobus(nikobus::message(frame, payload)),
+        Kind::NestCommand => Message::Command {
             id: words::word(frame, 3),
-        };
+        },
+        Kind::NestResponse => Message::Response(nest::message(words::word(frame, 4), payload)),
+        Kind::Nibe => Message::Nibe(nibe::message(frame[1], payload)),
+        Kind::Homiq => Message::Homiq(homiq::message_of(payload)),
     }
-    if kind == 3 {
-        return Message::Response(nest::message(words::word(frame, 4), &frame[from..to]));
+}
+
+// Whether a message, with what stands beside it, is one of the table. Refusals: 5 for a field outside its limits, 6 for the content of a
+// message above it.
+pub fn allowed(message: Message, content: &[u8]) -> Standing
+    ensures { λ r. ⌜ Allows message (now (content .entry)) r ⌝ }
+{
+    match message {
+        Message::Nikobus(m) => nikobus::allowed(m, content),
+        Message::Command { id } => nest::command_allowed(id, content),
+        Message::Response(m) => nest::allowed(m, content),
+        Message::Nibe(m) => nibe::allowed(m, content),
+        Message::Homiq(m) => homiq::allowed(m, content),
     }
-    if kind == 4 {
-        return Message::Nibe(nibe::message(frame[1], &frame[from..to]));
-    }
-    Message::Homiq(homiq::message_of(&frame[from..to]))
 }

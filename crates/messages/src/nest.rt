@@ -1,16 +1,26 @@
 // Nest: the messages of responses, what the panel is shown of them, and a state's voltages.
+use super::Meant;
+use super::Message;
+use super::Standing;
 use super::words;
 use digits::refusal::Refusal;
 use digits::slices;
+use layouts::nest::Direction;
 use numbers::panel;
 use numbers::panel::Climate;
 ghost use mathlib.Core.Path.{_≡_};
+ghost use mathlib.Core.List.{[]};
 ghost use Prim.Native.Nat.{_+_, _≤_};
 ghost use lib.ListN.{length};
+ghost use Rattle.digits.specs.Paper.Read.{Tells};
 ghost use Rattle.layouts.specs.Paper.Chars.{oneOf};
+ghost use Rattle.messages.specs.Paper.Allowed.{StandsSo};
+ghost use Rattle.messages.specs.Paper.Meant.{Means, NestWith};
+ghost use Rattle.messages.specs.Paper.Message.{command, state, text, response, row as rowOf};
 ghost use Rattle.messages.specs.Paper.Panel.{ShowsPair, ReadsVolts};
 ghost use Rattle.messages.specs.Paper.Says.{ofResponse};
 ghost use Rattle.messages.specs.Paper.Table.{textIds};
+ghost use Rattle.messages.specs.Work.Answers.{Only};
 ghost use Rattle.messages.specs.Work.Look.{signedAt, isClimate, isState, isBreak, isEnd, lookResponse};
 
 // Beside a state, a text and a response stands the payload.
@@ -33,6 +43,104 @@ pub enum Pair {
 pub enum Volts {
     Are { vin: u16, vop: u16, vbat: u16 },
     Refused(Refusal),
+}
+
+// The message of a command or a response with this id and payload; 5 where the payload is longer than 1,024 bytes.
+pub fn of(direction: Direction, id: u16, payload: &[u8]) -> Meant
+    ensures { λ r. ⌜ Means (NestWith direction id (now (payload .entry))) r ⌝ }
+{
+    if !is_short(payload) {
+        return Meant::Refused(Refusal::Limits);
+    }
+    match direction {
+        Direction::Command => Meant::Is(Message::Command { id: id }),
+        Direction::Response => Meant::Is(Message::Response(message(id, payload))),
+    }
+}
+
+// Whether a command with this payload is one of the table.
+pub(crate) fn command_allowed(id: u16, payload: &[u8]) -> Standing
+    ensures { λ r. ⌜ StandsSo (Only (command id (now (payload .entry)))) r ⌝ }
+{
+    if !is_short(payload) {
+        return Standing::Refused(Refusal::Limits);
+    }
+    Standing::Good
+}
+
+// Whether a response, with this payload beside it, is one of the table.
+pub(crate) fn allowed(message: Response, payload: &[u8]) -> Standing
+    ensures { λ r. ⌜ StandsSo (Only (ofResponse message (now (payload .entry)))) r ⌝ }
+{
+    match message {
+        Response::Climate {
+            temperature,
+            humidity,
+        } => Standing::Good,
+        Response::State => state_allowed(payload),
+        Response::Break => Standing::Good,
+        Response::End => Standing::Good,
+        Response::Text { id } => text_allowed(id, payload),
+        Response::Response { id } => response_allowed(id, payload),
+    }
+}
+
+fn state_allowed(payload: &[u8]) -> Standing
+    ensures { λ r. ⌜ StandsSo (Only (state (now (payload .entry)))) r ⌝ }
+{
+    if payload.len() < 16 {
+        return Standing::Refused(Refusal::Limits);
+    }
+    if !is_short(payload) {
+        return Standing::Refused(Refusal::Limits);
+    }
+    Standing::Good
+}
+
+// A text, where no message above it has its id and payload.
+fn text_allowed(id: u16, payload: &[u8]) -> Standing
+    ensures { λ r. ⌜ StandsSo (Only (text id (now (payload .entry)))) r ⌝ }
+{
+    if !is_text(id) {
+        return Standing::Refused(Refusal::Limits);
+    }
+    if !is_short(payload) {
+        return Standing::Refused(Refusal::Limits);
+    }
+    if row(message(id, payload)) < row(Response::Text { id: id }) {
+        return Standing::Refused(Refusal::Above);
+    }
+    Standing::Good
+}
+
+// A response, where no message above it has its id and payload.
+fn response_allowed(id: u16, payload: &[u8]) -> Standing
+    ensures { λ r. ⌜ StandsSo (Only (response id (now (payload .entry)))) r ⌝ }
+{
+    if !is_short(payload) {
+        return Standing::Refused(Refusal::Limits);
+    }
+    if row(message(id, payload)) < row(Response::Response { id: id }) {
+        return Standing::Refused(Refusal::Above);
+    }
+    Standing::Good
+}
+
+// Where a response stands in the table.
+fn row(message: Response) -> u8
+    ensures { λ r. ⌜ r ≡ rowOf (ofResponse message []) ⌝ }
+{
+    match message {
+        Response::Climate {
+            temperature,
+            humidity,
+        } => 8,
+        Response::State => 9,
+        Response::Break => 10,
+        Response::End => 11,
+        Response::Text { id } => 12,
+        Response::Response { id } => 13,
+    }
 }
 
 // A climate message's counts for the panel; 5 for another message.
@@ -89,6 +197,16 @@ pub(crate) fn message(id: u16, payload: &[u8]) -> Response
         return Response::Text { id: id };
     }
     Response::Response { id: id }
+}
+
+// Whether a payload is no longer than it may be.
+fn is_short(payload: &[u8]) -> bool
+    ensures { λ r. ⌜ Tells (length (now (payload .entry)) ≤ 1024) r ⌝ }
+{
+    if payload.len() <= 1024 {
+        return true;
+    }
+    false
 }
 
 fn is_climate(id: u16, payload: &[u8]) -> bool

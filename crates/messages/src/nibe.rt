@@ -1,14 +1,28 @@
 // Nibe: the messages of the heat pump's bus.
+use super::Meant;
+use super::Message;
+use super::Standing;
 use super::words;
 use digits::low_first;
 use digits::low_first::Number;
+use digits::refusal::Refusal;
+use layouts::nibe;
 ghost use mathlib.Core.Path.{_≡_};
-ghost use Prim.Native.Nat.{_-_, _≤_};
+ghost use mathlib.Core.List.{[]};
+ghost use Prim.Native.Nat.{_-_, _≤_, _<_};
 ghost use lib.ListN.{length};
-ghost use Rattle.digits.specs.Paper.LowFirst.{Width};
+ghost use Rattle.digits.specs.Paper.LowFirst.{Width, Held};
+ghost use Rattle.digits.specs.Paper.Read.{Tells};
 ghost use Rattle.digits.specs.Work.LowFirst.{lowValue};
+ghost use Rattle.messages.specs.Paper.Allowed.{StandsSo};
+ghost use Rattle.messages.specs.Paper.Meant.{Means, NibeWith};
+ghost use Rattle.messages.specs.Paper.Message.{reply, put, nibe, row as rowOf};
 ghost use Rattle.messages.specs.Paper.Says.{ofNibe};
+ghost use Rattle.messages.specs.Work.Answers.{Only};
 ghost use Rattle.messages.specs.Work.Look.{isAsk, isValued, isDone, ValuedIn, lookNibe};
+
+// The most data: their length is one byte.
+const MOST: usize = 255;
 
 // A register, and a value of so many bytes.
 pub struct Valued {
@@ -24,6 +38,110 @@ pub enum Nibe {
     Put(Valued),
     Done { ok: bool },
     Nibe { command: u8 },
+}
+
+// The message of a command with these data; 5 where there is no such command, or the data are longer than 255 bytes.
+pub fn of(command: u8, content: &[u8]) -> Meant
+    ensures { λ r. ⌜ Means (NibeWith command (now (content .entry))) r ⌝ }
+{
+    if !nibe::is_command(command) {
+        return Meant::Refused(Refusal::Limits);
+    }
+    if MOST < content.len() {
+        return Meant::Refused(Refusal::Limits);
+    }
+    Meant::Is(Message::Nibe(message(command, content)))
+}
+
+// Whether a message, with these data beside it, is one of the table.
+pub(crate) fn allowed(message: Nibe, content: &[u8]) -> Standing
+    ensures { λ r. ⌜ StandsSo (Only (ofNibe message (now (content .entry)))) r ⌝ }
+{
+    match message {
+        Nibe::Ask { register } => Standing::Good,
+        Nibe::Reply(v) => reply_allowed(v.register, v.width, v.value),
+        Nibe::Put(v) => put_allowed(v.register, v.width, v.value),
+        Nibe::Done { ok } => Standing::Good,
+        Nibe::Nibe { command } => plain_allowed(command, content),
+    }
+}
+
+fn reply_allowed(register: u16, width: u8, value: u32) -> Standing
+    ensures { λ r. ⌜ StandsSo (Only (reply register width value)) r ⌝ }
+{
+    if holds(width, value) {
+        return Standing::Good;
+    }
+    Standing::Refused(Refusal::Limits)
+}
+
+fn put_allowed(register: u16, width: u8, value: u32) -> Standing
+    ensures { λ r. ⌜ StandsSo (Only (put register width value)) r ⌝ }
+{
+    if holds(width, value) {
+        return Standing::Good;
+    }
+    Standing::Refused(Refusal::Limits)
+}
+
+// Any other command and data, where no message above has them.
+fn plain_allowed(command: u8, content: &[u8]) -> Standing
+    ensures { λ r. ⌜ StandsSo (Only (nibe command (now (content .entry)))) r ⌝ }
+{
+    if !nibe::is_command(command) {
+        return Standing::Refused(Refusal::Limits);
+    }
+    if MOST < content.len() {
+        return Standing::Refused(Refusal::Limits);
+    }
+    if row(message(command, content)) < row(Nibe::Nibe { command: command }) {
+        return Standing::Refused(Refusal::Above);
+    }
+    Standing::Good
+}
+
+// Where a message stands in the table.
+fn row(message: Nibe) -> u8
+    ensures { λ r. ⌜ r ≡ rowOf (ofNibe message []) ⌝ }
+{
+    match message {
+        Nibe::Ask { register } => 14,
+        Nibe::Reply(v) => 15,
+        Nibe::Put(v) => 16,
+        Nibe::Done { ok } => 17,
+        Nibe::Nibe { command } => 18,
+    }
+}
+
+// Whether a width is one that there is, and holds the value.
+fn holds(width: u8, value: u32) -> bool
+    ensures { λ r. ⌜ Tells (Held width value) r ⌝ }
+{
+    if width == 1 {
+        return below(value, 256);
+    }
+    if width == 2 {
+        return below(value, 65536);
+    }
+    is_four(width)
+}
+
+fn below(n: u32, most: u32) -> bool
+    ensures { λ r. ⌜ Tells (n < most) r ⌝ }
+{
+    if n < most {
+        return true;
+    }
+    false
+}
+
+fn is_four(n: u8) -> bool
+    ensures { λ r. ⌜ Tells (n ≡ 4) r ⌝ }
+{
+    if n == 4 {
+        return true;
+    }
+    false
 }
 
 // The message of a frame with this command and these data.

@@ -1,13 +1,27 @@
 // Nikobus: the messages of links, presses and tails.
+use super::Meant;
+use super::Message;
+use super::Standing;
 use digits::hex;
 use digits::hex::Byte;
+use digits::refusal::Refusal;
+use layouts::nikobus;
 ghost use mathlib.Core.Path.{_≡_};
 ghost use mathlib.Core.Bool.{_||_};
+ghost use mathlib.Core.List.{[]};
 ghost use Prim.Native.Nat.{_+_, _*_, _≤_};
-ghost use lib.Dec.{eqb};
+ghost use lib.Dec.{T, eqb};
 ghost use lib.ListN.{length};
-ghost use Rattle.messages.specs.Paper.Says.{six};
+ghost use Rattle.digits.specs.Paper.Read.{Tells};
+ghost use Rattle.layouts.specs.Paper.Chars.{all, isHex};
+ghost use Rattle.messages.specs.Paper.Allowed.{StandsSo};
+ghost use Rattle.messages.specs.Paper.Meant.{Means, LinkWith, PressWith};
+ghost use Rattle.messages.specs.Paper.Message.{read, set, press, row as rowOf};
+ghost use Rattle.messages.specs.Paper.Says.{six, ofNikobus, SaysNikobus};
+ghost use Rattle.messages.specs.Paper.Table.{Group};
+ghost use Rattle.messages.specs.Work.Answers.{Only};
 ghost use Rattle.messages.specs.Work.Look.{groupOf};
+ghost use Rattle.messages.specs.declared.nikobus.Nikobus.the-variants.{Link};
 ghost use Rattle.messages.specs.Work.Nikobus.{NikobusFrame, NikobusSaid, LinkDigits, LinkSaid, ByteAt, WordAt, SixAt};
 
 // Six bytes: the values of a module's outputs, or a press's digits.
@@ -28,6 +42,151 @@ pub enum Nikobus {
     Press(Six),
     Tail,
     Link,
+}
+
+// The message of a link with these digits; 5 where they are not those of 1 to 122 bytes.
+pub fn of_link(digits: &[u8]) -> Meant
+    ensures { λ r. ⌜ Means (LinkWith (now (digits .entry))) r ⌝ }
+{
+    if !is_link(digits) {
+        return Meant::Refused(Refusal::Limits);
+    }
+    Meant::Is(Message::Nikobus(linked(digits)))
+}
+
+// The message of a press with these digits; 5 where they are not six.
+pub fn of_press(digits: &[u8]) -> Meant
+    ensures { λ r. ⌜ Means (PressWith (now (digits .entry))) r ⌝ }
+{
+    if !is_press(digits) {
+        return Meant::Refused(Refusal::Limits);
+    }
+    Meant::Is(Message::Nikobus(Nikobus::Press(pressed(digits))))
+}
+
+// Whether a message, with a link's digits beside it, is one of the table.
+pub(crate) fn allowed(message: Nikobus, digits: &[u8]) -> Standing
+    ensures { λ r. ⌜ StandsSo (SaysNikobus message (now (digits .entry))) r ⌝ }
+{
+    match message {
+        Nikobus::Read { group, address } => read_allowed(group, address),
+        Nikobus::Set {
+            group,
+            address,
+            out,
+        } => set_allowed(group, address, out),
+        Nikobus::Answer {
+            address,
+            third,
+            out,
+        } => Standing::Good,
+        Nikobus::Press(six) => press_allowed(six),
+        Nikobus::Tail => Standing::Good,
+        Nikobus::Link => link_allowed(digits),
+    }
+}
+
+fn read_allowed(group: u8, address: u16) -> Standing
+    ensures { λ r. ⌜ StandsSo (Only (read group address)) r ⌝ }
+{
+    if is_group(group) {
+        return Standing::Good;
+    }
+    Standing::Refused(Refusal::Limits)
+}
+
+fn set_allowed(group: u8, address: u16, out: Six) -> Standing
+    ensures { λ r. ⌜ StandsSo (Only (set group address (six out))) r ⌝ }
+{
+    if is_group(group) {
+        return Standing::Good;
+    }
+    Standing::Refused(Refusal::Limits)
+}
+
+fn press_allowed(digits: Six) -> Standing
+    ensures { λ r. ⌜ StandsSo (Only (press (six digits))) r ⌝ }
+{
+    let chars = [digits.a, digits.b, digits.c, digits.d, digits.e, digits.f];
+    if is_press(&chars) {
+        return Standing::Good;
+    }
+    Standing::Refused(Refusal::Limits)
+}
+
+// A link, where no message above it has its payload.
+fn link_allowed(digits: &[u8]) -> Standing
+    ensures { λ r. ⌜ StandsSo (SaysNikobus Link (now (digits .entry))) r ⌝ }
+{
+    if !is_link(digits) {
+        return Standing::Refused(Refusal::Limits);
+    }
+    if row(linked(digits)) < row(Nikobus::Link) {
+        return Standing::Refused(Refusal::Above);
+    }
+    Standing::Good
+}
+
+// Where a message stands in the table.
+fn row(message: Nikobus) -> u8
+    ensures { λ r. ⌜ r ≡ rowOf (ofNikobus message []) ⌝ }
+{
+    match message {
+        Nikobus::Read { group, address } => 1,
+        Nikobus::Set {
+            group,
+            address,
+            out,
+        } => 2,
+        Nikobus::Answer {
+            address,
+            third,
+            out,
+        } => 3,
+        Nikobus::Press(six) => 4,
+        Nikobus::Tail => 5,
+        Nikobus::Link => 6,
+    }
+}
+
+// Whether these are the digits of a link's payload: of 1 to 122 bytes.
+fn is_link(digits: &[u8]) -> bool
+    ensures { λ r. ⌜ Tells (LinkDigits (now (digits .entry))) r ⌝ }
+{
+    let n = digits.len();
+    if n < 2 {
+        return false;
+    }
+    if 244 < n {
+        return false;
+    }
+    if n % 2 != 0 {
+        return false;
+    }
+    nikobus::all_digits(digits)
+}
+
+// Whether these are the digits of a press: six.
+fn is_press(digits: &[u8]) -> bool
+    ensures { λ r. ⌜ Tells ((length (now (digits .entry)) ≡ 6) × T (all isHex (now (digits .entry)))) r ⌝ }
+{
+    if digits.len() != 6 {
+        return false;
+    }
+    nikobus::all_digits(digits)
+}
+
+// Whether a module has this group.
+fn is_group(group: u8) -> bool
+    ensures { λ r. ⌜ Tells (Group group) r ⌝ }
+{
+    if group == 1 {
+        return true;
+    }
+    if group == 2 {
+        return true;
+    }
+    false
 }
 
 // The message of a frame with this payload.

@@ -17,7 +17,7 @@ use Rattle.book.proofs.Laws.Pieces.{book-size}
 
 -- ---- some, and one
 
-some-lines : (place : ℕ) {es : List Entry} → Framed es → (t : List ℕ) × EntryLines place es t
+pub some-lines : (place : ℕ) {es : List Entry} → Framed es → (t : List ℕ) × EntryLines place es t
 some-lines place books.none = ([], none)
 some-lines place (books.also {e = e} r f) =
     let l = has-line place r in

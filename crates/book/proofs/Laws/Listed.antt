@@ -2,7 +2,7 @@
 -- Assumes nothing.
 use mathlib.Core.Bool.{Bool, true, false, _||_, true≢false}
 use mathlib.Core.List.{List}
-use mathlib.Core.Path.{_≡_, subst}
+use mathlib.Core.Path.{_≡_, _∙_, subst}
 use Prim.Native.Nat.{ℕ, _+_, _*_, _≤_}
 use native.Mathlib.Omega.{arith}
 use lib.Dec.{eqb, lit<}
@@ -11,28 +11,32 @@ use Rattle.digits.specs.Paper.Refusals.{order, First, clear, here, after}
 use Rattle.digits.specs.declared.refusal.Refusal.{Refusal}
 use Rattle.digits.specs.declared.refusal.Refusal.the-variants.{Room}
 use Rattle.digits.proofs.Laws.Refusals.{some-number, pass-over}
-use Rattle.puts.specs.Paper.Right.{refused}
+use Rattle.digits.proofs.Laws.Stores.{sets-front}
+use Rattle.puts.specs.Paper.Right.{wrote, refused}
 use Rattle.puts.specs.declared.Written.the-variants.{Bytes, Refused}
-use Rattle.puts.proofs.Laws.Right.{as-right}
 use Rattle.puts.proofs.Laws.Sizes.{too-small, large-enough}
 use Rattle.puts.proofs.Laws.Sizes as sizes
-use Rattle.puts.proofs.Laws.Wrote.{wrote-by}
 use Rattle.book.specs.Paper.Answers.{Counts, BookLines, ListCause, short, WritesBookLines}
 use Rattle.book.specs.Paper.Answers as answers
 use Rattle.book.specs.Work.Reading.{OpensNoting}
-use Rattle.book.specs.Work.Writing.{PutsBookLines, Sized, Fits}
+use Rattle.book.specs.Work.Writing.{Lists, Sized, Fits}
+use Rattle.book.specs.declared.listing.Aim.{Aim}
+use Rattle.book.specs.declared.listing.Aim.the-variants.{Write}
 use Rattle.book.specs.declared.Opened.{Opened}
 use Rattle.book.specs.declared.Opened.the-variants.{Refused as Unopened}
 use Rattle.book.proofs.Laws.BookLines.{book-lines, one-book-lines, book-lines-most}
-use Rattle.book.proofs.Laws.Entries.{counts-trailed, unopened, opens-so}
+use Rattle.book.proofs.Laws.Entries.{unopened, opens-so}
 
 -- ---- how long the lines are
 
-module _ {s : List ℕ} {count : ℕ} (k : Counts s count) where
-  -- a place behind the lines in a room of any size
-  pub measured : {room later : List ℕ} {n : ℕ} → PutsBookLines s room later 0 n → Sized s n
-  measured p = sizes.measured p (omega (arith, book-lines-most k (p .right), counts-trailed k .few, counts-trailed k .small))
+pub measured : {aim : Aim} {s room later : List ℕ} {n : ℕ} → Lists aim s room later n → Sized s n
+measured l = record { text = l .text; right = l .right; size = l .size }
 
+-- a room that they fit has room for them
+pub roomy : {s : List ℕ} {n : ℕ} → Fits s n true → (t : List ℕ) → BookLines s t → length t ≤ n
+roomy f t b = large-enough (λ x y. one-book-lines) f b
+
+module _ {s : List ℕ} {count : ℕ} (k : Counts s count) where
   pub always-fits : (n : ℕ) → 8 * length s + 40 * count ≤ n → Fits s n true
   always-fits n h = let l = book-lines (k .valid) in sizes.always-fits (l .0) (l .1) (omega (arith, book-lines-most k (l .1)))
 
@@ -52,16 +56,14 @@ module _ {s : List ℕ} {room : ℕ} where
 pub list-refused-4 : {s room : List ℕ} → Fits s (length room) false → WritesBookLines s room (Refused Room) room
 list-refused-4 f = refused (lit< tt) (pass-over ours only order (after (valid-book (f .right)) (here (short (f .right) (too-small f)))))
 
-pub list-written : {s room later : List ℕ} {n : ℕ} → Fits s (length room) true → PutsBookLines s room later 0 n → WritesBookLines s room (Bytes n) later
-list-written {s} {room} f p =
-    let l = has-room (p .right) in
-    as-right (p .right) (wrote-by (pass-over ours only order (after (valid-book (p .right)) (after not-short clear))) (p .put) l)
+pub list-written : {s room later : List ℕ} {n : ℕ} → Fits s (length room) true → Lists Write s room later n → WritesBookLines s room (Bytes n) later
+list-written {s} {room} {later} {n} f l =
+    let t = l .text in
+    let h = roomy f t (l .right) in
+    rw (l .size, l .holds ∙ sets-front t room h) (wrote (pass-over ours only order (after (valid-book (l .right)) (after not-short clear))) (l .right))
   where
-    has-room : {t : List ℕ} → BookLines s t → length t ≤ length room
-    has-room b = large-enough (λ x y. one-book-lines) f b
-
     not-short : ListCause s (length room) 4 → ⊥
-    not-short (short b h) = omega (arith, has-room b)
+    not-short (short {t = u} b h) = omega (arith, roomy f u b)
 
 -- anything else than a valid book
 pub unopened-list : {s places : List ℕ} {r : Opened} {why : Refusal} (room : List ℕ) → OpensNoting s places r → r ≡ Unopened why → WritesBookLines s room (Refused why) room

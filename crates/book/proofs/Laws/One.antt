@@ -1,15 +1,19 @@
 -- Two lists of entries with the same book are the same.
 -- Assumes nothing.
 use mathlib.Core.List.{List, [], _∷_, _++_, append-assoc}
-use mathlib.Core.Path.{_≡_, refl, sym, ap, ap₂, _∙_}
+use mathlib.Core.Path.{_≡_, refl, sym, ap, ap₂, _∙_, subst}
 use Prim.Native.Nat.{ℕ, _<_}
 use native.Mathlib.Omega.{arith}
+use lib.Dec.{T}
 use lib.ListN.{length, length-append}
 use Rattle.digits.specs.Paper.LowFirst.{lowFirst}
 use Rattle.digits.proofs.Laws.LowFirst.{length-low, low-inj}
 use Rattle.layouts.proofs.Laws.Heads.{cut-same}
-use Rattle.frames.specs.Paper.Kinds.{Frame}
-use Rattle.frames.proofs.Laws.Kinds.{frame-known, known-range}
+use Rattle.layouts.proofs.Laws.ByteRuns.{one-of-bytes}
+use Rattle.layouts.specs.Paper.Chars.{all, oneOf}
+use Rattle.layouts.specs.Work.Heads.{isByte}
+use Rattle.frames.specs.Paper.Kinds.{Frame, knownKinds, known}
+use Rattle.frames.proofs.Laws.Kinds.{frame-known}
 use Rattle.book.specs.Paper.Book.{Entry, head, entryBytes, entries, offsets, book, Framed, also, Book, Numbered}
 use Rattle.book.proofs.Laws.Layout.{length-entry, ending, length-ending, book-pieces, length-book}
 
@@ -17,7 +21,8 @@ use Rattle.book.proofs.Laws.Layout.{length-entry, ending, length-ending
 
 -- a kind is one byte
 pub kind-byte : {k : ℕ} {f : List ℕ} → Frame k f → k < 256
-kind-byte {k} r = omega (arith, known-range k (frame-known r))
+unfolding known oneOf all isByte
+kind-byte {k} r = one-of-bytes knownKinds k tt (subst T (sym (frame-known r)) tt)
 
 regroup : (a b c d : List ℕ) → ((a ++ b) ++ c) ++ d ≡ a ++ (b ++ (c ++ d))
 regroup a b c d = simp append-assoc

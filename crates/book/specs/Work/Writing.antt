@@ -5,13 +5,16 @@ use mathlib.Core.List.{List, [], _∷_, _++_}
 use mathlib.Core.Path.{_≡_}
 use Prim.Native.Nat.{ℕ, suc, _+_, _≤_}
 use lib.ListN.{length}
+use lib.Seq.{sets}
 use Rattle.digits.specs.Paper.Bytes.{part}
-use Rattle.puts.specs.Paper.Put.{Put, last}
-use Rattle.puts.specs.Paper.Right.{PutsRight}
+use Rattle.lines.specs.Paper.Answers.{LineOf}
+use Rattle.puts.specs.Paper.Put.{Put}
 use Rattle.puts.specs.Work.Right.{SizedRight, FitsRight}
 use Rattle.book.specs.Paper.Book.{Entry, entries, book, Framed, mostEntries, mostBytes, Book}
 use Rattle.book.specs.Paper.Answers.{EntryLines, BookLines}
 use Rattle.book.specs.Work.Reading.{Noted}
+use Rattle.book.specs.declared.listing.Aim.{Aim}
+use Rattle.book.specs.declared.listing.Aim.the-variants.{Write, Measure}
 
 -- ---- adding
 
@@ -26,23 +29,56 @@ pub record PutsAdded (s : List ℕ) (e : Entry) (room later : List ℕ) (next : 
   pub valid : Book s all
   pub put : Put room later 0 next (book (all ++ e ∷ []))
 
+-- ---- the line of one entry
+
+-- a room of so many bytes has room for the line of the frame f that stands at `at`
+abbrev pub RoomFor : ℕ → List ℕ → ℕ → ℕ → Type 0
+RoomFor k f at n = (t : List ℕ) → LineOf k f at t → length t ≤ n
+
+-- that line, of n bytes, is put at a place of the room
+pub record PutsOne (k : ℕ) (f : List ℕ) (at : ℕ) (room later : List ℕ) (to n : ℕ) : Type 0 where
+  pub text : List ℕ
+  pub right : LineOf k f at text
+  pub size : n ≡ length text
+  pub holds : later ≡ sets room to text
+
 -- ---- the lines
 
--- the lines of a book are put at a place of the room
-abbrev pub PutsBookLines : List ℕ → List ℕ → List ℕ → ℕ → ℕ → Type 0
-PutsBookLines s room later at next = PutsRight (BookLines s) room later at next
+-- where the line behind so many bytes of lines goes
+abbrev pub placeFor : Aim → ℕ → ℕ
+placeFor Write n = n
+placeFor Measure n = 0
 
--- a loop's turns so far: the entries that are left, and that their lines, put from here on, complete the lines of the book
-pub record Completes (s places room room₀ : List ℕ) (to next count i at : ℕ) : Type 0 where
+-- a room of so many bytes has room for all lines of a book, or for each by itself
+abbrev pub Roomy : Aim → List ℕ → ℕ → Type 0
+Roomy Write s n = (t : List ℕ) → BookLines s t → length t ≤ n
+Roomy Measure s n = 8368 ≤ n
+
+-- the lines t stand at the front of the room, where they are written
+abbrev pub Has : Aim → List ℕ → List ℕ → List ℕ → Type 0
+Has Write room later t = later ≡ sets room 0 t
+Has Measure room later t = Unit
+
+-- the lines of a book are n bytes long, and are put
+pub record Lists (aim : Aim) (s room later : List ℕ) (n : ℕ) : Type 0 where
+  pub text : List ℕ
+  pub right : BookLines s text
+  pub size : n ≡ length text
+  pub holds : Has aim room later text
+
+-- a loop's turns so far: the lines that are put, and the entries that are left, whose lines complete those of the book
+pub record Listing (aim : Aim) (s places room room₀ : List ℕ) (count next i at : ℕ) : Type 0 where
   pub rest : List Entry
   pub noted : Noted places i rest
   pub framed : Framed rest
   pub left : i + length rest ≡ count
   pub place-in : at + length (entries rest) ≤ length s
   pub bytes : part at (at + length (entries rest)) s ≡ entries rest
-  pub place : next ≤ last
+  pub done : List ℕ
+  pub size : next ≡ length done
+  pub holds : Has aim room room₀ done
   pub same : length room₀ ≡ length room
-  pub whole : (later : List ℕ) (behind : ℕ) (t : List ℕ) → EntryLines at rest t → Put room₀ later next behind t → PutsBookLines s room later to behind
+  pub whole : (t : List ℕ) → EntryLines at rest t → BookLines s (done ++ t)
 
 -- the lines of a book are n bytes long
 abbrev pub Sized : List ℕ → ℕ → Type 0

@@ -1,34 +1,26 @@
 -- The bytes of frames: how many there are, the check values as the code works them out, and the parts one behind the other.
 -- Assumes nothing.
-use mathlib.Core.Path.{_≡_, refl, sym, ap, _∙_, subst}
-use mathlib.Core.Bool.{true, false}
+use mathlib.Core.Path.{_≡_, sym, ap, _∙_}
 use mathlib.Core.List.{List, [], _∷_, _++_, append-assoc}
-use Prim.Native.Nat.{ℕ, _+_, _*_, _≤_, _<_}
+use Prim.Native.Nat.{ℕ, _+_, _*_, _≤_}
 use native.Mathlib.Omega.{arith}
-use lib.Dec.{T}
 use lib.ListN.{length, getD, length-append}
 use lib.Seq.{take-all}
-use Rattle.digits.proofs.Laws.Hex.{length-hex, place-lt}
+use Rattle.digits.proofs.Laws.Hex.{length-hex}
 use Rattle.digits.proofs.Laws.Parts.{part-front, take-ats}
-use Rattle.digits.proofs.Laws.Reads.{answered, refused}
-use Rattle.digits.proofs.Laws.Tests.{T-true}
-use Rattle.digits.specs.Paper.Answers.{ReadsDigit}
 use Rattle.digits.specs.Paper.Ascii.{ascii}
 use Rattle.digits.specs.Paper.Bytes.{part}
 use Rattle.digits.specs.Paper.Decimal.{decimal}
-use Rattle.digits.specs.Paper.Hex.{hexDigit, hexByte, hexBytes, hexWord}
+use Rattle.digits.specs.Paper.Hex.{hexByte, hexBytes, hexWord}
 use Rattle.digits.specs.Paper.LowFirst.{lowFirst}
-use Rattle.digits.specs.Work.Hex.{placeOf}
-use Rattle.digits.specs.declared.hex.Byte.{Byte}
-use Rattle.digits.specs.declared.hex.Byte.the-variants.{Is, NoDigit}
 use Rattle.checks.proofs.Laws.Feed.{feed-append}
 use Rattle.checks.specs.Paper.Buses.{nikobusCrc16, nikobusCrc8, nestCrc, nibeXor, homiqCrc}
 use Rattle.checks.specs.Paper.Check.{Check, feed, check}
-use Rattle.layouts.proofs.Laws.HexDigits.{digit-place, digit-hex, no-hex, length-byte, length-word}
+use Rattle.layouts.proofs.Laws.HexDigits.{length-byte, length-word}
 use Rattle.layouts.proofs.Laws.Nest.{nest-size}
 use Rattle.layouts.proofs.Laws.Nibe.{nibe-size}
 use Rattle.layouts.proofs.Laws.Nikobus.{link-size}
-use Rattle.layouts.specs.Paper.Chars.{isHex, CR, LF}
+use Rattle.layouts.specs.Paper.Chars.{CR, LF}
 use Rattle.layouts.specs.Paper.Homiq.{kept}
 use Rattle.layouts.specs.Paper.Layout.{bytesOf}
 use Rattle.layouts.specs.Paper.Made.{linkOf, nestOf, nibeOf}
@@ -104,17 +96,7 @@ nibe-whole c d v x y ev ex ey = rw (two-fed nibeXor v x y (length d ∷ []) d ev
 pub homiq-whole : (p : List ℕ) (x : ℕ) → x ≡ check homiqCrc (kept p) → ascii "<;" ++ p ++ ascii ";" ++ decimal x ++ (59 ∷ 62 ∷ CR ∷ LF ∷ []) ≡ around p
 homiq-whole p x e = rw e (sym (append-assoc (ascii "<;" ++ p ++ ascii ";" ++ decimal (check homiqCrc (kept p))) (ascii ";>") (CR ∷ LF ∷ [])))
 
--- ---- hex digits
-
-pub hex-is : {c v : ℕ} {r : Byte} → ReadsDigit c r → r ≡ Is v → isHex c ≡ true
-hex-is {c} {v} d e =
-    let a = answered (omega arith) (subst (ReadsDigit c) e d) refl in
-    let f : hexDigit v ≡ c = ap (λ (l : List ℕ). getD l 0 0) (a .1) in
-    T-true (isHex c) (subst (λ (x : ℕ). T (isHex x)) f (digit-hex v (a .0)))
-
-pub hex-not : {c : ℕ} {r : Byte} → ReadsDigit c r → r ≡ NoDigit → isHex c ≡ false
-hex-not {c} d e =
-    no-hex c (λ t. refused (omega arith) (subst (ReadsDigit c) e d) refl (placeOf c) (place-lt c) (ap (λ (x : ℕ). x ∷ []) (digit-place c t)))
+-- ---- a press
 
 -- six characters, one by one
 pub six : (d : List ℕ) → length d ≡ 6 → d ≡ getD d 0 0 ∷ getD d 1 0 ∷ getD d 2 0 ∷ getD d 3 0 ∷ getD d 4 0 ∷ getD d 5 0 ∷ []

@@ -4,10 +4,11 @@ use mathlib.Core.List.{List, [], _∷_}
 use Prim.Native.Nat.{ℕ}
 use Rattle.digits.specs.Paper.Ascii.{ascii}
 use Rattle.digits.proofs.Unique.{equation}
+use Rattle.frames.specs.Paper.Kinds.{KindCause, resolvedNumber, resolvedValue}
 use Rattle.frames.specs.Paper.Search.{SearchCause, foundNumber, foundHit, zeroHit, framePart, payloadPart}
 use Rattle.frames.specs.Paper.Whole.{WholeCause, wholeNumber, wholeEnds, zeroEnds}
 use Rattle.frames.proofs as frames
-use Rattle.frames.proofs.Unique.{searched-one, handed-one, whole-one}
+use Rattle.frames.proofs.Unique.{searched-one, handed-one, whole-one, resolved-one}
 use Rattle.claims.specs.Paper.Forms.{answering, refusing, handing}
 use Rattle.claims.specs.Paper.Row.{Row, Kept, AcceptsAll, Proper, Every, none, OneOf, here, there}
 use Rattle.claims.proofs.Laws.Kept.{answering-kept, refusing-kept, handing-kept, also}
@@ -96,10 +97,38 @@ kinds-known-kept = answering-kept (λ M. frames.kinds.known.Met.met) (λ κs a r
 pub kinds-known-open : AcceptsAll kinds-known
 kinds-known-open = λ κs a. tt
 
+abbrev pub kinds-of : Row
+kinds-of =
+    refusing (ascii "frames::kinds::of") frames.kinds.of.Kinds.ps frames.kinds.of.Kinds.r frames.kinds.of.Reads.Pre
+    frames.kinds.of.Reads.Post frames.kinds.of.Statement.statement (2 ∷ []) (λ κs a. KindCause (a .0)) resolvedNumber resolvedValue 0
+    (λ κs r. r)
+
+pub kinds-of-kept : Kept kinds-of
+kinds-of-kept =
+    refusing-kept (λ M. frames.kinds.of.Met.met) (λ κs a r q s t x y. resolved-one r q x y) (λ κs a r s p. p)
+    (λ κs a no c. stated c)
+  where
+    stated : {k no : ℕ} → KindCause k no → OneOf no (2 ∷ [])
+    stated (KindCause.no-kind e) = here
+
+pub kinds-of-open : AcceptsAll kinds-of
+kinds-of-open = λ κs a. tt
+
+abbrev pub kinds-number : Row
+kinds-number =
+    answering (ascii "frames::kinds::number") frames.kinds.number.Kinds.ps frames.kinds.number.Kinds.r frames.kinds.number.Reads.Pre frames.kinds.number.Reads.Post
+    frames.kinds.number.Statement.statement (λ κs r s. r)
+
+pub kinds-number-kept : Kept kinds-number
+kinds-number-kept = answering-kept (λ M. frames.kinds.number.Met.met) (λ κs a r q s t x y. equation x y)
+
+pub kinds-number-open : AcceptsAll kinds-number
+kinds-number-open = λ κs a. tt
+
 -- ---- all of them
 
 abbrev pub rows : List Row
-rows = search ∷ frame ∷ payload ∷ one-frame ∷ kinds-known ∷ []
+rows = search ∷ frame ∷ payload ∷ one-frame ∷ kinds-of ∷ kinds-number ∷ kinds-known ∷ []
 
 pub rows-kept : Every Proper rows
 rows-kept =
@@ -107,4 +136,6 @@ rows-kept =
     (also frame-kept frame-open
     (also payload-kept payload-open
     (also one-frame-kept one-frame-open
-    (also kinds-known-kept kinds-known-open none))))
+    (also kinds-of-kept kinds-of-open
+    (also kinds-number-kept kinds-number-open
+    (also kinds-known-kept kinds-known-open none))))))

@@ -2,6 +2,7 @@
 -- Assumes nothing.
 use mathlib.Core.List.{List, [], _∷_}
 use Rattle.digits.specs.Paper.Ascii.{ascii}
+use Rattle.digits.proofs.Unique.{equation}
 use Rattle.layouts.proofs.homiq
 use Rattle.layouts.proofs.nest
 use Rattle.layouts.proofs.nibe
@@ -66,15 +67,101 @@ nikobus-frame-kept = answering-kept (λ M. nikobus.frame.Met.met) (λ κs a r q 
 pub nikobus-frame-open : AcceptsAll nikobus-frame
 nikobus-frame-open = λ κs a. tt
 
+-- ---- how a frame can begin, and the tests that other crates share
+
+abbrev pub homiq-may-start : Row
+homiq-may-start =
+    answering (ascii "layouts::homiq::may_start") homiq.may_start.Kinds.ps homiq.may_start.Kinds.r homiq.may_start.Reads.Pre homiq.may_start.Reads.Post
+    homiq.may_start.Statement.statement (λ κs r s. r)
+
+pub homiq-may-start-kept : Kept homiq-may-start
+homiq-may-start-kept = answering-kept (λ M. homiq.may_start.Met.met) (λ κs a r q s t x y. equation x y)
+
+pub homiq-may-start-open : AcceptsAll homiq-may-start
+homiq-may-start-open = λ κs a. tt
+
+abbrev pub homiq-is-payload : Row
+homiq-is-payload =
+    answering (ascii "layouts::homiq::is_payload") homiq.is_payload.Kinds.ps homiq.is_payload.Kinds.r homiq.is_payload.Reads.Pre homiq.is_payload.Reads.Post
+    homiq.is_payload.Statement.statement (λ κs r s. r)
+
+pub homiq-is-payload-kept : Kept homiq-is-payload
+homiq-is-payload-kept = answering-kept (λ M. homiq.is_payload.Met.met) (λ κs a r q s t x y. unique.homiq-is-payload _ x y)
+
+pub homiq-is-payload-open : AcceptsAll homiq-is-payload
+homiq-is-payload-open = λ κs a. tt
+
+abbrev pub nest-may-start : Row
+nest-may-start =
+    answering (ascii "layouts::nest::may_start") nest.may_start.Kinds.ps nest.may_start.Kinds.r nest.may_start.Reads.Pre nest.may_start.Reads.Post
+    nest.may_start.Statement.statement (λ κs r s. r)
+
+pub nest-may-start-kept : Kept nest-may-start
+nest-may-start-kept = answering-kept (λ M. nest.may_start.Met.met) (λ κs a r q s t x y. equation x y)
+
+pub nest-may-start-open : AcceptsAll nest-may-start
+nest-may-start-open = λ κs a. tt
+
+abbrev pub nibe-may-start : Row
+nibe-may-start =
+    answering (ascii "layouts::nibe::may_start") nibe.may_start.Kinds.ps nibe.may_start.Kinds.r nibe.may_start.Reads.Pre nibe.may_start.Reads.Post
+    nibe.may_start.Statement.statement (λ κs r s. r)
+
+pub nibe-may-start-kept : Kept nibe-may-start
+nibe-may-start-kept = answering-kept (λ M. nibe.may_start.Met.met) (λ κs a r q s t x y. equation x y)
+
+pub nibe-may-start-open : AcceptsAll nibe-may-start
+nibe-may-start-open = λ κs a. tt
+
+abbrev pub nibe-is-command : Row
+nibe-is-command =
+    answering (ascii "layouts::nibe::is_command") nibe.is_command.Kinds.ps nibe.is_command.Kinds.r nibe.is_command.Reads.Pre nibe.is_command.Reads.Post
+    nibe.is_command.Statement.statement (λ κs r s. r)
+
+pub nibe-is-command-kept : Kept nibe-is-command
+nibe-is-command-kept = answering-kept (λ M. nibe.is_command.Met.met) (λ κs a r q s t x y. equation x y)
+
+pub nibe-is-command-open : AcceptsAll nibe-is-command
+nibe-is-command-open = λ κs a. tt
+
+abbrev pub nikobus-may-start : Row
+nikobus-may-start =
+    answering (ascii "layouts::nikobus::may_start") nikobus.may_start.Kinds.ps nikobus.may_start.Kinds.r nikobus.may_start.Reads.Pre nikobus.may_start.Reads.Post
+    nikobus.may_start.Statement.statement (λ κs r s. r)
+
+pub nikobus-may-start-kept : Kept nikobus-may-start
+nikobus-may-start-kept = answering-kept (λ M. nikobus.may_start.Met.met) (λ κs a r q s t x y. equation x y)
+
+pub nikobus-may-start-open : AcceptsAll nikobus-may-start
+nikobus-may-start-open = λ κs a. tt
+
+abbrev pub nikobus-all-digits : Row
+nikobus-all-digits =
+    answering (ascii "layouts::nikobus::all_digits") nikobus.all_digits.Kinds.ps nikobus.all_digits.Kinds.r nikobus.all_digits.Reads.Pre nikobus.all_digits.Reads.Post
+    nikobus.all_digits.Statement.statement (λ κs r s. r)
+
+pub nikobus-all-digits-kept : Kept nikobus-all-digits
+nikobus-all-digits-kept = answering-kept (λ M. nikobus.all_digits.Met.met) (λ κs a r q s t x y. equation x y)
+
+pub nikobus-all-digits-open : AcceptsAll nikobus-all-digits
+nikobus-all-digits-open = λ κs a. tt
+
 -- ---- all of them
 
 abbrev pub rows : List Row
-rows = homiq-frame ∷ homiq-crc ∷ nest-frame ∷ nibe-frame ∷ nikobus-frame ∷ []
+rows = homiq-frame ∷ homiq-crc ∷ homiq-may-start ∷ homiq-is-payload ∷ nest-frame ∷ nest-may-start ∷ nibe-frame ∷ nibe-may-start ∷ nibe-is-command ∷ nikobus-frame ∷ nikobus-may-start ∷ nikobus-all-digits ∷ []
 
 pub rows-kept : Every Proper rows
 rows-kept =
     also homiq-frame-kept homiq-frame-open
     (also homiq-crc-kept homiq-crc-open
+    (also homiq-may-start-kept homiq-may-start-open
+    (also homiq-is-payload-kept homiq-is-payload-open
     (also nest-frame-kept nest-frame-open
+    (also nest-may-start-kept nest-may-start-open
     (also nibe-frame-kept nibe-frame-open
-    (also nikobus-frame-kept nikobus-frame-open none))))
+    (also nibe-may-start-kept nibe-may-start-open
+    (also nibe-is-command-kept nibe-is-command-open
+    (also nikobus-frame-kept nikobus-frame-open
+    (also nikobus-may-start-kept nikobus-may-start-open
+    (also nikobus-all-digits-kept nikobus-all-digits-open none)))))))))))

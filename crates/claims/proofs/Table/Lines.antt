@@ -1,19 +1,22 @@
--- The public functions of `lines`, but for `tested`, which asks something of its caller.
+-- The public functions of `lines`.
 -- Assumes nothing.
 use mathlib.Core.List.{List, [], _∷_}
 use mathlib.Core.Path.{refl, ap}
-use Prim.Native.Nat.{ℕ}
+use Prim.Native.Nat.{ℕ, _-_}
 use lib.ListN.{length}
 use Rattle.digits.specs.Paper.Ascii.{ascii}
 use Rattle.digits.specs.Paper.Refusals.{order, First}
 use Rattle.digits.proofs.Laws.Refusals.{cause-of, refused-zeros}
 use Rattle.frames.specs.Paper.Search.{SearchCause}
-use Rattle.lines.specs.Paper.Answers.{LineCause, listedNumber, listedPlaced, zeroPlaced, PutsNext}
+use Rattle.lines.specs.Paper.Answers.{LineCause, SaidCause, WritesSaid, listedNumber, listedPlaced, zeroPlaced, PutsNext}
 use Rattle.lines.specs.declared.Listed.{Listed}
+use Rattle.messages.specs.declared.Message.{Message}
+use Rattle.puts.specs.declared.Written.{Written}
+use Rattle.puts.specs.Paper.Wrote.{writtenRefusal}
 use Rattle.lines.proofs as lines
 use Rattle.lines.proofs.Unique as unique
 use Rattle.claims.specs.Paper.Forms.{writing}
-use Rattle.claims.specs.Paper.Row.{Row, Kept, AcceptsAll, Proper, Every, none, OneOf, here, there, tellsBeside}
+use Rattle.claims.specs.Paper.Row.{Row, Kept, AcceptsAll, Proper, Every, none, OneOf, here, there, tellsBeside, tellsWritten}
 use Rattle.claims.proofs.Laws.Kept.{writing-right-kept, both, also}
 use Rattle.claims.proofs.Table.Frames.{search-stated}
 
@@ -75,10 +78,39 @@ next-kept =
 pub next-open : AcceptsAll next
 next-open = λ κs a. tt
 
+-- ---- the line of a message
+
+abbrev pub of : Row
+of =
+    writing (ascii "lines::of") lines.of.Kinds.ps lines.of.Kinds.r lines.of.Reads.Pre lines.of.Reads.Post
+    lines.of.Statement.statement (5 ∷ 4 ∷ [])
+    (λ κs a. SaidCause (a .0) (a .1 .0 .now) (a .1 .1 .0) (a .1 .1 .1 .0) (length (a .1 .1 .1 .1 .0 .now) - a .1 .1 .1 .1 .1 .0))
+    (λ κs a. a .1 .1 .1 .1 .0 .now) (λ κs r. r) (λ κs s. s .1 .1 .1 .1 .0 .now)
+
+said-told : {e : Message} {s : List ℕ} {at len : ℕ} {room : List ℕ} {to : ℕ} (r : Written) {later : List ℕ} → WritesSaid e s at len room to r later
+    → (no : ℕ) × (First (SaidCause e s at len (length room - to)) order no × tellsWritten room (r, later) no)
+said-told r a = (writtenRefusal r, (cause-of a, (refl, λ h. (ap (λ v. v .0) (refused-zeros a h), ap (λ v. v .1) (refused-zeros a h)))))
+
+pub of-kept : Kept of
+of-kept =
+    record {
+      ends = lines.of.Met.met;
+      told = λ κs a r s p. said-told r p;
+      stated = λ κs a no c. stated c;
+      one = λ κs a r q s t x y. both (unique.of r q x y);
+    }
+  where
+    stated : {e : Message} {s : List ℕ} {at len left no : ℕ} → SaidCause e s at len left no → OneOf no (5 ∷ 4 ∷ [])
+    stated (SaidCause.no-message f) = here
+    stated (SaidCause.short l h) = there here
+
+pub of-open : AcceptsAll of
+of-open = λ κs a. tt
+
 -- ---- all of them
 
 abbrev pub rows : List Row
-rows = write ∷ next ∷ []
+rows = write ∷ next ∷ of ∷ []
 
 pub rows-kept : Every Proper rows
-rows-kept = also write-kept write-open (also next-kept next-open none)
+rows-kept = also write-kept write-open (also next-kept next-open (also of-kept of-open none))

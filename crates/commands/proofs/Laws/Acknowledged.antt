@@ -23,22 +23,25 @@ use Rattle.puts.proofs.Laws.Puts.{put-length, front-count, front-bytes}
 use Rattle.layouts.specs.Paper.Chars.{oneOf}
 use Rattle.layouts.specs.Paper.Homiq as homiqs
 use Rattle.layouts.specs.Paper.Layout.{bytesOf}
-use Rattle.layouts.specs.Paper.Made.{Wire, closed, homiqOf, Payload}
+use Rattle.layouts.specs.Paper.Made.{Wire, homiqOf, Payload}
 use Rattle.layouts.proofs.Laws.Made.{homiq-fit}
 use Rattle.layouts.proofs.Theorems.{one-homiq}
-use Rattle.frames.specs.Paper.Kinds.{Frame, known, homiq}
+use Rattle.frames.specs.Paper.Kinds.{Frame, numberOf}
+use Rattle.frames.specs.declared.kinds.Kind.the-variants.{Homiq}
+use Rattle.frames.proofs.Laws.Kinds.{kind-known, of-kind, as-frame}
 use Rattle.frames.specs.Paper.Whole as whole
-use Rattle.frames.specs.Paper.Whole.{WholeCause}
+use Rattle.frames.specs.Paper.Whole.{WholeCause, TestsWhole}
+use Rattle.frames.specs.declared.Whole.{Whole}
 use Rattle.builds.specs.Paper.Builds as builds
 use Rattle.builds.specs.Paper.Builds.{HomiqCause, HomiqBytes, BuildsHomiq}
 use Rattle.builds.proofs.Laws.Homiq.{whole-frame, one-bytes, longest}
 use Rattle.puts.proofs.Laws.Right.{ours, first-5, recast, refused-5}
-use Rattle.messages.specs.Paper.Fields.{payloadIn}
+use Rattle.messages.specs.Paper.Content.{wireOf, contentAt, laid, payloadIn}
+use Rattle.messages.specs.Paper.Content as content
+use Rattle.messages.specs.Work.Content.{Fit}
 use Rattle.messages.specs.Work.Answers.{Payloaded}
-use Rattle.messages.specs.Work.Look.{wireOf}
-use Rattle.messages.proofs.Laws.Buses.{wire-in}
 use Rattle.messages.proofs.Laws.Decode.{first-same, the-part}
-use Rattle.messages.proofs.Laws.Frames.{fields-in}
+use Rattle.messages.proofs.Laws.Frames.{content-fit, content-bytes, one-content, frame-of}
 use Rattle.messages.proofs.Laws.HomiqFields.{payload-cmd, payload-val, payload-src, payload-dst, payload-id}
 use Rattle.commands.specs.Paper.Acknowledge.{FrameOf, typeA, acknowledged, acknowledgement, AcknowledgeCause, no-frame, answered, short, AcknowledgementOf, Acknowledges}
 use Rattle.commands.specs.Work.Homiq.{Laid, Answered, exchanged}
@@ -138,15 +141,19 @@ module _ {p f : List ℕ} {w : Wire} (x : Payload p w) (is : FrameOf f w) where
 pub framed : {p : List ℕ} {w : Wire} → Payload p w → FrameOf (bytesOf homiqs.homiq (homiqOf w)) w
 framed x = record { limits = x .limits; frame = refl }
 
+-- the number that the code asks for is Homiq's
+pub tested : {k : ℕ} {f : List ℕ} (r : Whole) → k ≡ numberOf Homiq → TestsWhole k f r → TestsWhole 5 f r
+tested {f = f} r e a = subst (λ (k : ℕ). TestsWhole k f r) e a
+
 module _ {f : List ℕ} {from to : ℕ} (o : Payloaded 5 f from to) where
   its-wire : (w : Wire) × (f ≡ bytesOf homiqs.homiq (homiqOf w)) × Payload (part from to f) w
-  its-wire = go (o .frame) (the-part o)
-    where
-      go : (r : Frame 5 f) → part from to f ≡ payloadIn (fields-in r .fields) → (w : Wire) × (f ≡ bytesOf homiqs.homiq (homiqOf w)) × Payload (part from to f) w
-      go (homiq r) e =
-          let m = r .form .fields in
-          let w = wireOf m in
-          (w, r .form .laid ∙ ap (λ (c : ℕ). bytesOf homiqs.homiq (closed w c)) (r .passes), subst (λ (s : List ℕ). Payload s w) (sym e) (wire-in r))
+  its-wire =
+      let r = of-kind (o .frame) Homiq refl in
+      let same : contentAt (o .frame) ≡ content.homiq (wireOf (r .form .fields)) = one-content (o .frame) (as-frame Homiq r) in (
+        wireOf (r .form .fields),
+        content-bytes (o .frame) ∙ ap laid same,
+        record { limits = subst Fit same (content-fit (o .frame)); laid = the-part o ∙ ap payloadIn same },
+      )
 
   pub frame-laid : Laid (part from to f)
   frame-laid = record { wire = its-wire .0; payload = its-wire .2 }
@@ -159,12 +166,9 @@ module _ {f : List ℕ} {from to : ℕ} (o : Payloaded 5 f from to) where
 
 module _ {f : List ℕ} (room : List ℕ) where
   by-cause : {no : ℕ} → WholeCause 5 f no → Acknowledges f room (Refused OutsideLimits) room
-  unfolding known
-  by-cause (whole.no-kind h) = absurd (true≢false h)
+  by-cause (whole.no-kind h) = absurd (true≢false (sym (kind-known Homiq) ∙ h))
   by-cause (whole.no-frame g) =
-      refused-5
-      (first-5 only
-      (no-frame (λ w q. g (homiq (record { form = record { fields = homiqOf w; limits = q .limits; laid = q .frame }; passes = refl })))))
+      refused-5 (first-5 only (no-frame (λ w q. g (subst (Frame 5) (sym (q .frame)) (frame-of (content.homiq w) (q .limits))))))
 
   pub none-acknowledged : (why : Refusal) → First (WholeCause 5 f) order (refusalNumber why) → Acknowledges f room (Refused OutsideLimits) room
   none-acknowledged why c = by-cause (cause-at c (some-number why))

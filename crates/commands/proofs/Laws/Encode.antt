@@ -13,7 +13,7 @@ use Rattle.digits.proofs.Laws.Refusals.{pass-over}
 use Rattle.puts.specs.declared.Written.the-variants.{Refused}
 use Rattle.puts.specs.Paper.Right.{WroteRight, refused}
 use Rattle.puts.proofs.Laws.Right.{recast}
-use Rattle.frames.specs.Paper.Kinds.{known}
+use Rattle.frames.specs.Paper.Kinds.{known, numberOf}
 use Rattle.messages.specs.Paper.Message.{Message}
 use Rattle.messages.specs.Paper.Says.{Says, kindIn}
 use Rattle.messages.specs.Paper.Table.{HasWidth}
@@ -62,11 +62,11 @@ module _ (k : ℕ) (e : Coded) (s room : List ℕ) where
       not-7 (by-message c) = elim c [ ]
 
       -- 5
-      pub of-other-kind : (kindIn e ≡ k → ⊥) → Encodes k e s room (Refused OutsideLimits) room
+      pub of-other-kind : (numberOf (kindIn e) ≡ k → ⊥) → Encodes k e s room (Refused OutsideLimits) room
       of-other-kind h = refused (lit< tt) (pass-over ours only order (after not-2 (after not-7 (here (other-kind h)))))
 
       -- and else what the message's own writer answers
-      module _ (same : kindIn e ≡ k) where
+      module _ (same : numberOf (kindIn e) ≡ k) where
         back : (no : ℕ) → Cause no → MessageCause (Says e s) (length room) no
         back i (no-kind h) = absurd (not-2 (no-kind h))
         back i (no-width a b c) = absurd (not-7 (no-width a b c))

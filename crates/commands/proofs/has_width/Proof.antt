@@ -9,24 +9,6 @@ use borrow.Author.Needs.{needs}
 use mathlib.Core.Bool.{true}
 use mathlib.Core.Path.{sym, subst}
 
-enum-known-message : tie.Need-enum-known-message
-enum-known-message c = search needs
-
-enum-known-message-2 : tie.Need-enum-known-message-2
-enum-known-message-2 c = search needs
-
-enum-known-message-3 : tie.Need-enum-known-message-3
-enum-known-message-3 c = search needs
-
-enum-known-message-4 : tie.Need-enum-known-message-4
-enum-known-message-4 c = search needs
-
-has-width-requires : tie.Need-has-width-requires
-has-width-requires c κs = search needs
-
-enum-known-message-5 : tie.Need-enum-known-message-5
-enum-known-message-5 c = search needs
-
 returns : tie.Need-returns
 returns c = subst (λ (x : Message). Tells (WidthIn x) true) (sym (c .before .message .given .1)) (holds tt)
 
@@ -46,12 +28,12 @@ pub has-width-spec : {M : Type 1} → statement M
 has-width-spec =
     tie.close
     (tie.spec
-    enum-known-message
-    enum-known-message-2
-    enum-known-message-3
-    enum-known-message-4
-    has-width-requires
-    enum-known-message-5
+    (λ c. search needs)
+    (λ c. search needs)
+    (λ c. search needs)
+    (λ c. search needs)
+    (λ c κs. search needs)
+    (λ c. search needs)
     returns
     returns-2
     returns-3

@@ -8,7 +8,7 @@ use lib.ListN.{length}
 use Rattle.digits.specs.Paper.LowFirst.{Width}
 use Rattle.puts.specs.declared.Written.{Written}
 use Rattle.puts.specs.Paper.Right.{WritesRight}
-use Rattle.frames.specs.Paper.Kinds.{known}
+use Rattle.frames.specs.Paper.Kinds.{known, numberOf}
 use Rattle.messages.specs.Paper.Message.{Message}
 use Rattle.messages.specs.Paper.Says.{Says, kindIn}
 use Rattle.messages.specs.Paper.Table.{bytes, HasWidth, Limits, Above}
@@ -25,7 +25,7 @@ pub data MessageCause (Means : Message → Type 0) (n : ℕ) : ℕ → Type 0 wh
 pub data EncodeCause (k : ℕ) (e : Coded) (s : List ℕ) (n : ℕ) : ℕ → Type 0 where
   no-kind : known k ≡ false → EncodeCause k e s n 2
   no-width : {m : Message} {w : ℕ} → Says e s m → HasWidth m w → (Width w → ⊥) → EncodeCause k e s n 7
-  other-kind : (kindIn e ≡ k → ⊥) → EncodeCause k e s n 5
+  other-kind : (numberOf (kindIn e) ≡ k → ⊥) → EncodeCause k e s n 5
   by-message : {no : ℕ} → MessageCause (Says e s) n no → EncodeCause k e s n no
 
 -- bs are the bytes of the message that is meant

@@ -1,123 +1,155 @@
--- The kinds as one: of a known kind the recogniser finds the frames, and only those.
+-- The kinds as one: of every kind the recogniser finds the frames, and only those; and a number is that of one kind at most.
 -- Assumes nothing.
-use mathlib.Core.Bool.{Bool, true}
+use mathlib.Core.Bool.{Bool, true, false, cond, true≢false}
 use mathlib.Core.List.{List, _++_}
-use mathlib.Core.Path.{_≡_, refl, sym, ap}
-use Prim.Native.Nat.{ℕ, zero, suc, _≤_, _<_}
+use mathlib.Core.Path.{_≡_, refl, sym, _∙_, ap, ap₂, subst}
+use Prim.Native.Nat.{ℕ, zero, suc, _+_, _≤_, _<_}
+use native.Mathlib.Nat.{add-sub-cancel-left}
 use native.Mathlib.Omega.{arith}
-use lib.Dec.{leb, leb→le}
-use lib.ListN.{length, take, length-append}
-use Rattle.digits.proofs.Laws.Tests.{T-and}
-use Rattle.frames.specs.Paper.Kinds.{known, Frame, nikobus, command, response, nibe, homiq, payloadFrom, payloadTo}
-use Rattle.frames.specs.Work.Frames.{frameLen, fromOf, toOf, wherever, headFrom, headTo}
+use lib.Dec.{eqb, lit<}
+use lib.ListN.{length, take, drop, length-append, length-drop, take-append-drop}
+use lib.Seq.{length-take-le}
+use borrow.Author.Tests.{eqb-true}
+use Rattle.digits.proofs.Laws.Parts.{part-rest}
+use Rattle.digits.proofs.Laws.Refusals.{answered, cause-at, cause-of, pass-over}
+use Rattle.digits.specs.Paper.Bytes.{part}
+use Rattle.digits.specs.Paper.Refusals.{order, clear, here, after, answers, refuses}
+use Rattle.layouts.specs.Paper.Chars.{oneOf}
 use Rattle.layouts.specs.Paper.Layout.{Layout, Leads}
 use Rattle.layouts.specs.Paper.Nest.{preamble}
 use Rattle.layouts.specs.Work.Heads.{passing}
-use Rattle.layouts.specs.Work.Homiq.{homiqLen}
-use Rattle.layouts.specs.Work.Nest.{nestLen}
-use Rattle.layouts.specs.Work.Nibe.{nibeLen}
-use Rattle.layouts.specs.Work.Nikobus.{nikobusLen}
 use Rattle.layouts.specs.declared.nest.Direction.the-variants.{Command, Response}
 use Rattle.layouts.proofs.Laws.Buses.{Bus, frame-right, leads-at, leads-none, one-lead}
-use Rattle.layouts.proofs.Laws.Heads.{Right, same-right}
+use Rattle.layouts.proofs.Laws.Heads.{Right}
 use Rattle.layouts.proofs.Laws.Homiq.{homiq-bus}
 use Rattle.layouts.proofs.Laws.Nest.{nest-bus}
 use Rattle.layouts.proofs.Laws.Nibe.{nibe-bus}
 use Rattle.layouts.proofs.Laws.Nikobus.{nikobus-bus}
+use Rattle.layouts.proofs.Laws.Starts.{Begun, nikobus-begun, nest-begun, nibe-begun, homiq-begun, nikobus-behind, nest-behind, nibe-behind, homiq-behind}
 use Rattle.layouts.specs.Paper.Layout as layout
-use Rattle.layouts.specs.Paper.Nikobus as nikobuses
-use Rattle.layouts.specs.Paper.Nest as nests
-use Rattle.layouts.specs.Paper.Nibe as nibes
-use Rattle.layouts.specs.Paper.Homiq as homiqs
+use Rattle.frames.specs.Paper.Kinds.{numberOf, layoutOf, known, KindCause, no-kind, Resolves, Frame, payloadFrom, payloadTo}
+use Rattle.frames.specs.Work.Frames.{recogniser, frameLen, wherever, lenAt, fromAt, toAt, mayStart, Spotted}
+use Rattle.frames.specs.Work.Seek.{among, resolved}
+use Rattle.frames.specs.declared.kinds.Kind.{Kind}
+use Rattle.frames.specs.declared.kinds.Kind.the-variants.{Nikobus, NestCommand, NestResponse, Nibe, Homiq}
+use Rattle.frames.specs.declared.kinds.Resolved.{Resolved}
+use Rattle.frames.specs.declared.kinds.Resolved.the-variants.{Is, Unknown}
 
--- ---- which kinds there are
+-- ---- a line a kind
 
-pub known-range : (k : ℕ) → known k ≡ true → (1 ≤ k) × (k ≤ 5)
-unfolding known
-known-range k e = let q = T-and (leb 1 k) (leb k 5) (rw e tt) in (leb→le 1 k (q .0), leb→le k 5 (q .1))
+resolved-number : (kind : Kind) → resolved (numberOf kind) ≡ Is kind
+unfolding resolved among
+resolved-number Nikobus = refl
+resolved-number NestCommand = refl
+resolved-number NestResponse = refl
+resolved-number Nibe = refl
+resolved-number Homiq = refl
 
-pub by-kind : (k : ℕ) → known k ≡ true → (C : ℕ → Type 0) → C 1 → C 2 → C 3 → C 4 → C 5 → C k
-by-kind zero e C a b c d f = let q = known-range zero e in absurd (omega (arith, q .0))
-by-kind (suc zero) e C a b c d f = a
-by-kind (suc (suc zero)) e C a b c d f = b
-by-kind (suc (suc (suc zero))) e C a b c d f = c
-by-kind (suc (suc (suc (suc zero)))) e C a b c d f = d
-by-kind (suc (suc (suc (suc (suc zero))))) e C a b c d f = f
-by-kind (suc (suc (suc (suc (suc (suc k)))))) e C a b c d f = let q = known-range (suc (suc (suc (suc (suc (suc k)))))) e in absurd (omega (arith, q .1))
-
-pub last-kind : (k : ℕ) → known k ≡ true → (k ≡ 1 → ⊥) → (k ≡ 2 → ⊥) → (k ≡ 3 → ⊥) → (k ≡ 4 → ⊥) → k ≡ 5
-last-kind k e a b c d = let q = known-range k e in omega (arith, q .0, q .1)
-
-pub frame-known : {k : ℕ} {f : List ℕ} → Frame k f → known k ≡ true
-unfolding known
-frame-known (nikobus r) = refl
-frame-known (command r) = refl
-frame-known (response r) = refl
-frame-known (nibe r) = refl
-frame-known (homiq r) = refl
-
--- ---- the recogniser
+pub kind-known : (kind : Kind) → known (numberOf kind) ≡ true
+unfolding known oneOf
+kind-known Nikobus = refl
+kind-known NestCommand = refl
+kind-known NestResponse = refl
+kind-known Nibe = refl
+kind-known Homiq = refl
 
 -- the preambles are not empty
 some : {n : ℕ} → 0 < suc n
 some = omega arith
 
-nikobus-kind : Right (Frame 1) (frameLen 1)
-unfolding frameLen nikobusLen
-nikobus-kind = same-right (λ w r. nikobus r) (λ w r. un r) (frame-right nikobus-bus)
-  where
-    un : {w : List ℕ} → Frame 1 w → layout.Frame nikobuses.nikobus w
-    un (nikobus r) = r
+-- THE RECOGNISERS OF A KIND are right for its layout
+pub busOf : (kind : Kind) → Bus (layoutOf kind) (recogniser kind .form) (recogniser kind .test) (recogniser kind .from) (recogniser kind .to)
+busOf Nikobus = nikobus-bus
+busOf NestCommand = nest-bus (preamble Command) some
+busOf NestResponse = nest-bus (preamble Response) some
+busOf Nibe = nibe-bus
+busOf Homiq = homiq-bus
 
-command-kind : Right (Frame 2) (frameLen 2)
-unfolding frameLen nestLen
-command-kind = same-right (λ w r. command r) (λ w r. un r) (frame-right (nest-bus (preamble Command) some))
-  where
-    un : {w : List ℕ} → Frame 2 w → layout.Frame (nests.nest Command) w
-    un (command r) = r
+-- how a kind's frames begin, and that this does not depend on what stands behind them
+pub begun : (kind : Kind) (f : List ℕ) → layout.Form (layoutOf kind) f → Begun (recogniser kind .starts) f
+begun Nikobus = nikobus-begun
+begun NestCommand = nest-begun Command
+begun NestResponse = nest-begun Response
+begun Nibe = nibe-begun
+begun Homiq = homiq-begun
 
-response-kind : Right (Frame 3) (frameLen 3)
-unfolding frameLen nestLen
-response-kind = same-right (λ w r. response r) (λ w r. un r) (frame-right (nest-bus (preamble Response) some))
-  where
-    un : {w : List ℕ} → Frame 3 w → layout.Frame (nests.nest Response) w
-    un (response r) = r
+pub behind : (kind : Kind) (f t : List ℕ) → 3 ≤ length f → recogniser kind .starts (f ++ t) ≡ recogniser kind .starts f
+behind Nikobus f t h = nikobus-behind f t h
+behind NestCommand f t h = nest-behind f t h Command
+behind NestResponse f t h = nest-behind f t h Response
+behind Nibe f t h = nibe-behind f t h
+behind Homiq f t h = homiq-behind f t h
 
-nibe-kind : Right (Frame 4) (frameLen 4)
-unfolding frameLen nibeLen
-nibe-kind = same-right (λ w r. nibe r) (λ w r. un r) (frame-right nibe-bus)
-  where
-    un : {w : List ℕ} → Frame 4 w → layout.Frame nibes.nibe w
-    un (nibe r) = r
+-- ---- numbers and kinds
 
-homiq-kind : Right (Frame 5) (frameLen 5)
-unfolding frameLen homiqLen
-homiq-kind = same-right (λ w r. homiq r) (λ w r. un r) (frame-right homiq-bus)
-  where
-    un : {w : List ℕ} → Frame 5 w → layout.Frame homiqs.homiq w
-    un (homiq r) = r
+same-kind : {a b : Kind} → Is a ≡ Is b → a ≡ b
+same-kind e = cc
 
--- OF EVERY KNOWN KIND `frameLen` finds the frames, and only those
-pub kind-right : (k : ℕ) → known k ≡ true → Right (Frame k) (frameLen k)
-kind-right k e = by-kind k e (λ j. Right (Frame j) (frameLen j)) nikobus-kind command-kind response-kind nibe-kind homiq-kind
+pub one-kind : (a b : Kind) → numberOf a ≡ numberOf b → a ≡ b
+one-kind a b e = same-kind (sym (resolved-number a) ∙ ap resolved e ∙ resolved-number b)
+
+pub known-of : {k : ℕ} (kind : Kind) → numberOf kind ≡ k → known k ≡ true
+known-of kind e = ap known (sym e) ∙ kind-known kind
+
+-- ---- what a number is resolved to
+
+abbrev ours : ℕ → Bool
+ours k = eqb k 2
+
+only : {k : ℕ} (i : ℕ) → ours i ≡ false → KindCause k i → ⊥
+only i e (no-kind h) = true≢false e
+
+pub resolves-to : {k : ℕ} (kind : Kind) → numberOf kind ≡ k → Resolves k (Is kind)
+resolves-to {k} kind e = answers {v = numberOf kind} (pass-over ours only order (after never clear)) e
+  where
+    never : KindCause k 2 → ⊥
+    never (no-kind h) = true≢false (sym (known-of kind e) ∙ h)
+
+pub resolves-none : {k : ℕ} → known k ≡ false → Resolves k Unknown
+resolves-none e = refuses (lit< tt) (pass-over ours only order (here (no-kind e)))
+
+-- WHAT IS COMPUTED IS THE KIND OF A NUMBER
+pub resolves : (k : ℕ) → Resolves k (resolved k)
+unfolding resolved among known oneOf
+resolves k =
+    step Nikobus _ (λ a. step NestCommand _ (λ b. step NestResponse _ (λ c. step Nibe _ (λ d. step Homiq _ (λ e. resolves-none (rw (a, b, c, d, e)))))))
+  where
+    step : (kind : Kind) (rest : Resolved) → (eqb k (numberOf kind) ≡ false → Resolves k rest) → Resolves k (cond (eqb k (numberOf kind)) (Is kind) rest)
+    step kind rest f = go (eqb k (numberOf kind)) refl
+      where
+        go : (t : Bool) → eqb k (numberOf kind) ≡ t → Resolves k (cond t (Is kind) rest)
+        go true e = resolves-to kind (sym (eqb-true _ _ e))
+        go false e = f e
+
+pub frame-known : {k : ℕ} {f : List ℕ} → Frame k f → known k ≡ true
+frame-known r = known-of (r .kind) (r .number)
+
+-- a frame of the number of a kind is one of that kind
+pub of-kind : {k : ℕ} {f : List ℕ} → Frame k f → (kind : Kind) → numberOf kind ≡ k → layout.Frame (layoutOf kind) f
+of-kind {f = f} r kind e = subst (λ (x : Kind). layout.Frame (layoutOf x) f) (one-kind (r .kind) kind (r .number ∙ sym e)) (r .frame)
+
+abbrev pub as-frame : (kind : Kind) {f : List ℕ} → layout.Frame (layoutOf kind) f → Frame (numberOf kind) f
+as-frame kind r = record { kind = kind; number = refl; frame = r }
+
+-- OF EVERY KIND `frameLen` finds the frames, and only those
+pub kind-right : (kind : Kind) → Right (layout.Frame (layoutOf kind)) (frameLen kind)
+kind-right kind = frame-right (busOf kind)
 
 -- ---- the payload's places
 
-pub begins : {k : ℕ} {f : List ℕ} (r : Frame k f) → payloadFrom r ≡ fromOf k f
-unfolding fromOf
-begins {f = f} (nikobus r) = nikobus-bus .begins f (r .form)
-begins {f = f} (command r) = nest-bus (preamble Command) some .begins f (r .form)
-begins {f = f} (response r) = nest-bus (preamble Response) some .begins f (r .form)
-begins {f = f} (nibe r) = nibe-bus .begins f (r .form)
-begins {f = f} (homiq r) = homiq-bus .begins f (r .form)
+pub begins : {k : ℕ} {f : List ℕ} (r : Frame k f) → payloadFrom r ≡ recogniser (r .kind) .from f
+begins {f = f} r = busOf (r .kind) .begins f (r .frame .form)
 
-pub ends : {k : ℕ} {f : List ℕ} (r : Frame k f) → payloadTo r ≡ toOf k f
-unfolding toOf
-ends {f = f} (nikobus r) = nikobus-bus .ends f (r .form)
-ends {f = f} (command r) = nest-bus (preamble Command) some .ends f (r .form)
-ends {f = f} (response r) = nest-bus (preamble Response) some .ends f (r .form)
-ends {f = f} (nibe r) = nibe-bus .ends f (r .form)
-ends {f = f} (homiq r) = homiq-bus .ends f (r .form)
+pub ends : {k : ℕ} {f : List ℕ} (r : Frame k f) → payloadTo r ≡ recogniser (r .kind) .to f
+ends {f = f} r = busOf (r .kind) .ends f (r .frame .form)
+
+-- the same bytes have one payload
+pub one-payload : {k : ℕ} {f g : List ℕ} → f ≡ g → (r : Frame k f) (q : Frame k g) → (payloadFrom r ≡ payloadFrom q) × (payloadTo r ≡ payloadTo q)
+one-payload {f = f} {g = g} e r q =
+    let same : r .kind ≡ q .kind = one-kind (r .kind) (q .kind) (r .number ∙ sym (q .number)) in (
+      begins r ∙ ap₂ (λ (x : Kind) (s : List ℕ). recogniser x .from s) same e ∙ sym (begins q),
+      ends r ∙ ap₂ (λ (x : Kind) (s : List ℕ). recogniser x .to s) same e ∙ sym (ends q),
+    )
 
 -- the payload lies in the bytes of the fields, and so in the frame
 pub laid-holds : (l : Layout) (m : l .Fields) → (layout.payloadFrom l m ≤ layout.payloadTo l m) × (layout.payloadTo l m ≤ length (layout.bytesOf l m))
@@ -128,11 +160,7 @@ form-holds : {l : Layout} {f : List ℕ} (r : layout.Form l f)
 form-holds {l} {f} r = let h = laid-holds l (r .fields) in (h .0, omega (arith, ap length (r .laid), h))
 
 pub payload-inside : {k : ℕ} {f : List ℕ} (r : Frame k f) → (payloadFrom r ≤ payloadTo r) × (payloadTo r ≤ length f)
-payload-inside (nikobus r) = form-holds (r .form)
-payload-inside (command r) = form-holds (r .form)
-payload-inside (response r) = form-holds (r .form)
-payload-inside (nibe r) = form-holds (r .form)
-payload-inside (homiq r) = form-holds (r .form)
+payload-inside r = form-holds (r .frame .form)
 
 -- ---- what the layouts' functions answer
 
@@ -140,34 +168,47 @@ module _ {l : Layout} {form : List ℕ → ℕ} {test : List ℕ → Bool} {from
   abbrev found : ℕ
   found = passing form test s
 
-  pub lead-places : {n x y : ℕ} → Leads l s n x y → (n ≡ found) × ((x ≡ wherever found (from (take found s))) × (y ≡ wherever found (to (take found s))))
+  lead-places : {n x y : ℕ} → Leads l s n x y → (n ≡ found) × ((x ≡ wherever found (from (take found s))) × (y ≡ wherever found (to (take found s))))
   lead-places {n} {x} {y} a = go found refl
     where
       go : (p : ℕ) → found ≡ p → (n ≡ p) × ((x ≡ wherever p (from (take p s))) × (y ≡ wherever p (to (take p s))))
       go zero e = let q = one-lead b a (leads-none b s (sym e)) in (q .0, (q .1, q .2))
       go (suc p) e = let q = one-lead b a (leads-at b s (suc p) _ _ (sym e) (λ z. omega arith) refl refl) in (q .0, (q .1, q .2))
 
--- the spot at the head of s is the kind's
-abbrev pub Spotted : ℕ → List ℕ → (n x y : ℕ) → Type 0
-Spotted k s n x y = (n ≡ frameLen k s) × ((x ≡ headFrom k s) × (y ≡ headTo k s))
+-- the spot at a place
+pub spotted : (kind : Kind) (s : List ℕ) (i : ℕ) {u : List ℕ} {n x y : ℕ} → u ≡ drop i s → Leads (layoutOf kind) u n x y → Spotted kind s i n x y
+unfolding lenAt fromAt toAt
+spotted kind s i {n = n} {x = x} {y = y} e a =
+    let q = lead-places (busOf kind) (drop i s) (subst (λ (w : List ℕ). Leads (layoutOf kind) w n x y) e a) in
+    record { len-is = q .0; from-is = q .1 .0; to-is = q .1 .1 }
 
-module _ {s : List ℕ} {n x y : ℕ} where
-  pub nikobus-spot : Leads nikobuses.nikobus s n x y → Spotted 1 s n x y
-  unfolding frameLen headFrom headTo fromOf toOf nikobusLen
-  nikobus-spot a = lead-places nikobus-bus s a
+-- as the code has it: the rest of the buffer, in the arm of a kind
+pub spotted-as : {kind it : Kind} {s : List ℕ} {i n x y : ℕ} → kind ≡ it → Leads (layoutOf it) (part i (length s) s) n x y → Spotted kind s i n x y
+spotted-as {it = it} {s = s} {i = i} {n = n} {x = x} {y = y} e a = subst (λ (k : Kind). Spotted k s i n x y) (sym e) (spotted it s i (part-rest i s) a)
 
-  pub command-spot : Leads (nests.nest Command) s n x y → Spotted 2 s n x y
-  unfolding frameLen headFrom headTo fromOf toOf nestLen
-  command-spot a = lead-places (nest-bus (preamble Command) some) s a
+-- three bytes tell as much as all of them
+pub may-start-as : {kind it : Kind} (s : List ℕ) (i : ℕ) → i + 3 ≤ length s → {r : Bool} → kind ≡ it → r ≡ recogniser it .starts (part i (i + 3) s)
+    → r ≡ mayStart kind s i
+unfolding mayStart
+may-start-as {it = it} s i l e h =
+    let u = drop i s in
+    let three : part i (i + 3) s ≡ take 3 u = rw (add-sub-cancel-left i 3) in
+    let long : length (take 3 u) ≡ 3 = length-take-le 3 u (omega (arith, length-drop i s)) in
+    h ∙ ap (recogniser it .starts) three ∙ sym (behind it (take 3 u) (drop 3 u) (omega (arith, long)))
+    ∙ ap (recogniser it .starts) (take-append-drop 3 u) ∙ sym (ap (λ (k : Kind). recogniser k .starts u) e)
 
-  pub response-spot : Leads (nests.nest Response) s n x y → Spotted 3 s n x y
-  unfolding frameLen headFrom headTo fromOf toOf nestLen
-  response-spot a = lead-places (nest-bus (preamble Response) some) s a
+-- what a number that was resolved says
+pub kind-is : {k : ℕ} (kind : Kind) → Resolves k (Is kind) → numberOf kind ≡ k
+kind-is kind a = answered a refl
 
-  pub nibe-spot : Leads nibes.nibe s n x y → Spotted 4 s n x y
-  unfolding frameLen headFrom headTo fromOf toOf nibeLen
-  nibe-spot a = lead-places nibe-bus s a
+pub kind-not : {k : ℕ} → Resolves k Unknown → known k ≡ false
+kind-not {k} a = of (cause-at (cause-of a) (lit< tt))
+  where
+    of : {no : ℕ} → KindCause k no → known k ≡ false
+    of (no-kind h) = h
 
-  pub homiq-spot : Leads homiqs.homiq s n x y → Spotted 5 s n x y
-  unfolding frameLen headFrom headTo fromOf toOf homiqLen
-  homiq-spot a = lead-places homiq-bus s a
+pub resolved-known : {k : ℕ} {r : Resolved} {kind : Kind} → Resolves k r → r ≡ Is kind → numberOf kind ≡ k
+resolved-known {k} {kind = kind} a q = kind-is kind (subst (Resolves k) q a)
+
+pub resolved-unknown : {k : ℕ} {r : Resolved} → Resolves k r → r ≡ Unknown → known k ≡ false
+resolved-unknown {k} a q = kind-not (subst (Resolves k) q a)

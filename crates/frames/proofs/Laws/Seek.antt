@@ -1,26 +1,29 @@
 -- The search, a place at a time, and that what it computes is the right answer.
 -- Assumes nothing.
 use mathlib.Core.Bool.{Bool, true, false, cond}
-use mathlib.Core.List.{List, [], _∷_}
+use mathlib.Core.List.{List}
 use mathlib.Core.Logic.{⊎-elim}
-use mathlib.Core.Path.{_≡_, refl, sym, _∙_, ap}
+use mathlib.Core.Path.{_≡_, refl, sym, _∙_, ap, subst}
 use Prim.Native.Nat.{ℕ, zero, suc, _+_, _-_, _≤_, _<_}
 use native.Mathlib.Nat.{eq-or-lt-of-le, le-of-suc-le-suc}
 use native.Mathlib.Numerals.{add-one}
 use native.Mathlib.Omega.{arith}
 use lib.Dec.{leb}
-use lib.ListN.{length, getD, drop, length-drop, drop-of-length-le}
-use lib.Seq.{drop-cons}
+use lib.ListN.{length}
 use borrow.Author.Tests.{leb-true, leb-false}
 use Rattle.digits.specs.Paper.Refusals.{answers, refuses}
-use Rattle.digits.specs.declared.refusal.Refusal.the-variants.{NoFrame, Kind, Place}
-use Rattle.frames.specs.Paper.Kinds.{known}
+use Rattle.digits.specs.declared.refusal.Refusal.the-variants.{NoFrame, Kind as NoKind, Place}
+use Rattle.frames.specs.Paper.Kinds.{numberOf, known, Resolves}
 use Rattle.frames.specs.Paper.Search.{FrameAt, Searches}
-use Rattle.frames.specs.Work.Frames.{frameLen, headFrom, headTo}
-use Rattle.frames.specs.Work.Seek.{orElse, seek, searched}
+use Rattle.frames.specs.Work.Frames.{lenAt, fromAt, toAt, Spotted}
+use Rattle.frames.specs.Work.Seek.{orElse, seekAmong, seek, resolved, searchedAs, searched}
 use Rattle.frames.specs.declared.Found.{Found}
 use Rattle.frames.specs.declared.Found.the-variants.{At, Refused}
+use Rattle.frames.specs.declared.kinds.Kind.{Kind}
+use Rattle.frames.specs.declared.kinds.Resolved.{Resolved}
+use Rattle.frames.specs.declared.kinds.Resolved.the-variants.{Is, Unknown}
 use Rattle.frames.proofs.Laws.Causes.{search-0, search-1, search-2, search-3}
+use Rattle.frames.proofs.Laws.Kinds.{kind-known, known-of, resolves, kind-is, kind-not}
 use Rattle.frames.proofs.Laws.Places.{at-place, positive, stands, from-there, to-there}
 
 -- ---- one place
@@ -29,73 +32,75 @@ some-there : (n i x y : ℕ) (r : Found) → (n ≡ 0 → ⊥) → At i n (i + x
 some-there zero i x y r h = absurd (h refl)
 some-there (suc n) i x y r h = refl
 
-module _ (k : ℕ) (s : List ℕ) (i : ℕ) where
-  pub seek-hit : i < length s → {n x y : ℕ} → n ≡ frameLen k (drop i s) → x ≡ headFrom k (drop i s) → y ≡ headTo k (drop i s) → (n ≡ 0 → ⊥)
-      → At i n (i + x) (i + y) ≡ seek k (drop i s) i
-  unfolding seek
-  seek-hit h {n} {x} {y} en ex ey p =
-      let d = drop-cons s i 0 h in
-      rw d (rw (← d, ← en, ← ex, ← ey) (some-there n i x y _ p))
+module _ (kind : Kind) (s : List ℕ) (i : ℕ) where
+  seek-step : i < length s → seek kind s i ≡ orElse (lenAt kind s i) i (fromAt kind s i) (toAt kind s i) (seek kind s (suc i))
+  unfolding seek seekAmong
+  seek-step h = let n : length s - i ≡ suc (length s - suc i) = omega arith in rw n
 
-  pub seek-miss : i < length s → frameLen k (drop i s) ≡ 0 → seek k (drop (i + 1) s) (i + 1) ≡ seek k (drop i s) i
-  unfolding seek
-  seek-miss h z =
-      let d = drop-cons s i 0 h in
-      let g : frameLen k (getD s i 0 ∷ drop (suc i) s) ≡ 0 = ap (frameLen k) (sym d) ∙ z in
-      rw (add-one, d, g)
+  pub seek-hit : i < length s → {n x y : ℕ} → Spotted kind s i n x y → (n ≡ 0 → ⊥) → At i n (i + x) (i + y) ≡ seek kind s i
+  seek-hit h {n} {x} {y} q p = rw (seek-step h, ← Spotted.len-is q, ← Spotted.from-is q, ← Spotted.to-is q) (some-there n i x y _ p)
 
-  pub seek-end : length s ≤ i → Refused NoFrame ≡ seek k (drop i s) i
-  unfolding seek
-  seek-end h = rw (drop-of-length-le s h)
+  pub seek-miss : i < length s → lenAt kind s i ≡ 0 → seek kind s (i + 1) ≡ seek kind s i
+  seek-miss h z = rw (seek-step h, z, add-one)
+
+  pub seek-end : length s ≤ i → Refused NoFrame ≡ seek kind s i
+  unfolding seek seekAmong
+  seek-end h = let n : length s - i ≡ 0 = omega arith in rw n
 
 -- ---- the right answer
 
-module _ (k : ℕ) (s : List ℕ) (place : ℕ) (kn : known k ≡ true) (lp : place ≤ length s) where
+module _ (kind : Kind) (s : List ℕ) (place : ℕ) (lp : place ≤ length s) where
+  abbrev k : ℕ
+  k = numberOf kind
+
   abbrev NoneBefore : ℕ → Type 0
   NoneBefore i = (j m : ℕ) → place ≤ j → j < i → FrameAt k s j m → ⊥
 
-  hit : (i n : ℕ) → place ≤ i → i ≤ length s → frameLen k (drop i s) ≡ suc n → NoneBefore i
-      → Searches k s place (At i (suc n) (i + headFrom k (drop i s)) (i + headTo k (drop i s)))
+  hit : (i n : ℕ) → place ≤ i → i ≤ length s → lenAt kind s i ≡ suc n → NoneBefore i
+      → Searches k s place (At i (suc n) (i + fromAt kind s i) (i + toAt kind s i))
   hit i n p l e none =
-      let q = stands k kn s i n l e in
-      answers {v = record { start = i; len = suc n; from = i + headFrom k (drop i s); to = i + headTo k (drop i s) }} (search-0 kn lp p q)
+      let q = stands kind s i n l e in
+      answers {v = record { start = i; len = suc n; from = i + fromAt kind s i; to = i + toAt kind s i }} (search-0 (kind-known kind) lp p q)
       (record {
         behind = p;
         stands = q;
-        from-is = ap (λ (x : ℕ). i + x) (sym (from-there q));
-        to-is = ap (λ (x : ℕ). i + x) (sym (to-there q));
+        from-is = ap (λ (x : ℕ). i + x) (sym (from-there kind q));
+        to-is = ap (λ (x : ℕ). i + x) (sym (to-there kind q));
         none-before = none;
       })
 
-  step : (i n : ℕ) (r : Found) → frameLen k (drop i s) ≡ n → place ≤ i → i ≤ length s → NoneBefore i
-      → (NoneBefore (suc i) → Searches k s place r) → Searches k s place (orElse n i (headFrom k (drop i s)) (headTo k (drop i s)) r)
+  step : (i n : ℕ) (r : Found) → lenAt kind s i ≡ n → place ≤ i → i ≤ length s → NoneBefore i
+      → (NoneBefore (suc i) → Searches k s place r) → Searches k s place (orElse n i (fromAt kind s i) (toAt kind s i) r)
   step i zero r e p l none rest =
       rest
       λ j m pj lt q.
       ⊎-elim
       (λ (h : j ≡ i).
-      let z : m ≡ 0 = sym (at-place q) ∙ rw h e in
+      let z : m ≡ 0 = sym (at-place q kind refl) ∙ rw h e in
       omega (arith, positive q))
       (λ h. none j m pj h q)
       (eq-or-lt-of-le (le-of-suc-le-suc lt))
   step i (suc n) r e p l none rest = hit i n p l e none
 
-  from-place : (u : List ℕ) (i : ℕ) → drop i s ≡ u → place ≤ i → i ≤ length s → NoneBefore i → Searches k s place (seek k u i)
-  unfolding seek
-  from-place [] i e p l none =
+  from-place : (n i : ℕ) → length s - i ≡ n → place ≤ i → i ≤ length s → NoneBefore i → Searches k s place (seekAmong kind s n i)
+  unfolding seekAmong
+  from-place zero i e p l none =
       refuses {no = 1} (omega arith)
-      (search-1 kn lp λ j m pj q. none j m pj (omega (arith, positive q, q .inside, length-drop i s, ap length e)) q)
-  from-place (x ∷ u) i e p l none =
-      let h : i < length s = omega (arith, length-drop i s, ap length e) in
-      let t = step i (frameLen k (drop i s)) (seek k u (suc i)) refl p l none (λ more. from-place u (suc i) (ap (drop 1) (sym (drop-cons s i 0 h) ∙ e)) (omega arith) h more) in
-      rw e at t
+      (search-1 (kind-known kind) lp λ j m pj q. none j m pj (omega (arith, positive q, q .inside)) q)
+  from-place (suc n) i e p l none =
+      let h : i < length s = omega arith in
+      step i (lenAt kind s i) (seekAmong kind s n (suc i)) refl p l none (λ more. from-place n (suc i) (omega arith) (omega arith) h more)
 
-  pub seek-right : Searches k s place (seek k (drop place s) place)
-  seek-right = from-place (drop place s) place refl (omega arith) lp (λ j m pj lt q. omega arith)
+  pub seek-right : Searches k s place (seek kind s place)
+  unfolding seek
+  seek-right = from-place (length s - place) place refl (omega arith) lp (λ j m pj lt q. omega arith)
 
 -- the answers of the code's tests
-module _ (k : ℕ) (s : List ℕ) (place : ℕ) where
-  pub no-kind : known k ≡ false → Searches k s place (Refused Kind)
+module _ (s : List ℕ) (place : ℕ) {k : ℕ} where
+  pub found-by : (kind : Kind) → numberOf kind ≡ k → place ≤ length s → Searches k s place (seek kind s place)
+  found-by kind e lp = subst (λ (j : ℕ). Searches j s place (seek kind s place)) e (seek-right kind s place lp)
+
+  pub no-kind : known k ≡ false → Searches k s place (Refused NoKind)
   no-kind e = refuses {no = 2} (omega arith) (search-2 e)
 
   pub no-place : known k ≡ true → length s < place → Searches k s place (Refused Place)
@@ -104,12 +109,12 @@ module _ (k : ℕ) (s : List ℕ) (place : ℕ) where
 -- WHAT IS COMPUTED IS THE RIGHT ANSWER
 pub search-right : (k : ℕ) (s : List ℕ) (place : ℕ) → Searches k s place (searched k s place)
 unfolding searched
-search-right k s place = of-kind (known k) refl
+search-right k s place = of (resolved k) (resolves k)
   where
-    of-place : known k ≡ true → (t : Bool) → leb place (length s) ≡ t → Searches k s place (cond t (seek k (drop place s) place) (Refused Place))
-    of-place kn true e = seek-right k s place kn (leb-true place (length s) e)
-    of-place kn false e = no-place k s place kn (leb-false place (length s) e)
+    at : (kind : Kind) → numberOf kind ≡ k → (t : Bool) → leb place (length s) ≡ t → Searches k s place (cond t (seek kind s place) (Refused Place))
+    at kind e true h = found-by s place kind e (leb-true place (length s) h)
+    at kind e false h = no-place s place (known-of kind e) (leb-false place (length s) h)
 
-    of-kind : (t : Bool) → known k ≡ t → Searches k s place (cond t (cond (leb place (length s)) (seek k (drop place s) place) (Refused Place)) (Refused Kind))
-    of-kind true kn = of-place kn (leb place (length s)) refl
-    of-kind false kn = no-kind k s place kn
+    of : (r : Resolved) → Resolves k r → Searches k s place (searchedAs r s place)
+    of (Is kind) a = at kind (kind-is kind a) (leb place (length s)) refl
+    of Unknown a = no-kind s place (kind-not a)

@@ -9,29 +9,11 @@ use Rattle.frames.proofs.Laws.Hands.{found-inside, hands-found, hands-n
 use Rattle.frames.proofs.frame.Statement.{statement}
 use Rattle.frames.proofs.frame.Tie as tie
 
-search-requires : tie.Need-search-requires
-search-requires c κs = search needs
-
-enum-known-start : tie.Need-enum-known-start
-enum-known-start c = search needs
-
 add-result : tie.Need-add-result
 add-result c = let s = c .before .before .before .before .before in omega (arith, found-inside (c .before .before .before .search .ensures) (c .before .start .given .1), s .good)
 
-sub-result : tie.Need-sub-result
-sub-result c = search needs
-
-part-result-start : tie.Need-part-result-start
-part-result-start c = search needs
-
 part-result-end : tie.Need-part-result-end
 part-result-end c = found-inside (c .before .before .before .search .ensures) (c .before .start .given .1)
-
-enum-known-why : tie.Need-enum-known-why
-enum-known-why c = search needs
-
-slice-aggregate-result : tie.Need-slice-aggregate-result
-slice-aggregate-result c = search needs
 
 returns : tie.Need-returns
 returns c = hands-found (c .before .before .before .before .search .ensures) (c .before .before .start .given .1) (framePart (now (c .before .before .before .before .before .before .args .buffer))) _ refl
@@ -43,13 +25,13 @@ pub frame-spec : {M : Type 1} → statement M
 frame-spec =
     tie.close
     (tie.spec
-    search-requires
-    enum-known-start
+    (λ c κs. search needs)
+    (λ c. search needs)
     add-result
-    sub-result
-    part-result-start
+    (λ c. search needs)
+    (λ c. search needs)
     part-result-end
-    enum-known-why
-    slice-aggregate-result
+    (λ c. search needs)
+    (λ c. search needs)
     returns
     returns-2)

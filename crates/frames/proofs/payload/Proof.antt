@@ -8,12 +8,6 @@ use Rattle.frames.proofs.Laws.Hands.{payload-there, hands-found, hands-
 use Rattle.frames.proofs.payload.Statement.{statement}
 use Rattle.frames.proofs.payload.Tie as tie
 
-search-requires : tie.Need-search-requires
-search-requires c κs = search needs
-
-enum-known-start : tie.Need-enum-known-start
-enum-known-start c = search needs
-
 sub-result : tie.Need-sub-result
 sub-result c = payload-there (c .before .before .before .search .ensures) (c .before .start .given .1) .0
 
@@ -22,12 +16,6 @@ part-result-start c = payload-there (c .before .before .before .search .ensures)
 
 part-result-end : tie.Need-part-result-end
 part-result-end c = payload-there (c .before .before .before .search .ensures) (c .before .start .given .1) .1
-
-enum-known-why : tie.Need-enum-known-why
-enum-known-why c = search needs
-
-slice-aggregate-result : tie.Need-slice-aggregate-result
-slice-aggregate-result c = search needs
 
 returns : tie.Need-returns
 returns c = hands-found (c .before .before .before .before .search .ensures) (c .before .before .start .given .1) (payloadPart (now (c .before .before .before .before .before .before .args .buffer))) _ refl
@@ -39,12 +27,12 @@ pub payload-spec : {M : Type 1} → statement M
 payload-spec =
     tie.close
     (tie.spec
-    search-requires
-    enum-known-start
+    (λ c κs. search needs)
+    (λ c. search needs)
     sub-result
     part-result-start
     part-result-end
-    enum-known-why
-    slice-aggregate-result
+    (λ c. search needs)
+    (λ c. search needs)
     returns
     returns-2)

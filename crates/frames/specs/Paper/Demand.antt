@@ -1,22 +1,53 @@
--- 01, demand 3: the checked bytes of a frame and the check value that stands in it. "Demand 3's checked bytes are those the check
--- covers (Nikobus: the payload's bytes, under CRC16)". Presses and tails carry no check value.
+-- 01, demand 3: the checked bytes of a frame and the check value that stands in it.
 -- Assumes nothing.
 use mathlib.Core.List.{List}
+use mathlib.Core.Option.{Option, none, some}
 use mathlib.Core.Path.{_≡_}
 use Prim.Native.Nat.{ℕ}
+use Rattle.checks.specs.Paper.Bits.{Order, highFirst, lowFirst}
 use Rattle.checks.specs.Paper.Buses.{nikobusCrc16, nestCrc, nibeXor, homiqCrc}
 use Rattle.checks.specs.Paper.Check.{Check}
-use Rattle.layouts.specs.Paper.Layout.{Frame}
-use Rattle.layouts.specs.declared.nest.Direction.the-variants.{Command, Response}
 use Rattle.layouts.specs.Paper.Nikobus as nikobuses
 use Rattle.layouts.specs.Paper.Nest as nests
 use Rattle.layouts.specs.Paper.Nibe as nibes
 use Rattle.layouts.specs.Paper.Homiq as homiqs
+use Rattle.frames.specs.Paper.Kinds.{layoutOf, Frame}
+use Rattle.frames.specs.declared.kinds.Kind.{Kind}
+use Rattle.frames.specs.declared.kinds.Kind.the-variants.{Nikobus, NestCommand, NestResponse, Nibe, Homiq}
+
+-- a check, the bytes that it covers, and the value that stands in the frame
+pub record Checked : Type 0 where
+  pub check : Check
+  pub bytes : List ℕ
+  pub value : ℕ
+
+-- "Demand 3's checked bytes are those the check covers (Nikobus: the payload's bytes, under CRC16)". Presses and tails carry no check value
+abbrev pub checkedIn : (kind : Kind) → layoutOf kind .Fields → Option Checked
+checkedIn Nikobus (nikobuses.link p crc16 crc8) = some (record { check = nikobusCrc16; bytes = p; value = crc16 })
+checkedIn Nikobus (nikobuses.press d) = none
+checkedIn Nikobus nikobuses.tail = none
+checkedIn NestCommand m = some (record { check = nestCrc; bytes = nests.covered (m .id) (m .payload); value = m .crc })
+checkedIn NestResponse m = some (record { check = nestCrc; bytes = nests.covered (m .id) (m .payload); value = m .crc })
+checkedIn Nibe m = some (record { check = nibeXor; bytes = nibes.covered (m .content); value = m .xor })
+checkedIn Homiq m = some (record { check = homiqCrc; bytes = homiqs.joined m; value = m .crc })
+
+-- "a stretch of 16 consecutive bits (Nest; Nikobus, over its payload) or 8 (Nibe, Homiq)"
+abbrev pub stretch : Kind → ℕ
+stretch Nikobus = 16
+stretch NestCommand = 16
+stretch NestResponse = 16
+stretch Nibe = 8
+stretch Homiq = 8
+
+-- "Their bits follow one another in the check's bit order; Nibe counts as high bit first"
+abbrev pub bitOrder : Kind → Order
+bitOrder Nikobus = highFirst
+bitOrder NestCommand = highFirst
+bitOrder NestResponse = highFirst
+bitOrder Nibe = highFirst
+bitOrder Homiq = lowFirst
 
 -- the frame f of kind k carries a value of the check, over the bytes
-pub data Carries : (k : ℕ) (f : List ℕ) (c : Check) (bytes : List ℕ) (value : ℕ) → Type 0 where
-  link : {f p : List ℕ} {crc16 crc8 : ℕ} (r : Frame nikobuses.nikobus f) → r .form .fields ≡ nikobuses.link p crc16 crc8 → Carries 1 f nikobusCrc16 p crc16
-  command : {f : List ℕ} (r : Frame (nests.nest Command) f) → Carries 2 f nestCrc (nests.covered (r .form .fields .id) (r .form .fields .payload)) (r .form .fields .crc)
-  response : {f : List ℕ} (r : Frame (nests.nest Response) f) → Carries 3 f nestCrc (nests.covered (r .form .fields .id) (r .form .fields .payload)) (r .form .fields .crc)
-  nibe : {f : List ℕ} (r : Frame nibes.nibe f) → Carries 4 f nibeXor (nibes.covered (r .form .fields .content)) (r .form .fields .xor)
-  homiq : {f : List ℕ} (r : Frame homiqs.homiq f) → Carries 5 f homiqCrc (homiqs.joined (r .form .fields)) (r .form .fields .crc)
+pub record Carries (k : ℕ) (f : List ℕ) (c : Check) (bytes : List ℕ) (value : ℕ) : Type 0 where
+  pub frame : Frame k f
+  pub carries : checkedIn (frame .kind) (frame .frame .form .fields) ≡ some (record { check = c; bytes = bytes; value = value })

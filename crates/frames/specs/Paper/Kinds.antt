@@ -1,39 +1,73 @@
--- 01, "Kinds and frames": "A kind is a bus and direction: 1 Nikobus, 2 Nest command, 3 Nest response, 4 Nibe, 5 Homiq."
+-- 01, "Kinds and frames": "A kind is a bus and direction: 1 Nikobus, 2 Nest command, 3 Nest response, 4 Nibe, 5 Homiq." Inside the library a
+-- kind is a case of the code's enum; the tables here say what a kind is, a line a kind.
 -- Assumes nothing.
-use mathlib.Core.Bool.{Bool, _&&_}
-use mathlib.Core.List.{List}
+use mathlib.Core.Bool.{Bool, false}
+use mathlib.Core.List.{List, [], _∷_}
+use mathlib.Core.Path.{_≡_}
 use Prim.Native.Nat.{ℕ}
-use lib.Dec.{leb}
+use Rattle.digits.specs.Paper.Refusals.{Answers}
 use Rattle.layouts.specs.declared.nest.Direction.the-variants.{Command, Response}
+use Rattle.layouts.specs.Paper.Chars.{oneOf}
+use Rattle.layouts.specs.Paper.Layout.{Layout}
 use Rattle.layouts.specs.Paper.Layout as layout
 use Rattle.layouts.specs.Paper.Nikobus as nikobuses
 use Rattle.layouts.specs.Paper.Nest as nests
 use Rattle.layouts.specs.Paper.Nibe as nibes
 use Rattle.layouts.specs.Paper.Homiq as homiqs
+use Rattle.frames.specs.declared.kinds.Kind.{Kind}
+use Rattle.frames.specs.declared.kinds.Kind.the-variants.{Nikobus, NestCommand, NestResponse, Nibe, Homiq}
+use Rattle.frames.specs.declared.kinds.Resolved.{Resolved}
+use Rattle.frames.specs.declared.kinds.Resolved.the-variants.{Is, Unknown}
 
--- "kind not 1 to 5" is refused
+-- "1 Nikobus, 2 Nest command, 3 Nest response, 4 Nibe, 5 Homiq"
+abbrev pub numberOf : Kind → ℕ
+numberOf Nikobus = 1
+numberOf NestCommand = 2
+numberOf NestResponse = 3
+numberOf Nibe = 4
+numberOf Homiq = 5
+
+-- the layout of a kind's frames
+abbrev pub layoutOf : Kind → Layout
+layoutOf Nikobus = nikobuses.nikobus
+layoutOf NestCommand = nests.nest Command
+layoutOf NestResponse = nests.nest Response
+layoutOf Nibe = nibes.nibe
+layoutOf Homiq = homiqs.homiq
+
+-- the numbers that a caller may ask for: "kind not 1 to 5" is refused
+abbrev pub knownKinds : List ℕ
+knownKinds = 1 ∷ 2 ∷ 3 ∷ 4 ∷ 5 ∷ []
+
 unfoldable pub known : ℕ → Bool
-known k = leb 1 k && leb k 5
+known k = oneOf knownKinds k
 
--- f is a frame of kind k
-pub data Frame : ℕ → List ℕ → Type 0 where
-  nikobus : {f : List ℕ} → layout.Frame nikobuses.nikobus f → Frame 1 f
-  command : {f : List ℕ} → layout.Frame (nests.nest Command) f → Frame 2 f
-  response : {f : List ℕ} → layout.Frame (nests.nest Response) f → Frame 3 f
-  nibe : {f : List ℕ} → layout.Frame nibes.nibe f → Frame 4 f
-  homiq : {f : List ℕ} → layout.Frame homiqs.homiq f → Frame 5 f
+-- 01, "Refusal numbers": 2 "kind not 1 to 5"
+pub data KindCause (k : ℕ) : ℕ → Type 0 where
+  no-kind : known k ≡ false → KindCause k 2
+
+-- the refusal number and the value of what a number is resolved to: its kind has that number
+abbrev pub resolvedNumber : Resolved → ℕ
+resolvedNumber (Is kind) = 0
+resolvedNumber Unknown = 2
+
+abbrev pub resolvedValue : Resolved → ℕ
+resolvedValue (Is kind) = numberOf kind
+resolvedValue Unknown = 0
+
+-- r is the right answer
+abbrev pub Resolves : ℕ → Resolved → Type 0
+Resolves k r = Answers 0 (KindCause k) (λ v. v ≡ k) (resolvedNumber r) (resolvedValue r)
+
+-- f is a frame of the kind with the number k
+pub record Frame (k : ℕ) (f : List ℕ) : Type 0 where
+  pub kind : Kind
+  pub number : numberOf kind ≡ k
+  pub frame : layout.Frame (layoutOf kind) f
 
 -- where its payload begins and ends in it
 abbrev pub payloadFrom : {k : ℕ} {f : List ℕ} → Frame k f → ℕ
-payloadFrom (nikobus r) = layout.payloadFrom nikobuses.nikobus (r .form .fields)
-payloadFrom (command r) = layout.payloadFrom (nests.nest Command) (r .form .fields)
-payloadFrom (response r) = layout.payloadFrom (nests.nest Response) (r .form .fields)
-payloadFrom (nibe r) = layout.payloadFrom nibes.nibe (r .form .fields)
-payloadFrom (homiq r) = layout.payloadFrom homiqs.homiq (r .form .fields)
+payloadFrom r = layout.payloadFrom (layoutOf (r .kind)) (r .frame .form .fields)
 
 abbrev pub payloadTo : {k : ℕ} {f : List ℕ} → Frame k f → ℕ
-payloadTo (nikobus r) = layout.payloadTo nikobuses.nikobus (r .form .fields)
-payloadTo (command r) = layout.payloadTo (nests.nest Command) (r .form .fields)
-payloadTo (response r) = layout.payloadTo (nests.nest Response) (r .form .fields)
-payloadTo (nibe r) = layout.payloadTo nibes.nibe (r .form .fields)
-payloadTo (homiq r) = layout.payloadTo homiqs.homiq (r .form .fields)
+payloadTo r = layout.payloadTo (layoutOf (r .kind)) (r .frame .form .fields)

@@ -1,45 +1,72 @@
--- The recognisers of the five kinds as one.
+-- The recognisers of the kinds, a line a kind, and what they find at a place of a buffer.
 -- Assumes nothing.
-use mathlib.Core.Bool.{Bool, _&&_, _||_, cond}
+use mathlib.Core.Bool.{Bool}
 use mathlib.Core.List.{List}
-use Prim.Native.Nat.{ℕ, zero, suc, _/_}
-use lib.Dec.{eqb, leb}
-use lib.ListN.{take}
+use mathlib.Core.Path.{_≡_}
+use Prim.Native.Nat.{ℕ, zero, suc}
+use lib.ListN.{take, drop}
 use Rattle.layouts.specs.Paper.Nest.{preamble}
-use Rattle.layouts.specs.Work.Homiq.{homiqLen, homiqFrom, homiqTo}
-use Rattle.layouts.specs.Work.Nest.{nestLen, nestFrom, nestTo}
-use Rattle.layouts.specs.Work.Nibe.{nibeLen, nibeFrom, nibeTo}
-use Rattle.layouts.specs.Work.Nikobus.{nikobusLen, nikobusFrom, nikobusTo}
+use Rattle.layouts.specs.Paper.Starts.{nikobusStarts, nestStarts, nibeStarts, homiqStarts}
+use Rattle.layouts.specs.Work.Heads.{passing}
+use Rattle.layouts.specs.Work.Homiq.{homiqFormLen, homiqPasses, homiqFrom, homiqTo}
+use Rattle.layouts.specs.Work.Nest.{nestFormLen, nestPasses, nestFrom, nestTo}
+use Rattle.layouts.specs.Work.Nibe.{nibeFormLen, nibePasses, nibeFrom, nibeTo}
+use Rattle.layouts.specs.Work.Nikobus.{nikobusFormLen, nikobusPasses, nikobusFrom, nikobusTo}
+use Rattle.layouts.specs.declared.nest.Direction.{Direction}
 use Rattle.layouts.specs.declared.nest.Direction.the-variants.{Command, Response}
+use Rattle.frames.specs.declared.kinds.Kind.{Kind}
+use Rattle.frames.specs.declared.kinds.Kind.the-variants.{Nikobus, NestCommand, NestResponse, Nibe, Homiq}
 
--- the one of five that is a kind's
-abbrev pub byKind : {A : Type 0} → ℕ → A → A → A → A → A → A
-byKind k a b c d e = cond (eqb k 1) a (cond (eqb k 2) b (cond (eqb k 3) c (cond (eqb k 4) d e)))
+-- how long what stands at the head of a list is, 0 for none; whether its check values are right; and where its payload begins and ends
+pub record Recogniser : Type 0 where
+  pub form : List ℕ → ℕ
+  pub test : List ℕ → Bool
+  pub from : List ℕ → ℕ
+  pub to : List ℕ → ℕ
+  pub starts : List ℕ → Bool
 
--- the length of the frame of a known kind at the head of s, 0 for none
-unfoldable pub frameLen : ℕ → List ℕ → ℕ
-frameLen k s = byKind k (nikobusLen s) (nestLen (preamble Command) s) (nestLen (preamble Response) s) (nibeLen s) (homiqLen s)
+abbrev nestRecogniser : Direction → Recogniser
+nestRecogniser d =
+    record {
+      form = nestFormLen (preamble d);
+      test = nestPasses (preamble d);
+      from = nestFrom (preamble d);
+      to = nestTo (preamble d);
+      starts = nestStarts d;
+    }
 
--- where the payload of a frame begins and ends
-unfoldable pub fromOf : ℕ → List ℕ → ℕ
-fromOf k w = byKind k (nikobusFrom w) (nestFrom (preamble Command) w) (nestFrom (preamble Response) w) (nibeFrom w) (homiqFrom w)
+abbrev pub recogniser : Kind → Recogniser
+recogniser Nikobus = record { form = nikobusFormLen; test = nikobusPasses; from = nikobusFrom; to = nikobusTo; starts = nikobusStarts }
+recogniser NestCommand = nestRecogniser Command
+recogniser NestResponse = nestRecogniser Response
+recogniser Nibe = record { form = nibeFormLen; test = nibePasses; from = nibeFrom; to = nibeTo; starts = nibeStarts }
+recogniser Homiq = record { form = homiqFormLen; test = homiqPasses; from = homiqFrom; to = homiqTo; starts = homiqStarts }
 
-unfoldable pub toOf : ℕ → List ℕ → ℕ
-toOf k w = byKind k (nikobusTo w) (nestTo (preamble Command) w) (nestTo (preamble Response) w) (nibeTo w) (homiqTo w)
+-- the length of the frame at the head of s, 0 for none
+abbrev pub frameLen : Kind → List ℕ → ℕ
+frameLen kind s = passing (recogniser kind .form) (recogniser kind .test) s
 
 -- a value where there is a frame of n bytes, 0 where there is none
 abbrev pub wherever : ℕ → ℕ → ℕ
 wherever zero x = 0
 wherever (suc n) x = x
 
-unfoldable pub headFrom : ℕ → List ℕ → ℕ
-headFrom k s = wherever (frameLen k s) (fromOf k (take (frameLen k s) s))
+-- the length of the frame at the place i of the buffer s, and the places in it where its payload begins and ends; zeros for none
+unfoldable pub lenAt : Kind → List ℕ → ℕ → ℕ
+lenAt kind s i = frameLen kind (drop i s)
 
-unfoldable pub headTo : ℕ → List ℕ → ℕ
-headTo k s = wherever (frameLen k s) (toOf k (take (frameLen k s) s))
+unfoldable pub fromAt : Kind → List ℕ → ℕ → ℕ
+fromAt kind s i = wherever (lenAt kind s i) (recogniser kind .from (take (lenAt kind s i) (drop i s)))
 
--- what the first three bytes of a frame can be
-unfoldable pub mayStart : ℕ → ℕ → ℕ → ℕ → Bool
-mayStart k a b c =
-    byKind k ((eqb a 36 || eqb a 35) && leb 48 b) (eqb a 0xD5 && (eqb b 0xAA && eqb c 0x96)) (eqb a 0xD5 && (eqb b 0xD5 && eqb c 0xAA))
-    (eqb a 0xC0 && eqb (b / 16) 6) (eqb a 60 && eqb b 59)
+unfoldable pub toAt : Kind → List ℕ → ℕ → ℕ
+toAt kind s i = wherever (lenAt kind s i) (recogniser kind .to (take (lenAt kind s i) (drop i s)))
+
+-- whether a frame can begin at the place i of s
+unfoldable pub mayStart : Kind → List ℕ → ℕ → Bool
+mayStart kind s i = recogniser kind .starts (drop i s)
+
+-- what is answered of the place i of s: the three numbers
+pub record Spotted (kind : Kind) (s : List ℕ) (i n from to : ℕ) : Type 0 where
+  pub len-is : n ≡ lenAt kind s i
+  pub from-is : from ≡ fromAt kind s i
+  pub to-is : to ≡ toAt kind s i

@@ -44,7 +44,7 @@ place-in (y ∷ l) c h = go (eqb c y) refl (λ k. place-in l c k) h
     go false e f k = let p = f k in record { place = suc (p .place); inside = omega (arith, p .inside); there = p .there }
 
 -- a digit is the digit of its place
-pub digit-place : (c : ℕ) → T (isHex c) → hexDigit (placeOf c) ≡ c
+digit-place : (c : ℕ) → T (isHex c) → hexDigit (placeOf c) ≡ c
 unfolding isHex hexDigit
 digit-place c h =
     let p = place-in (ascii "0123456789ABCDEF") c h in

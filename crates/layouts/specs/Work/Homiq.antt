@@ -13,7 +13,7 @@ use Rattle.checks.specs.Paper.Buses.{homiqCrc}
 use Rattle.checks.specs.Paper.Check.{check}
 use Rattle.layouts.specs.Paper.Chars.{CR, LF}
 use Rattle.layouts.specs.Paper.Homiq.{fieldChar, firstId, lastId, kept}
-use Rattle.layouts.specs.Work.Heads.{onlyIf, wordLen, leading, andThen, orElse, passing}
+use Rattle.layouts.specs.Work.Heads.{onlyIf, wordLen, leading, andThen, orElse}
 
 -- a field of at most so many characters, and `;`
 unfoldable pub fieldLen : ℕ → List ℕ → ℕ
@@ -45,6 +45,11 @@ headLen =
     andThen (andThen (andThen (andThen (andThen (andThen (wordLen (ascii "<;"))
     (λ _. fieldLen 8)) (λ _. fieldLen 16)) (λ _. fieldLen 4)) (λ _. fieldLen 4)) (λ _. numberLen firstId lastId)) (λ _. typeLen)
 
+-- CMD `;` VAL `;` SRC `;` DST `;` ID `;`: a payload but for its last character
+unfoldable pub fiveLen : List ℕ → ℕ
+fiveLen =
+    andThen (andThen (andThen (andThen (fieldLen 8) (λ _. fieldLen 16)) (λ _. fieldLen 4)) (λ _. fieldLen 4)) (λ _. numberLen firstId lastId)
+
 -- .. CRC `;` `>` CR LF
 unfoldable pub homiqFormLen : List ℕ → ℕ
 homiqFormLen = andThen (andThen headLen (λ _. numberLen 0 255)) (λ _. wordLen (ascii ">" ++ (CR ∷ LF ∷ [])))
@@ -52,9 +57,6 @@ homiqFormLen = andThen (andThen headLen (λ _. numberLen 0 255)) (λ _. wordLen 
 -- the number behind TYPE is the CRC of what stands from CMD to there, the separators left out
 unfoldable pub homiqPasses : List ℕ → Bool
 homiqPasses w = eqb (numberIn (drop (headLen w) w)) (check homiqCrc (kept (part 2 (headLen w) w)))
-
-unfoldable pub homiqLen : List ℕ → ℕ
-homiqLen = passing homiqFormLen homiqPasses
 
 -- where the payload of what is laid out so begins and ends
 abbrev pub homiqFrom : List ℕ → ℕ

@@ -8,7 +8,7 @@ use lib.ListN.{length, getD, take, drop}
 use Rattle.digits.specs.Paper.LowFirst.{lowFirst}
 use Rattle.checks.specs.Paper.Buses.{nestCrc}
 use Rattle.checks.specs.Paper.Check.{check}
-use Rattle.layouts.specs.Work.Heads.{onlyIf, starts, wordLen, bytesLen, andThen, passing}
+use Rattle.layouts.specs.Work.Heads.{onlyIf, starts, wordLen, bytesLen, andThen}
 
 -- the payload's length, behind the preamble
 abbrev pub payloadLen : List ℕ → ℕ
@@ -28,9 +28,6 @@ crcPasses u = starts (lowFirst 2 (check nestCrc (take (length u - 2) u))) (drop 
 
 unfoldable pub nestPasses : List ℕ → List ℕ → Bool
 nestPasses mark w = crcPasses (drop (length mark) w)
-
-unfoldable pub nestLen : List ℕ → List ℕ → ℕ
-nestLen mark = passing (nestFormLen mark) (nestPasses mark)
 
 -- where the payload of what is laid out so begins and ends
 abbrev pub nestFrom : List ℕ → List ℕ → ℕ

@@ -10,7 +10,7 @@ use Rattle.checks.specs.Paper.Buses.{nibeXor}
 use Rattle.checks.specs.Paper.Check.{check}
 use Rattle.layouts.specs.Paper.Chars.{oneOf}
 use Rattle.layouts.specs.Paper.Nibe.{commands}
-use Rattle.layouts.specs.Work.Heads.{onlyIf, bytesLen, passing}
+use Rattle.layouts.specs.Work.Heads.{onlyIf, bytesLen}
 
 -- C0, command, length, as many bytes as that, one byte more
 unfoldable pub nibeFormLen : List ℕ → ℕ
@@ -22,9 +22,6 @@ nibeFormLen s =
 -- the last byte is the XOR of the length and the data
 unfoldable pub nibePasses : List ℕ → Bool
 nibePasses w = eqb (getD w (length w - 1) 0) (check nibeXor (part 2 (length w - 1) w))
-
-unfoldable pub nibeLen : List ℕ → ℕ
-nibeLen = passing nibeFormLen nibePasses
 
 -- where the payload of what is laid out so begins and ends
 abbrev pub nibeFrom : List ℕ → ℕ

@@ -68,9 +68,6 @@ linkLen = passing linkFormLen (λ w. passes16 w && passes8 w)
 unfoldable pub nikobusPasses : List ℕ → Bool
 nikobusPasses w = cond (starts (ascii "$") w) (passes16 w && passes8 w) true
 
-unfoldable pub nikobusLen : List ℕ → ℕ
-nikobusLen = passing nikobusFormLen nikobusPasses
-
 -- where the payload of what is laid out so begins and ends
 unfoldable pub nikobusFrom : List ℕ → ℕ
 nikobusFrom w = cond (starts (ascii "$") w) 3 (cond (starts (ascii "#N") w) 2 4)

@@ -1,4 +1,4 @@
--- The line of what a search finds, and of one frame.
+-- The line of a message, of one frame, and of what a search finds.
 -- Assumes nothing.
 use mathlib.Core.Path.{_≡_, refl, sym, ap, _∙_, subst}
 use mathlib.Core.List.{List}
@@ -15,7 +15,9 @@ use Rattle.frames.specs.Paper.Search.{Searches}
 use Rattle.frames.specs.declared.Found.{Found}
 use Rattle.frames.specs.declared.Found.the-variants.{At as Hit, Refused as NoHit}
 use Rattle.messages.specs.Paper.Answers.{Said, Finds}
+use Rattle.messages.specs.Paper.Message.{Message}
 use Rattle.messages.specs.Paper.Says.{Says}
+use Rattle.messages.specs.Paper.Table.{Good}
 use Rattle.messages.specs.declared.Message.{Message as Coded}
 use Rattle.messages.specs.declared.Seen.{Seen}
 use Rattle.messages.specs.declared.Seen.the-variants.{At as SeenAt, Refused as Unseen}
@@ -23,26 +25,24 @@ use Rattle.messages.proofs.Laws.Cases.{search-in, found-in, search-refused}
 use Rattle.messages.proofs.Laws.Decode.{inside}
 use Rattle.messages.proofs.Laws.Find.{in-buffer, behind-start, payloaded}
 use Rattle.messages.proofs.Theorems.{beside}
-use Rattle.lines.specs.Paper.Answers.{LineOf, PutsLine, PutsNext}
+use Rattle.lines.specs.Paper.Answers.{LineOf, LineSaid, PutsLine, PutsNext}
 use Rattle.lines.specs.Work.Put.{put}
 use Rattle.lines.specs.declared.Listed.the-variants.{At, Refused}
 use Rattle.lines.proofs.Laws.Said.{put-said}
 
--- what the code puts of a message that is said of a frame is the line of the frame
+-- what the code puts of a message that is said is the message's line
+pub line-of-message : {e : Coded} {s : List ℕ} {at len : ℕ} {m : Message} → Good m → Says e s m → LineSaid e s at len (put e s at len)
+line-of-message {e} {s} {at} {len} {m} g x = record { message = m; good = g; says = x; is = put-said e s at len m (g .limits) x }
+
+-- what stands beside the message of a frame says it
+pub beside-says : {k : ℕ} {f : List ℕ} {e : Coded} {from to : ℕ} {c : List ℕ} (x : Said k f e from to) → c ≡ part from to f → Says e c (x .message)
+beside-says {e = e} x same = subst (λ (p : List ℕ). Says e p (x .message)) (sym (same ∙ beside x)) (x .says)
+
+-- so what the code puts of it is the line of the frame
 pub line-of-said : {k : ℕ} {f : List ℕ} {e : Coded} {from to : ℕ} (place : ℕ) (c : List ℕ) → Said k f e from to → c ≡ part from to f
     → LineOf k f place (put e c place (length f))
-line-of-said {k} {f} {e} place c x same =
-    let m = x .message in
-    record {
-      message = m;
-      stands = x .stands;
-      is = put-said e c place (length f) m (x .stands .good .limits) (subst (λ (p : List ℕ). Says e p m) (sym (same ∙ beside x)) (x .says));
-    }
-
-pub tested-line : {k : ℕ} {f : List ℕ} {e : Coded} {from to place : ℕ} {room later : List ℕ} {there behind : ℕ} → Said k f e from to
-    → Put room later there behind (put e (part from to f) place (length f)) → PutsLine k f place room later there behind
-tested-line {f = f} {e = e} {from = from} {to = to} {place = place} s p =
-    record { text = put e (part from to f) place (length f); right = line-of-said place (part from to f) s refl; put = p }
+line-of-said {f = f} {e = e} place c x same =
+    record { message = x .message; stands = x .stands; is = put-said e c place (length f) (x .message) (x .stands .good .limits) (beside-says x same) }
 
 -- ---- what is next, case by case
 

@@ -5,10 +5,12 @@ use mathlib.Core.List.{List, [], _∷_, _++_}
 use mathlib.Core.Path.{_≡_, refl, sym, ap, ap₂, _∙_, subst}
 use Prim.Native.Nat.{ℕ}
 use lib.ListN.{length}
+use Rattle.frames.specs.Paper.Kinds.{numberOf}
 use Rattle.digits.specs.Paper.Ascii.{ascii}
 use Rattle.messages.specs.Paper.Message.{Message, name}
-use Rattle.messages.specs.Paper.Fields.{kindOf}
-use Rattle.messages.specs.Paper.Table.{fields, bytes, Limits}
+use Rattle.messages.specs.Paper.Content.{kindOf}
+use Rattle.messages.specs.Paper.Table.{contentOf, bytes, Limits}
+use Rattle.messages.proofs.Theorems.{stands-bytes, stands-kind}
 use Rattle.json.specs.Paper.Json.{Member, _∶_, further, number, quoted}
 use Rattle.json.proofs.Laws.Tokens.{number-token, quoted-token, next-member, first-member}
 use Rattle.lines.specs.Paper.Answers.{LineOf}
@@ -66,7 +68,9 @@ pub same-frame : {k j : ℕ} {f g : List ℕ} {at there : ℕ} {t : List ℕ} �
 same-frame {at} {there} a b =
     let m = a .message in
     let n = b .message in
-    let x = ap (λ (s : List ℕ). line at (length s) m) (a .stands .frame) in
-    let y = ap (λ (s : List ℕ). line there (length s) n) (b .stands .frame) in
+    let f = stands-bytes (a .stands) in
+    let g = stands-bytes (b .stands) in
+    let x = ap (λ (s : List ℕ). line at (length s) m) (sym f) in
+    let y = ap (λ (s : List ℕ). line there (length s) n) (sym g) in
     let r = one-line at there m n (a .stands .good .limits) (b .stands .good .limits) (x ∙ sym (a .is) ∙ b .is ∙ sym y) in
-    (r .0, sym (a .stands .kind) ∙ ap (λ (o : Message). kindOf (fields o)) (r .1) ∙ b .stands .kind, sym (a .stands .frame) ∙ ap bytes (r .1) ∙ b .stands .frame)
+    (r .0, sym (stands-kind (a .stands)) ∙ ap (λ (o : Message). numberOf (kindOf (contentOf o))) (r .1) ∙ stands-kind (b .stands), f ∙ ap bytes (r .1) ∙ sym g)

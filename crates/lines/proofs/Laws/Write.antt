@@ -3,7 +3,7 @@
 use mathlib.Core.Path.{_≡_, refl, sym, ap, _∙_, subst}
 use mathlib.Core.Bool.{Bool, true, false, _||_, true≢false}
 use mathlib.Core.List.{List, _∷_}
-use Prim.Native.Nat.{ℕ, _^_, _≤_, _<_}
+use Prim.Native.Nat.{ℕ, _≤_, _<_}
 use native.Mathlib.Omega.{arith}
 use lib.Dec.{eqb}
 use lib.ListN.{length}
@@ -11,62 +11,46 @@ use Rattle.digits.specs.Paper.Bytes.{part}
 use Rattle.digits.specs.Paper.Refusals.{order, First, clear, here, after}
 use Rattle.digits.specs.declared.refusal.Refusal.{Refusal}
 use Rattle.digits.proofs.Laws.Refusals.{cause-at, cause-of, pass-over, some-number}
-use Rattle.layouts.specs.Paper.Layout as layout
-use Rattle.layouts.specs.Paper.Homiq as homiqs
-use Rattle.layouts.specs.Paper.Nest as nests
-use Rattle.layouts.specs.Paper.Nibe as nibes
-use Rattle.layouts.specs.Paper.Nikobus as nikobuses
-use Rattle.layouts.specs.declared.nest.Direction.the-variants.{Command, Response}
-use Rattle.frames.specs.Paper.Kinds.{Frame}
+use Rattle.frames.specs.Paper.Kinds.{layoutOf, Frame}
 use Rattle.frames.proofs.Laws.Kinds.{frame-known, laid-holds}
 use Rattle.messages.specs.Paper.Answers.{DecodeCause, Said, Decodes}
 use Rattle.messages.specs.Paper.Answers as decoding
-use Rattle.messages.specs.Paper.Fields.{Fields, onNikobus, asCommand, asResponse, onNibe, onHomiq, laid, payloadFrom, payloadTo}
-use Rattle.messages.specs.Paper.Table.{fields}
+use Rattle.messages.specs.Paper.Content.{Content, kindOf, made, laid, payloadFrom, payloadTo}
+use Rattle.messages.specs.Paper.Table.{contentOf}
 use Rattle.messages.specs.declared.Decoded.{Decoded}
 use Rattle.messages.specs.declared.Decoded.the-variants.{Is, Refused}
 use Rattle.messages.specs.declared.Message.{Message as Coded}
 use Rattle.messages.proofs.Laws.Cases.{said-in}
 use Rattle.messages.proofs.Laws.Decode.{is-frame}
-use Rattle.messages.proofs.Theorems.{has-message, one-message-of}
+use Rattle.messages.proofs.Theorems.{has-message, one-message-of, stands-bytes}
 use Rattle.puts.specs.Paper.Put.{last}
-use Rattle.puts.specs.Paper.Wrote.{RoomCause, Writes}
 use Rattle.puts.specs.Paper.Right as right
 use Rattle.puts.specs.declared.Written.{Written}
 use Rattle.puts.specs.declared.Written.the-variants.{Refused as Unwritten}
 use Rattle.puts.proofs.Laws.Right.{fronted-right}
 use Rattle.lines.specs.Paper.Answers.{LineOf, LineCause, no-kind, no-frame, short, WritesLine}
 use Rattle.lines.specs.Paper.Line.{line}
-use Rattle.lines.specs.Work.Put.{put}
-use Rattle.lines.proofs.Laws.Next.{line-of-said}
-use Rattle.lines.proofs.Laws.Sizes.{bytes-most, line-room}
+use Rattle.lines.specs.Work.Put.{put, Bounded, AllOrNone}
+use Rattle.lines.proofs.Laws.Next.{line-of-message, beside-says, line-of-said}
+use Rattle.lines.proofs.Laws.Placed.{at-front}
+use Rattle.lines.proofs.Laws.Sizes.{line-bounded}
 
 -- ---- the payload lies inside the frame
 
-fields-inside : (x : Fields) → (payloadFrom x ≤ payloadTo x) × (payloadTo x ≤ length (laid x))
-fields-inside (onNikobus m) = laid-holds nikobuses.nikobus m
-fields-inside (asCommand m) = laid-holds (nests.nest Command) m
-fields-inside (asResponse m) = laid-holds (nests.nest Response) m
-fields-inside (onNibe m) = laid-holds nibes.nibe m
-fields-inside (onHomiq m) = laid-holds homiqs.homiq m
+content-inside : (c : Content) → (payloadFrom c ≤ payloadTo c) × (payloadTo c ≤ length (laid c))
+content-inside c = laid-holds (layoutOf (kindOf c)) (made c)
 
 said-inside : {k : ℕ} {f : List ℕ} {e : Coded} {from to : ℕ} → Said k f e from to → (from ≤ to) × (to ≤ length f)
 said-inside {f = f} x =
-    let i = fields-inside (fields (x .message)) in
-    let n : length (laid (fields (x .message))) ≡ length f = ap length (x .stands .frame) in
+    let i = content-inside (contentOf (x .message)) in
+    let n : length (laid (contentOf (x .message))) ≡ length f = ap length (sym (stands-bytes (x .stands))) in
     (omega (arith, i, x .from-is, x .to-is), omega (arith, i, n, x .to-is))
 
--- ---- a frame has one line, and it is not long
+-- ---- a frame has one line
 
 pub one-line : {k : ℕ} {f : List ℕ} {place : ℕ} (s t : List ℕ) → LineOf k f place s → LineOf k f place t → s ≡ t
 one-line {f = f} {place = place} s t a b =
     a .is ∙ ap (line place (length f)) (one-message-of (a .message) (b .message) (a .stands) (b .stands)) ∙ sym (b .is)
-
-line-short : {k : ℕ} {f t : List ℕ} {place : ℕ} → place ≤ last → LineOf k f place t → length t ≤ last
-line-short {f = f} {place = place} h l =
-    let n : length f ≤ 1034 = subst (λ (s : List ℕ). length s ≤ 1034) (l .stands .frame) (bytes-most (l .message) (l .stands .good .limits)) in
-    let few : place < 10 ^ 20 = omega arith in
-    omega (arith, line-room few l)
 
 -- ---- the causes
 
@@ -122,13 +106,12 @@ module _ {k : ℕ} {f : List ℕ} (r : Decoded) (a : Decodes k f r) where
     the-line : (place : ℕ) → LineOf k f place (put e (part from to f) place (length f))
     the-line place = line-of-said place (part from to f) (said-in decoded) refl
 
-    pub put-short : (place : ℕ) → place ≤ last → length (put e (part from to f) place (length f)) ≤ last
-    put-short place h = line-short h (the-line place)
+    pub put-bounded : (place : ℕ) → place ≤ last → length f ≤ last → Bounded (put e (part from to f) place (length f)) (length (part from to f))
+    put-bounded place h k = let x = said-in decoded in line-bounded h k (line-of-message (x .stands .good) (beside-says x refl))
 
     pub written : (place : ℕ) (room later : List ℕ) (w : Written)
-        → Writes (RoomCause (length room) (length (put e (part from to f) place (length f)))) (put e (part from to f) place (length f)) room w later
-        → WritesLine k f place room w later
-    written place room later w p = fronted-right w (the-line place) (enough (the-line place)) (too-few (the-line place)) p
+        → AllOrNone (put e (part from to f) place (length f)) room 0 w later → WritesLine k f place room w later
+    written place room later w p = fronted-right w (the-line place) (enough (the-line place)) (too-few (the-line place)) (at-front p)
 
   pub not-written : {why : Refusal} (place : ℕ) (room : List ℕ) → r ≡ Refused why → WritesLine k f place room (Unwritten why) room
   not-written {why} place room q =

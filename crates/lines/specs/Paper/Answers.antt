@@ -1,18 +1,23 @@
--- The promises: the line of a frame, and the next line of a capture.
+-- The promises: the line of a frame, the line of a message, and the next line of a capture.
 -- Assumes nothing.
 use mathlib.Core.Bool.{false}
 use mathlib.Core.List.{List}
 use mathlib.Core.Path.{_≡_}
-use Prim.Native.Nat.{ℕ, _+_, _<_}
+use Prim.Native.Nat.{ℕ, _+_, _-_, _<_}
 use lib.ListN.{length}
+use lib.Seq.{sets}
 use Rattle.digits.specs.Paper.Bytes.{part}
 use Rattle.digits.specs.Paper.Refusals.{refusalNumber, Answers}
 use Rattle.puts.specs.Paper.Right.{WritesRight, PutsRight}
+use Rattle.puts.specs.Paper.Wrote.{writtenRefusal, writtenCount}
 use Rattle.puts.specs.declared.Written.{Written}
 use Rattle.frames.specs.Paper.Kinds.{known, Frame}
 use Rattle.frames.specs.Paper.Search.{Leftmost, SearchCause}
 use Rattle.messages.specs.Paper.Message.{Message}
 use Rattle.messages.specs.Paper.Answers.{Stands}
+use Rattle.messages.specs.Paper.Says.{Says}
+use Rattle.messages.specs.Paper.Table.{Good}
+use Rattle.messages.specs.declared.Message.{Message as Coded}
 use Rattle.lines.specs.Paper.Line.{line}
 use Rattle.lines.specs.declared.Listed.{Listed}
 use Rattle.lines.specs.declared.Listed.the-variants.{At, Refused}
@@ -35,13 +40,37 @@ pub data LineCause (k : ℕ) (f : List ℕ) (at room : ℕ) : ℕ → Type 0 whe
 abbrev pub WritesLine : ℕ → List ℕ → ℕ → List ℕ → Written → List ℕ → Type 0
 WritesLine k f at room r later = WritesRight (LineCause k f at (length room)) (LineOf k f at) room r later
 
--- ---- tested
+-- ---- of
+
+-- t is the line of the message of the table that e says with s beside it; its place and its length are as they are given
+pub record LineSaid (e : Coded) (s : List ℕ) (at len : ℕ) (t : List ℕ) : Type 0 where
+  pub message : Message
+  pub good : Good message
+  pub says : Says e s message
+  pub is : t ≡ line at len message
+
+-- 5 "a field .. outside its limits": no message of the table is said; 4 "lent room too short for the answer", where so much of it is left
+pub data SaidCause (e : Coded) (s : List ℕ) (at len left : ℕ) : ℕ → Type 0 where
+  no-message : ((m : Message) → Good m → Says e s m → ⊥) → SaidCause e s at len left 5
+  short : {t : List ℕ} → LineSaid e s at len t → left < length t → SaidCause e s at len left 4
+
+-- the right size, and the right room afterwards: the line stands at the place `to`, and every other byte is as it was
+pub record PutSaid (e : Coded) (s : List ℕ) (at len : ℕ) (room : List ℕ) (to size : ℕ) (later : List ℕ) : Type 0 where
+  pub text : List ℕ
+  pub line : LineSaid e s at len text
+  pub size-is : size ≡ length text
+  pub room-is : later ≡ sets room to text
+
+-- r is the right answer, and `later` the right room afterwards; of a place beyond the room nothing is left
+abbrev pub WritesSaid : Coded → List ℕ → ℕ → ℕ → List ℕ → ℕ → Written → List ℕ → Type 0
+WritesSaid e s at len room to r later =
+    Answers {A = ℕ × List ℕ} (0, room) (SaidCause e s at len (length room - to)) (λ v. PutSaid e s at len room to (v .0) (v .1)) (writtenRefusal r) (writtenCount r, later)
+
+-- ---- next
 
 -- the line of f is put at a place of a lent room, and `behind` is the place behind it
 abbrev pub PutsLine : ℕ → List ℕ → ℕ → List ℕ → List ℕ → ℕ → ℕ → Type 0
 PutsLine k f at room later place behind = PutsRight (LineOf k f at) room later place behind
-
--- ---- next
 
 -- the refusal number and the values of an answer: the start and the length of the frame, and the place behind its line
 pub record Placed : Type 0 where

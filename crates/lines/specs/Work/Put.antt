@@ -2,11 +2,13 @@
 -- Assumes nothing.
 use mathlib.Core.Bool.{cond}
 use mathlib.Core.List.{List, [], _∷_, _++_}
-use Prim.Native.Nat.{ℕ}
+use Prim.Native.Nat.{ℕ, _+_, _-_, _*_, _≤_, _<_}
 use lib.Dec.{ltb}
 use lib.IntN.{pos}
 use lib.ListN.{length}
+use lib.Seq.{sets}
 use Rattle.digits.specs.Paper.Ascii.{ascii}
+use Rattle.digits.specs.declared.refusal.Refusal.the-variants.{Room}
 use Rattle.json.specs.Paper.Json.{Member, _∶_, member, number, hex, chars, quoted, reading}
 use Rattle.messages.specs.Paper.Homiq.{fieldAt}
 use Rattle.messages.specs.Paper.Message.{Message, command, state, name}
@@ -21,6 +23,9 @@ use Rattle.messages.specs.declared.nest.Volts.{Volts}
 use Rattle.messages.specs.declared.nest.Volts.the-variants.{Are, Refused as NoVolts}
 use Rattle.messages.specs.declared.nikobus.Nikobus.{Nikobus}
 use Rattle.messages.specs.declared.nikobus.Nikobus.the-variants.{Read, Set, Answer, Press, Tail, Link}
+use Rattle.puts.specs.Paper.Put.{last}
+use Rattle.puts.specs.declared.Written.{Written}
+use Rattle.puts.specs.declared.Written.the-variants.{Bytes, Refused}
 use Rattle.lines.specs.Paper.Line.{members}
 
 -- members, each behind a `,`
@@ -92,3 +97,18 @@ restOf (OnHomiq e) s = homiqName e ++ commaed (fieldMembers s)
 unfoldable pub put : Coded → List ℕ → ℕ → ℕ → List ℕ
 put e s at len =
     ascii "{\"at\":" ++ (number at ++ (ascii ",\"len\":" ++ (number len ++ (ascii ",\"msg\":\"" ++ (restOf e s ++ ascii "}\n")))))
+
+-- no line is longer than this, where so many bytes stand beside its message
+abbrev pub mostBeside : ℕ → ℕ
+mostBeside n = 8 * n + 352
+
+-- a line is no longer than that, and a place can say where it ends
+pub record Bounded (t : List ℕ) (beside : ℕ) : Type 0 where
+  pub most : length t ≤ mostBeside beside
+  pub short : length t ≤ last
+
+-- r is the right answer, and `later` the right room afterwards, where all of bs is put at a place, or nothing where too little is left
+-- behind it
+pub data AllOrNone (bs room : List ℕ) (to : ℕ) : Written → List ℕ → Type 0 where
+  all : length bs ≤ length room - to → AllOrNone bs room to (Bytes (length bs)) (sets room to bs)
+  none : length room - to < length bs → AllOrNone bs room to (Refused Room) room

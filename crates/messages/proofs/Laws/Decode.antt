@@ -12,28 +12,23 @@ use Rattle.digits.proofs.Laws.Parts.{part-middle}
 use Rattle.digits.proofs.Laws.Refusals.{answered, cause-of, some-number}
 use Rattle.layouts.specs.Paper.Layout.{Layout, bytesOf}
 use Rattle.layouts.specs.Paper.Layout as layout
-use Rattle.layouts.specs.Paper.Homiq as homiqs
-use Rattle.layouts.specs.Paper.Nest as nests
-use Rattle.layouts.specs.Paper.Nibe as nibes
-use Rattle.layouts.specs.Paper.Nikobus as nikobuses
-use Rattle.layouts.specs.declared.nest.Direction.the-variants.{Command, Response}
-use Rattle.frames.specs.Paper.Kinds.{Frame}
+use Rattle.frames.specs.Paper.Kinds.{layoutOf, Frame}
 use Rattle.frames.specs.Paper.Whole as whole
 use Rattle.frames.specs.Paper.Whole.{WholeCause, TestsWhole}
 use Rattle.frames.specs.declared.Whole.{Whole}
 use Rattle.frames.specs.declared.Whole.the-variants.{Is as WholeIs, Refused as WholeRefused}
 use Rattle.frames.proofs.Laws.Kinds.{payload-inside}
 use Rattle.messages.specs.Paper.Answers.{Stands, DecodeCause, no-kind, no-message, Said, Contents}
-use Rattle.messages.specs.Paper.Fields.{Fields, onNikobus, asCommand, asResponse, onNibe, onHomiq, kindOf, laid, payloadIn, payloadFrom, payloadTo}
-use Rattle.messages.specs.Work.Fields.{Fit}
+use Rattle.messages.specs.Paper.Content.{Content, contentAt, kindOf, made, laid, payloadIn, payloadFrom, payloadTo}
+use Rattle.messages.specs.Work.Content.{Fit}
 use Rattle.messages.specs.Paper.Message.{Message}
 use Rattle.messages.specs.Paper.Says.{Says}
-use Rattle.messages.specs.Paper.Table.{fields}
+use Rattle.messages.specs.Paper.Table.{contentOf}
 use Rattle.messages.specs.Work.Answers.{Payloaded}
 use Rattle.messages.specs.Work.Look.{look}
 use Rattle.messages.specs.declared.Message.{Message as Coded}
-use Rattle.messages.proofs.Laws.Frames.{fields-in, ends-in, frame-of}
-use Rattle.messages.proofs.Laws.Table.{reads, fit, good}
+use Rattle.messages.proofs.Laws.Frames.{content-fit, content-bytes, content-places}
+use Rattle.messages.proofs.Laws.Table.{reads, good}
 
 -- ---- the first cause
 
@@ -45,21 +40,16 @@ first-same to back (k ∷ l) i (after n f) = after (λ c. n (back k c)) (first-s
 
 -- ---- a frame and its message
 
--- COVERAGE: what is found for a frame's fields stands in the table, and the frame is its bytes
-pub stands : (x : Fields) → Fit x → Stands (kindOf x) (laid x) (look x)
-stands x f = let e = reads x f .same in record { good = good x f; kind = ap kindOf e; frame = ap laid e }
+-- COVERAGE: a frame has a message, the one that is found for its content
+pub stands-in : {k : ℕ} {f : List ℕ} (r : Frame k f) → Stands k f (look (contentAt r))
+stands-in r = record { good = good (contentAt r) (content-fit r); frame = r; content = sym (reads (contentAt r) (content-fit r) .same) }
 
--- and the bytes of a message of the table are a frame
-pub is-frame : {k : ℕ} {f : List ℕ} {m : Message} → Stands k f m → Frame k f
-is-frame {k} {f} {m} s =
-    let r : Frame (kindOf (fields m)) (laid (fields m)) = frame-of (fields m) (fit m (s .good .limits)) in
-    subst (λ (i : ℕ). Frame i f) (s .kind) (subst (Frame (kindOf (fields m))) (s .frame) r)
-
--- so a frame has a message
 pub message-of : {k : ℕ} {f : List ℕ} → Frame k f → (m : Message) × Stands k f m
-message-of {k} {f} r =
-    let x = fields-in r in
-    (look (x .fields), subst (λ (i : ℕ). Stands i f (look (x .fields))) (x .kind) (subst (λ (g : List ℕ). Stands (kindOf (x .fields)) g (look (x .fields))) (x .same) (stands (x .fields) (x .fit))))
+message-of r = (look (contentAt r), stands-in r)
+
+-- and what a message stands in is a frame
+pub is-frame : {k : ℕ} {f : List ℕ} {m : Message} → Stands k f m → Frame k f
+is-frame s = s .frame
 
 module _ {k : ℕ} {f : List ℕ} where
   to-decode : (no : ℕ) → WholeCause k f no → DecodeCause k f no
@@ -83,46 +73,37 @@ part-of l m =
     ap (part (layout.payloadFrom l m) (layout.payloadTo l m)) (append-assoc (l .before m) (l .payload m) (l .behind m))
     ∙ part-middle (l .before m) (l .payload m) (l .behind m) (layout.payloadFrom l m) (layout.payloadTo l m) refl refl
 
-pub payload-part : (x : Fields) → part (payloadFrom x) (payloadTo x) (laid x) ≡ payloadIn x
-payload-part (onNikobus m) = part-of nikobuses.nikobus m
-payload-part (asCommand m) = part-of (nests.nest Command) m
-payload-part (asResponse m) = part-of (nests.nest Response) m
-payload-part (onNibe m) = part-of nibes.nibe m
-payload-part (onHomiq m) = part-of homiqs.homiq m
+pub payload-part : (c : Content) → part (payloadFrom c) (payloadTo c) (laid c) ≡ payloadIn c
+payload-part c = part-of (layoutOf (kindOf c)) (made c)
 
 -- ---- the answers
 
 module _ {k : ℕ} {f : List ℕ} where
   module _ {from to : ℕ} (o : Payloaded k f from to) where
-    abbrev its : Fields
-    its = fields-in (o .frame) .fields
+    abbrev its : Content
+    its = contentAt (o .frame)
 
     its-fit : Fit its
-    its-fit = fields-in (o .frame) .fit
+    its-fit = content-fit (o .frame)
 
     starts-at : from ≡ payloadFrom its
-    starts-at = o .from-is ∙ ends-in (o .frame) .0
+    starts-at = o .from-is ∙ content-places (o .frame) .0
 
     ends-at : to ≡ payloadTo its
-    ends-at = o .to-is ∙ ends-in (o .frame) .1
+    ends-at = o .to-is ∙ content-places (o .frame) .1
 
     pub the-part : part from to f ≡ payloadIn its
     the-part =
         ap (λ (i : ℕ). part i to f) starts-at ∙ ap (λ (i : ℕ). part (payloadFrom its) i f) ends-at
-        ∙ ap (part (payloadFrom its) (payloadTo its)) (sym (fields-in (o .frame) .same)) ∙ payload-part its
-
-    pub stands-there : Stands k f (look its)
-    stands-there =
-        let x = fields-in (o .frame) in
-        subst (λ (i : ℕ). Stands i f (look its)) (x .kind) (subst (λ (g : List ℕ). Stands (kindOf its) g (look its)) (x .same) (stands its its-fit))
+        ∙ ap (part (payloadFrom its) (payloadTo its)) (content-bytes (o .frame)) ∙ payload-part its
 
     -- the message that the code says with the payload beside it
     pub said-of : {e : Coded} → Says e (part from to f) (look its) → Said k f e from to
     said-of {e} s =
-        let same : fields (look its) ≡ its = reads its its-fit .same in
+        let same : contentOf (look its) ≡ its = reads its its-fit .same in
         record {
           message = look its;
-          stands = stands-there;
+          stands = stands-in (o .frame);
           says = subst (λ (p : List ℕ). Says e p (look its)) (the-part ∙ sym (ap payloadIn same)) s;
           from-is = starts-at ∙ sym (ap payloadFrom same);
           to-is = ends-at ∙ sym (ap payloadTo same);
@@ -131,8 +112,8 @@ module _ {k : ℕ} {f : List ℕ} where
     -- content: that part
     pub contents-part : First (WholeCause k f) order 0 → Contents k f (part from to f)
     contents-part c =
-        let same : fields (look its) ≡ its = reads its its-fit .same in
-        record { number = 0; answer = answers (first-decode c) (look its, stands-there, the-part ∙ sym (ap payloadIn same)) }
+        let same : contentOf (look its) ≡ its = reads its its-fit .same in
+        record { number = 0; answer = answers (first-decode c) (look its, stands-in (o .frame), the-part ∙ sym (ap payloadIn same)) }
 
   -- refused
   pub contents-nothing : (why : Refusal) → First (WholeCause k f) order (refusalNumber why) → Contents k f []

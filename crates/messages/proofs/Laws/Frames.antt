@@ -1,79 +1,139 @@
--- Frames and fields: every frame has fields, fields within their limits and with the right check values are a frame, and no two
--- have the same bytes.
+-- Frames and contents: every frame has a content within its limits, such a content makes a frame, and the same bytes have one content.
 -- Assumes nothing.
 use mathlib.Core.List.{List}
-use mathlib.Core.Path.{_≡_, refl, sym, ap}
+use mathlib.Core.Path.{_≡_, refl, sym, _∙_, ap, subst}
 use Prim.Native.Nat.{ℕ}
-use native.Mathlib.Omega.{arith}
+use Rattle.checks.specs.Paper.Buses.{nikobusCrc8}
+use Rattle.checks.specs.Paper.Check.{check}
+use Rattle.layouts.proofs.Laws.Made.{link-fit, nest-fit, nibe-fit, homiq-fit}
 use Rattle.layouts.proofs.Theorems.{one-nikobus, one-nest, one-nibe, one-homiq}
+use Rattle.layouts.specs.Paper.Layout.{bytesOf}
 use Rattle.layouts.specs.Paper.Layout as layout
+use Rattle.layouts.specs.Paper.Homiq as homiqs
+use Rattle.layouts.specs.Paper.Made.{linkOf, nestOf}
+use Rattle.layouts.specs.Paper.Nest as nests
+use Rattle.layouts.specs.Paper.Nibe as nibes
+use Rattle.layouts.specs.Paper.Nikobus as nikobuses
 use Rattle.layouts.specs.declared.nest.Direction.the-variants.{Command, Response}
-use Rattle.frames.specs.Paper.Kinds.{Frame, nikobus, command, response, nibe, homiq}
+use Rattle.frames.proofs.Laws.Kinds.{one-kind, as-frame}
+use Rattle.frames.specs.Paper.Kinds.{numberOf, layoutOf, Frame}
 use Rattle.frames.specs.Paper.Kinds as kinds
-use Rattle.messages.specs.Paper.Fields.{Fields, onNikobus, asCommand, asResponse, onNibe, onHomiq, kindOf, laid, payloadFrom, payloadTo}
-use Rattle.messages.specs.Work.Fields.{Passing, Fit}
+use Rattle.frames.specs.declared.kinds.Kind.{Kind}
+use Rattle.frames.specs.declared.kinds.Kind.the-variants.{Nikobus, NestCommand, NestResponse, Nibe, Homiq}
+use Rattle.messages.specs.Paper.Content.{Content, link, press, tail, command, response, nibe, homiq, wireOf, contentIn, contentAt, kindOf, made, laid, payloadIn, payloadFrom, payloadTo}
+use Rattle.messages.specs.Work.Content.{Fit}
 
--- the fields of a frame
-pub record FieldsIn (k : ℕ) (f : List ℕ) : Type 0 where
-  pub fields : Fields
-  pub fit : Fit fields
-  pub kind : kindOf fields ≡ k
-  pub same : laid fields ≡ f
+-- ---- a line a content
 
-abbrev passing : {l : layout.Layout} {f : List ℕ} (r : layout.Frame l f) → Passing l (r .form .fields)
-passing r = record { limits = r .form .limits; passes = r .passes }
+-- the check values of what is made are right
+pub made-passes : (c : Content) → layoutOf (kindOf c) .Passes (made c)
+made-passes (link p) = nikobuses.link-passes refl refl
+made-passes (press d) = nikobuses.press-passes
+made-passes tail = nikobuses.tail-passes
+made-passes (command i p) = refl
+made-passes (response i p) = refl
+made-passes (nibe c d) = refl
+made-passes (homiq w) = refl
 
-abbrev pub fields-in : {k : ℕ} {f : List ℕ} → Frame k f → FieldsIn k f
-fields-in (nikobus r) = record { fields = onNikobus (r .form .fields); fit = passing r; kind = refl; same = sym (r .form .laid) }
-fields-in (command r) = record { fields = asCommand (r .form .fields); fit = passing r; kind = refl; same = sym (r .form .laid) }
-fields-in (response r) = record { fields = asResponse (r .form .fields); fit = passing r; kind = refl; same = sym (r .form .laid) }
-fields-in (nibe r) = record { fields = onNibe (r .form .fields); fit = passing r; kind = refl; same = sym (r .form .laid) }
-fields-in (homiq r) = record { fields = onHomiq (r .form .fields); fit = passing r; kind = refl; same = sym (r .form .laid) }
+-- what is made of a content has that content
+pub made-content : (c : Content) → contentIn (kindOf c) (made c) ≡ c
+made-content (link p) = refl
+made-content (press d) = refl
+made-content tail = refl
+made-content (command i p) = refl
+made-content (response i p) = refl
+made-content (nibe c d) = refl
+made-content (homiq w) = refl
 
--- where its payload begins and ends
-pub ends-in : {k : ℕ} {f : List ℕ} (r : Frame k f)
-    → (kinds.payloadFrom r ≡ payloadFrom (fields-in r .fields)) × (kinds.payloadTo r ≡ payloadTo (fields-in r .fields))
-ends-in (nikobus r) = (refl, refl)
-ends-in (command r) = (refl, refl)
-ends-in (response r) = (refl, refl)
-ends-in (nibe r) = (refl, refl)
-ends-in (homiq r) = (refl, refl)
+-- ---- a line a kind
 
--- the frame of fields
-framed : {l : layout.Layout} (m : l .Fields) → Passing l m → layout.Frame l (layout.bytesOf l m)
-framed m p = record { form = record { fields = m; limits = p .limits; laid = refl }; passes = p .passes }
+pub kind-in : (kind : Kind) (m : layoutOf kind .Fields) → kindOf (contentIn kind m) ≡ kind
+kind-in Nikobus (nikobuses.link p x y) = refl
+kind-in Nikobus (nikobuses.press d) = refl
+kind-in Nikobus nikobuses.tail = refl
+kind-in NestCommand m = refl
+kind-in NestResponse m = refl
+kind-in Nibe m = refl
+kind-in Homiq m = refl
 
-pub frame-of : (x : Fields) → Fit x → Frame (kindOf x) (laid x)
-frame-of (onNikobus m) p = nikobus (framed m p)
-frame-of (asCommand m) p = command (framed m p)
-frame-of (asResponse m) p = response (framed m p)
-frame-of (onNibe m) p = nibe (framed m p)
-frame-of (onHomiq m) p = homiq (framed m p)
+-- check values that are right are those that are worked out
+link-made : (p : List ℕ) (x y : ℕ) → nikobuses.Passes (nikobuses.link p x y) → nikobuses.link p x y ≡ linkOf p
+link-made p x y (nikobuses.link-passes d e) =
+    ap (λ (c : ℕ). nikobuses.link p x c) e ∙ ap (λ (c : ℕ). nikobuses.link p c (check nikobusCrc8 (nikobuses.linkChecked p c))) d
 
--- no two have the same bytes
-pub one-fields : (x y : Fields) → Fit x → Fit y → kindOf x ≡ kindOf y → laid x ≡ laid y → x ≡ y
-one-fields (onNikobus m) (onNikobus n) f g k e = ap onNikobus (one-nikobus m n (f .limits) (g .limits) e)
-one-fields (onNikobus m) (asCommand n) f g k e = absurd (omega (arith, k))
-one-fields (onNikobus m) (asResponse n) f g k e = absurd (omega (arith, k))
-one-fields (onNikobus m) (onNibe n) f g k e = absurd (omega (arith, k))
-one-fields (onNikobus m) (onHomiq n) f g k e = absurd (omega (arith, k))
-one-fields (asCommand m) (onNikobus n) f g k e = absurd (omega (arith, k))
-one-fields (asCommand m) (asCommand n) f g k e = ap asCommand (one-nest Command m n (f .limits) (g .limits) e)
-one-fields (asCommand m) (asResponse n) f g k e = absurd (omega (arith, k))
-one-fields (asCommand m) (onNibe n) f g k e = absurd (omega (arith, k))
-one-fields (asCommand m) (onHomiq n) f g k e = absurd (omega (arith, k))
-one-fields (asResponse m) (onNikobus n) f g k e = absurd (omega (arith, k))
-one-fields (asResponse m) (asCommand n) f g k e = absurd (omega (arith, k))
-one-fields (asResponse m) (asResponse n) f g k e = ap asResponse (one-nest Response m n (f .limits) (g .limits) e)
-one-fields (asResponse m) (onNibe n) f g k e = absurd (omega (arith, k))
-one-fields (asResponse m) (onHomiq n) f g k e = absurd (omega (arith, k))
-one-fields (onNibe m) (onNikobus n) f g k e = absurd (omega (arith, k))
-one-fields (onNibe m) (asCommand n) f g k e = absurd (omega (arith, k))
-one-fields (onNibe m) (asResponse n) f g k e = absurd (omega (arith, k))
-one-fields (onNibe m) (onNibe n) f g k e = ap onNibe (one-nibe m n e)
-one-fields (onNibe m) (onHomiq n) f g k e = absurd (omega (arith, k))
-one-fields (onHomiq m) (onNikobus n) f g k e = absurd (omega (arith, k))
-one-fields (onHomiq m) (asCommand n) f g k e = absurd (omega (arith, k))
-one-fields (onHomiq m) (asResponse n) f g k e = absurd (omega (arith, k))
-one-fields (onHomiq m) (onNibe n) f g k e = absurd (omega (arith, k))
-one-fields (onHomiq m) (onHomiq n) f g k e = ap onHomiq (one-homiq m n (f .limits) (g .limits) e)
+nest-made : (m : nests.Nest) → nests.Passes m → m ≡ nestOf (m .id) (m .payload)
+nest-made m e = ap (λ (c : ℕ). record { id = m .id; payload = m .payload; crc = c }) e
+
+-- a frame's bytes are those of its content
+pub bytes-in : (kind : Kind) (m : layoutOf kind .Fields) → layoutOf kind .Passes m → bytesOf (layoutOf kind) m ≡ laid (contentIn kind m)
+bytes-in Nikobus (nikobuses.link p x y) e = ap (bytesOf nikobuses.nikobus) (link-made p x y e)
+bytes-in Nikobus (nikobuses.press d) e = refl
+bytes-in Nikobus nikobuses.tail e = refl
+bytes-in NestCommand m e = ap (bytesOf (nests.nest Command)) (nest-made m e)
+bytes-in NestResponse m e = ap (bytesOf (nests.nest Response)) (nest-made m e)
+bytes-in Nibe m e = ap (λ (x : ℕ). bytesOf nibes.nibe (record { command = m .command; content = m .content; xor = x })) e
+bytes-in Homiq m e =
+    ap (λ (x : ℕ). bytesOf homiqs.homiq (record { cmd = m .cmd; val = m .val; src = m .src; dst = m .dst; id = m .id; type = m .type; crc = x })) e
+
+-- and so is its payload, whatever its check values are
+pub payload-in : (kind : Kind) (m : layoutOf kind .Fields)
+    → (layoutOf kind .payload m ≡ payloadIn (contentIn kind m))
+    × (layout.payloadFrom (layoutOf kind) m ≡ payloadFrom (contentIn kind m)) × (layout.payloadTo (layoutOf kind) m ≡ payloadTo (contentIn kind m))
+payload-in Nikobus (nikobuses.link p x y) = (refl, refl, refl)
+payload-in Nikobus (nikobuses.press d) = (refl, refl, refl)
+payload-in Nikobus nikobuses.tail = (refl, refl, refl)
+payload-in NestCommand m = (refl, refl, refl)
+payload-in NestResponse m = (refl, refl, refl)
+payload-in Nibe m = (refl, refl, refl)
+payload-in Homiq m = (refl, refl, refl)
+
+-- its content is within the limits
+nest-fits : (m : nests.Nest) → nests.Limits m → nests.Limits (nestOf (m .id) (m .payload))
+nest-fits m l = nest-fit (m .id) (m .payload) (l .id) (l .short) (l .bytes)
+
+pub fit-in : (kind : Kind) (m : layoutOf kind .Fields) → layoutOf kind .Limits m → Fit (contentIn kind m)
+fit-in Nikobus (nikobuses.link p x y) (nikobuses.link-limits a b c d e) = link-fit p a b c
+fit-in Nikobus (nikobuses.press d) l = l
+fit-in Nikobus nikobuses.tail l = l
+fit-in NestCommand m l = nest-fits m l
+fit-in NestResponse m l = nest-fits m l
+fit-in Nibe m l = nibe-fit (m .command) (m .content) (l .command) (l .short) (l .bytes)
+fit-in Homiq m l = homiq-fit (wireOf m) (m .crc) l
+
+-- no two fields have the same bytes
+one-fields : (kind : Kind) (m n : layoutOf kind .Fields) → layoutOf kind .Limits m → layoutOf kind .Limits n
+    → bytesOf (layoutOf kind) m ≡ bytesOf (layoutOf kind) n → m ≡ n
+one-fields Nikobus m n f g e = one-nikobus m n f g e
+one-fields NestCommand m n f g e = one-nest Command m n f g e
+one-fields NestResponse m n f g e = one-nest Response m n f g e
+one-fields Nibe m n f g e = one-nibe m n e
+one-fields Homiq m n f g e = one-homiq m n f g e
+
+-- ---- and what follows for every kind
+
+module _ {k : ℕ} {f : List ℕ} (r : Frame k f) where
+  pub content-fit : Fit (contentAt r)
+  content-fit = fit-in (r .kind) (r .frame .form .fields) (r .frame .form .limits)
+
+  pub content-bytes : f ≡ laid (contentAt r)
+  content-bytes = r .frame .form .laid ∙ bytes-in (r .kind) (r .frame .form .fields) (r .frame .passes)
+
+  pub content-kind : numberOf (kindOf (contentAt r)) ≡ k
+  content-kind = ap numberOf (kind-in (r .kind) (r .frame .form .fields)) ∙ r .number
+
+  pub content-places : (kinds.payloadFrom r ≡ payloadFrom (contentAt r)) × (kinds.payloadTo r ≡ payloadTo (contentAt r))
+  content-places = let q = payload-in (r .kind) (r .frame .form .fields) in (q .1, q .2)
+
+-- THE SAME BYTES SAY ONE THING
+pub one-content : {k : ℕ} {f : List ℕ} (r q : Frame k f) → contentAt r ≡ contentAt q
+one-content {f = f} r q = go (r .kind) (q .kind) (one-kind (r .kind) (q .kind) (r .number ∙ sym (q .number))) (r .frame) (q .frame)
+  where
+    go : (a b : Kind) → a ≡ b → (x : layout.Frame (layoutOf a) f) (y : layout.Frame (layoutOf b) f)
+        → contentIn a (x .form .fields) ≡ contentIn b (y .form .fields)
+    go a b e x =
+        subst (λ (b : Kind). (y : layout.Frame (layoutOf b) f) → contentIn a (x .form .fields) ≡ contentIn b (y .form .fields)) e
+        (λ y. ap (contentIn a) (one-fields a (x .form .fields) (y .form .fields) (x .form .limits) (y .form .limits) (sym (x .form .laid) ∙ y .form .laid)))
+
+-- A CONTENT WITHIN ITS LIMITS MAKES A FRAME, and that says it
+abbrev pub frame-of : (c : Content) → Fit c → Frame (numberOf (kindOf c)) (laid c)
+frame-of c f = as-frame (kindOf c) (record { form = record { fields = made c; limits = f; laid = refl }; passes = made-passes c })

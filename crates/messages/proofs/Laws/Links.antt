@@ -20,10 +20,12 @@ use Rattle.digits.specs.declared.hex.Byte.the-variants.{Is, NoDigit}
 use Rattle.layouts.specs.Paper.Layout.{bytesOf}
 use Rattle.layouts.specs.Paper.Nikobus as nikobuses
 use Rattle.layouts.specs.Paper.Nikobus.{link-limits, press-limits}
+use Rattle.frames.specs.declared.kinds.Kind.the-variants.{Nikobus as OfNikobus}
+use Rattle.messages.specs.Paper.Content.{contentIn}
 use Rattle.messages.specs.Paper.Message.{Message, read, set, answer, press, link}
 use Rattle.messages.specs.Paper.Says.{six, ofNikobus, SaysNikobus, digits, fixed}
 use Rattle.messages.specs.Paper.Table.{u16At}
-use Rattle.messages.specs.Work.Look.{isRead, isSet, groupOf, lookLink, lookNikobus}
+use Rattle.messages.specs.Work.Look.{isRead, isSet, groupOf, lookLink, look}
 use Rattle.messages.specs.Work.Nikobus.{NikobusFrame, NikobusSaid, LinkDigits, LinkSaid, ByteAt, WordAt, SixAt}
 use Rattle.messages.specs.declared.nikobus.Nikobus.{Nikobus}
 use Rattle.messages.specs.declared.nikobus.Nikobus.the-variants.{Read, Set, Answer, Press, Tail, Link}
@@ -168,7 +170,7 @@ isLink Link = true
 pub no-link : (e : Nikobus) → isLink e ≡ false → e ≡ Link → ⊥
 no-link e f g = true≢false (sym (ap isLink g) ∙ f)
 
-says-of : (e : Nikobus) (p s : List ℕ) {m : Message} → Bytes p → s ≡ hexBytes p → ofNikobus e p ≡ m → SaysNikobus e s m
+pub says-of : (e : Nikobus) (p s : List ℕ) {m : Message} → Bytes p → s ≡ hexBytes p → ofNikobus e p ≡ m → SaysNikobus e s m
 says-of (Read g a) p s b h k = fixed (no-link (Read g a) refl) (sym k)
 says-of (Set g a o) p s b h k = fixed (no-link (Set g a o) refl) (sym k)
 says-of (Answer a t o) p s b h k = fixed (no-link (Answer a t o) refl) (sym k)
@@ -196,9 +198,10 @@ module _ {f p : List ℕ} (n : NikobusFrame f p) where
       go nikobuses.tail l e h = absurd (omega (arith, ap (λ (w : List ℕ). getD w 0 0) e))
 
   pub frame-linked : {e : Nikobus} → getD f 0 0 ≡ 36 → LinkSaid p e → NikobusSaid f p e
+  unfolding look
   frame-linked {e} mark s = record { frame = n; says = go (n .frame .form .fields) (n .frame .form .limits) (n .frame .form .laid) (n .is) }
     where
-      go : (m : nikobuses.Nikobus) → nikobuses.Limits m → f ≡ bytesOf nikobuses.nikobus m → p ≡ nikobuses.payload m → SaysNikobus e p (lookNikobus m)
+      go : (m : nikobuses.Nikobus) → nikobuses.Limits m → f ≡ bytesOf nikobuses.nikobus m → p ≡ nikobuses.payload m → SaysNikobus e p (look (contentIn OfNikobus m))
       go (nikobuses.link q x y) (link-limits _ _ bytes _ _) _ h =
           let same : s .link .payload ≡ q = hex-inj (s .link .payload) q (s .link .limits .bytes) bytes (sym (s .link .is) ∙ h) in
           says-of e q p bytes h (subst (λ (w : List ℕ). ofNikobus e w ≡ lookLink w) same (s .says))
@@ -215,17 +218,19 @@ module _ {f p : List ℕ} (n : NikobusFrame f p) where
         go nikobuses.tail l e h = absurd (omega (arith, ap (λ (w : List ℕ). getD w 1 0) e))
 
     pub frame-pressed : (o : Six) → getD f 1 0 ≡ 78 → six o ≡ p → NikobusSaid f p (Press o)
+    unfolding look
     frame-pressed o mark s = record { frame = n; says = go (n .frame .form .fields) (n .frame .form .laid) (n .is) }
       where
-        go : (m : nikobuses.Nikobus) → f ≡ bytesOf nikobuses.nikobus m → p ≡ nikobuses.payload m → SaysNikobus (Press o) p (lookNikobus m)
+        go : (m : nikobuses.Nikobus) → f ≡ bytesOf nikobuses.nikobus m → p ≡ nikobuses.payload m → SaysNikobus (Press o) p (look (contentIn OfNikobus m))
         go (nikobuses.link q x y) e h = absurd (other (ap (λ (w : List ℕ). getD w 0 0) e))
         go (nikobuses.press d) e h = fixed (no-link (Press o) refl) (ap press (sym (s ∙ h)))
         go nikobuses.tail e h = absurd (omega (arith, ap (λ (w : List ℕ). getD w 1 0) e))
 
     pub frame-tail : (getD f 1 0 ≡ 78 → ⊥) → NikobusSaid f p Tail
+    unfolding look
     frame-tail mark = record { frame = n; says = go (n .frame .form .fields) (n .frame .form .laid) (n .is) }
       where
-        go : (m : nikobuses.Nikobus) → f ≡ bytesOf nikobuses.nikobus m → p ≡ nikobuses.payload m → SaysNikobus Tail p (lookNikobus m)
+        go : (m : nikobuses.Nikobus) → f ≡ bytesOf nikobuses.nikobus m → p ≡ nikobuses.payload m → SaysNikobus Tail p (look (contentIn OfNikobus m))
         go (nikobuses.link q x y) e h = absurd (other (ap (λ (w : List ℕ). getD w 0 0) e))
         go (nikobuses.press d) e h = absurd (mark (ap (λ (w : List ℕ). getD w 1 0) e))
         go nikobuses.tail e h = fixed (no-link Tail refl) refl

@@ -1,5 +1,5 @@
--- The rows of kinds 2 and 3: what is found for a frame's fields has those fields; each message is found for its own, or one above it
--- is; and its fields make a frame.
+-- The rows of kinds 2 and 3: what is found for a content has that content; each message is found for its own, or one above it is; and
+-- its content makes a frame.
 -- Assumes nothing.
 use mathlib.Core.Bool.{true}
 use mathlib.Core.List.{List, [], _++_, append-nil}
@@ -26,10 +26,11 @@ use Rattle.layouts.specs.Work.Heads.{starts, isByte}
 use Rattle.layouts.specs.declared.nest.Direction.the-variants.{Command, Response}
 use Rattle.numbers.proofs.Laws.Values.{In, lower, upper, size, held-in, in-held, twos-lt}
 use Rattle.numbers.specs.Paper.ByteValues.{twos, valueBytes}
-use Rattle.messages.specs.Paper.Fields.{Fields, asCommand, asResponse}
-use Rattle.messages.specs.Work.Fields.{Passing, Fit}
+use Rattle.messages.specs.Paper.Content.{Content}
+use Rattle.messages.specs.Paper.Content as content
+use Rattle.messages.specs.Work.Content.{Fit}
 use Rattle.messages.specs.Paper.Message.{command, climate, state, break, end, text, response}
-use Rattle.messages.specs.Paper.Table.{fields, Sized, textIds, Limits, u16At}
+use Rattle.messages.specs.Paper.Table.{contentOf, Sized, textIds, Limits, u16At}
 use Rattle.messages.specs.Work.Look.{ofTwos, signedAt, isClimate, isState, isBreak, isEnd, lookResponse, look}
 use Rattle.messages.proofs.Laws.Choices.{by-test, both-true, by-length}
 use Rattle.messages.proofs.Laws.Rows.{ReadsTo, Found}
@@ -50,7 +51,7 @@ twos-back (upper {n} h) =
     let e : 65535 - (65536 - suc n) ≡ n = omega arith in
     simp (le-ltb (65536 - suc n) 32768 (omega arith)) (ap negsuc e)
 
--- ---- what is found has the fields
+-- ---- what is found has the content
 
 -- a list that starts with a word of its own length is that word
 pub is-word : (w s : List ℕ) → length s ≡ length w → starts w s ≡ true → w ≡ s
@@ -58,12 +59,12 @@ is-word w s l e =
     starts-same w s [] (sym l) (subst (λ (t : List ℕ). T (starts w t)) (sym (append-nil s)) (subst T (sym e) tt))
 
 -- a response whose message has this id and payload
-abbrev answered : ℕ → List ℕ → Fields
-answered i p = asResponse (nestOf i p)
+abbrev answered : ℕ → List ℕ → Content
+answered i p = content.response i p
 
 module _ (i : ℕ) (p : List ℕ) (b : Sized 0 1024 p) where
   climate-row : isClimate i p ≡ true → ReadsTo (answered i p) (climate (signedAt 0 p) (u16At 2 p))
-  unfolding fields isClimate
+  unfolding contentOf isClimate
   climate-row t =
       let q = both-true _ _ t in
       let l = eqb-true (length p) 4 (q .1) in
@@ -77,7 +78,7 @@ module _ (i : ℕ) (p : List ℕ) (b : Sized 0 1024 p) where
       }
 
   state-row : isState i p ≡ true → ReadsTo (answered i p) (state p)
-  unfolding fields isState
+  unfolding contentOf isState
   state-row t =
       let q = both-true _ _ t in
       record {
@@ -86,20 +87,20 @@ module _ (i : ℕ) (p : List ℕ) (b : Sized 0 1024 p) where
       }
 
   break-row : isBreak i p ≡ true → ReadsTo (answered i p) break
-  unfolding fields isBreak
+  unfolding contentOf isBreak
   break-row t =
       let q = both-true _ _ t in
       let r = both-true _ _ (q .1) in
       record { same = ap₂ answered (sym (eqb-true i 0x0001 (q .0))) (is-word (ascii "BRK") p (eqb-true (length p) 3 (r .0)) (r .1)); limits = tt }
 
   end-row : isEnd i p ≡ true → ReadsTo (answered i p) end
-  unfolding fields isEnd
+  unfolding contentOf isEnd
   end-row t =
       let q = both-true _ _ t in
       record { same = ap₂ answered (sym (eqb-true i 0x002F (q .0))) (by-length 0 (λ s. [] ≡ s) (λ t. refl) p (eqb-true (length p) 0 (q .1))); limits = tt }
 
   nest-reads : i < 65536 → ReadsTo (answered i p) (lookResponse i p)
-  unfolding lookResponse fields
+  unfolding lookResponse contentOf
   nest-reads h =
       by-test (ReadsTo (answered i p)) (isClimate i p) climate-row
       (λ _. by-test (ReadsTo (answered i p)) (isState i p) state-row
@@ -108,45 +109,39 @@ module _ (i : ℕ) (p : List ℕ) (b : Sized 0 1024 p) where
       (λ _. by-test (ReadsTo (answered i p)) (oneOf textIds i) (λ e. record { same = refl; limits = (rw e tt, b) })
       (λ _. record { same = refl; limits = (h, b) })))))
 
--- fields that pass are those that are made of their id and payload
-module _ (x : nests.Nest) (limits : nests.Limits x) (passes : nests.Passes x) where
-  made : nestOf (x .id) (x .payload) ≡ x
-  made = ap (λ (c : ℕ). record { id = x .id; payload = x .payload; crc = c }) (sym passes)
+-- a payload within the layout's limits
+sized : (i : ℕ) (p : List ℕ) → nests.Limits (nestOf i p) → Sized 0 1024 p
+sized i p l = record { enough = omega arith; short = l .short; bytes = l .bytes }
 
-  content : Sized 0 1024 (x .payload)
-  content = record { enough = omega arith; short = limits .short; bytes = limits .bytes }
+pub response-reads : (i : ℕ) (p : List ℕ) → nests.Limits (nestOf i p) → ReadsTo (answered i p) (lookResponse i p)
+response-reads i p l = nest-reads i p (sized i p l) (l .id)
 
-pub response-reads : (x : nests.Nest) → Passing (nests.nest Response) x → ReadsTo (asResponse x) (lookResponse (x .id) (x .payload))
-response-reads x f =
-    subst (λ (m : nests.Nest). ReadsTo (asResponse m) (lookResponse (x .id) (x .payload))) (made x (f .limits) (f .passes))
-    (nest-reads (x .id) (x .payload) (content x (f .limits) (f .passes)) (f .limits .id))
-
-pub command-reads : (x : nests.Nest) → Passing (nests.nest Command) x → ReadsTo (asCommand x) (command (x .id) (x .payload))
-unfolding fields
-command-reads x f = record { same = ap asCommand (made x (f .limits) (f .passes)); limits = (f .limits .id, content x (f .limits) (f .passes)) }
+pub command-reads : (i : ℕ) (p : List ℕ) → nests.Limits (nestOf i p) → ReadsTo (content.command i p) (command i p)
+unfolding contentOf
+command-reads i p l = record { same = refl; limits = (l .id, sized i p l) }
 
 -- ---- found again
 
-pub climate-found : (t : ℤ) (h : ℕ) → Limits (climate t h) → look (fields (climate t h)) ≡ climate t h
-unfolding look fields lookResponse lowFirst isClimate
+pub climate-found : (t : ℤ) (h : ℕ) → Limits (climate t h) → look (contentOf (climate t h)) ≡ climate t h
+unfolding look contentOf lookResponse lowFirst isClimate
 climate-found t h l =
     let i = held-in (size two) true t (l .0) in
     ap₂ climate (ap ofTwos (word-at [] (lowFirst 2 h) (twos 2 t) (twos-lt (size two) i)) ∙ twos-back i) (word-at (valueBytes 2 t) [] h (l .1))
 
-pub state-found : (p : List ℕ) → Limits (state p) → look (fields (state p)) ≡ state p
-unfolding look fields lookResponse isClimate isState
+pub state-found : (p : List ℕ) → Limits (state p) → look (contentOf (state p)) ≡ state p
+unfolding look contentOf lookResponse isClimate isState
 state-found p l = simp (le-leb 16 (length p) (l .enough))
 
-pub break-found : look (fields break) ≡ break
-unfolding look fields lookResponse isClimate isState isBreak starts
+pub break-found : look (contentOf break) ≡ break
+unfolding look contentOf lookResponse isClimate isState isBreak starts
 break-found = refl
 
-pub end-found : look (fields end) ≡ end
-unfolding look fields lookResponse isClimate isState isBreak isEnd
+pub end-found : look (contentOf end) ≡ end
+unfolding look contentOf lookResponse isClimate isState isBreak isEnd
 end-found = refl
 
-pub text-found : (i : ℕ) (p : List ℕ) → Limits (text i p) → Found (text i p) (look (fields (text i p)))
-unfolding look fields lookResponse
+pub text-found : (i : ℕ) (p : List ℕ) → Limits (text i p) → Found (text i p) (look (contentOf (text i p)))
+unfolding look contentOf lookResponse
 text-found i p l =
     by-test (Found (text i p)) (isClimate i p) (λ _. inr (lit< tt))
     (λ _. by-test (Found (text i p)) (isState i p) (λ _. inr (lit< tt))
@@ -155,8 +150,8 @@ text-found i p l =
     (λ _. by-test (Found (text i p)) (oneOf textIds i) (λ _. inl refl)
     (λ e. absurd (rw e at (l .0)))))))
 
-pub response-found : (i : ℕ) (p : List ℕ) → Limits (response i p) → Found (response i p) (look (fields (response i p)))
-unfolding look fields lookResponse
+pub response-found : (i : ℕ) (p : List ℕ) → Limits (response i p) → Found (response i p) (look (contentOf (response i p)))
+unfolding look contentOf lookResponse
 response-found i p l =
     by-test (Found (response i p)) (isClimate i p) (λ _. inr (lit< tt))
     (λ _. by-test (Found (response i p)) (isState i p) (λ _. inr (lit< tt))
@@ -168,34 +163,34 @@ response-found i p l =
 -- ---- a frame
 
 answer-passing : (i : ℕ) (p : List ℕ) → i < 65536 → length p ≤ 1024 → Bytes p → Fit (answered i p)
-answer-passing i p h short bytes = record { limits = nest-fit i p h short bytes; passes = refl }
+answer-passing i p h short bytes = nest-fit i p h short bytes
 
-pub command-fit : (i : ℕ) (p : List ℕ) → Limits (command i p) → Fit (fields (command i p))
-unfolding fields
-command-fit i p l = record { limits = nest-fit i p (l .0) (l .1 .short) (l .1 .bytes); passes = refl }
+pub command-fit : (i : ℕ) (p : List ℕ) → Limits (command i p) → Fit (contentOf (command i p))
+unfolding contentOf
+command-fit i p l = nest-fit i p (l .0) (l .1 .short) (l .1 .bytes)
 
-pub climate-fit : (t : ℤ) (h : ℕ) → Limits (climate t h) → Fit (fields (climate t h))
-unfolding fields
+pub climate-fit : (t : ℤ) (h : ℕ) → Limits (climate t h) → Fit (contentOf (climate t h))
+unfolding contentOf
 climate-fit t h l =
     let n : length (valueBytes 2 t ++ lowFirst 2 h) ≡ 4 = simp (length-append, length-low) in
     answer-passing 0x0002 _ (lit< tt) (omega arith) (bytes-append (valueBytes 2 t) (lowFirst 2 h) (bytes-low 2 (twos 2 t)) (bytes-low 2 h))
 
-pub state-fit : (p : List ℕ) → Limits (state p) → Fit (fields (state p))
-unfolding fields
+pub state-fit : (p : List ℕ) → Limits (state p) → Fit (contentOf (state p))
+unfolding contentOf
 state-fit p l = answer-passing 0x000B p (lit< tt) (l .short) (l .bytes)
 
-pub break-fit : Fit (fields break)
-unfolding fields
+pub break-fit : Fit (contentOf break)
+unfolding contentOf
 break-fit = answer-passing 0x0001 (ascii "BRK") (lit< tt) (omega arith) (bytes-cons (lit< tt) (bytes-cons (lit< tt) (bytes-cons (lit< tt) bytes-nil)))
 
-pub end-fit : Fit (fields end)
-unfolding fields
+pub end-fit : Fit (contentOf end)
+unfolding contentOf
 end-fit = answer-passing 0x002F [] (lit< tt) (omega arith) bytes-nil
 
-pub text-fit : (i : ℕ) (p : List ℕ) → Limits (text i p) → Fit (fields (text i p))
-unfolding fields all isByte
+pub text-fit : (i : ℕ) (p : List ℕ) → Limits (text i p) → Fit (contentOf (text i p))
+unfolding contentOf all isByte
 text-fit i p l = let k : i < 256 = one-of-bytes textIds i tt (l .0) in answer-passing i p (omega arith) (l .1 .short) (l .1 .bytes)
 
-pub response-fit : (i : ℕ) (p : List ℕ) → Limits (response i p) → Fit (fields (response i p))
-unfolding fields
+pub response-fit : (i : ℕ) (p : List ℕ) → Limits (response i p) → Fit (contentOf (response i p))
+unfolding contentOf
 response-fit i p l = answer-passing i p (l .0) (l .1 .short) (l .1 .bytes)

@@ -1,5 +1,4 @@
--- The rows of Nibe: what `lookNibe` finds has the fields that it was given; each row's message is found again; its fields are a
--- frame's.
+-- The rows of Nibe: what `lookNibe` finds has the content that it was given; each row's message is found again; its content makes a frame.
 -- Assumes nothing.
 use mathlib.Core.Bool.{Bool, true, false, cond, _||_, false≢true}
 use mathlib.Core.List.{List, [], _∷_, _++_}
@@ -21,10 +20,10 @@ use Rattle.layouts.specs.Paper.Chars.{oneOf}
 use Rattle.layouts.specs.Paper.Made.{nibeOf}
 use Rattle.layouts.specs.Paper.Nibe as nibes
 use Rattle.layouts.specs.Paper.Nibe.{commands}
-use Rattle.messages.specs.Paper.Fields.{onNibe}
-use Rattle.messages.specs.Work.Fields.{Passing, Fit}
+use Rattle.messages.specs.Paper.Content as content
+use Rattle.messages.specs.Work.Content.{Fit}
 use Rattle.messages.specs.Paper.Message.{Message, ask, reply, put, done, nibe}
-use Rattle.messages.specs.Paper.Table.{valued, fields, Limits, u16At}
+use Rattle.messages.specs.Paper.Table.{valued, contentOf, Limits, u16At}
 use Rattle.messages.specs.Work.Look.{isAsk, isValued, isDone, lookNibe, look}
 use Rattle.messages.proofs.Laws.Choices.{by-test, both-true}
 use Rattle.messages.proofs.Laws.Rows.{ReadsTo, Found}
@@ -63,7 +62,7 @@ valued-limits d b k =
 valued-length : (r w v : ℕ) → length (valued r w v) ≡ 2 + w
 valued-length r w v = rw (length-append (lowFirst 2 r) (lowFirst w v), length-low 2 r, length-low w v)
 
--- ---- what is found has the fields that were given
+-- ---- what is found has the content that was given
 
 -- a bit as a byte
 bit : (n : ℕ) → n ≤ 1 → cond (eqb n 1) 1 0 ≡ n
@@ -76,69 +75,69 @@ one-byte [] e = absurd (omega arith)
 one-byte (x ∷ []) e = refl
 one-byte (x ∷ y ∷ s) e = absurd (omega arith)
 
-module _ (x : nibes.Nibe) (f : Passing nibes.nibe x) where
-  b : Bytes (x .content)
-  b = f .limits .bytes
+module _ (c : ℕ) (d : List ℕ) (f : nibes.Limits (nibeOf c d)) where
+  b : Bytes d
+  b = f .bytes
 
-  -- a frame's fields are its command and its data
-  made : (c₀ : ℕ) (d₀ : List ℕ) → c₀ ≡ x .command → d₀ ≡ x .content → onNibe (nibeOf c₀ d₀) ≡ onNibe x
-  made c₀ d₀ p q = rw (p, q, ← f .passes)
+  -- the same command and data
+  made : (c₀ : ℕ) (d₀ : List ℕ) → c₀ ≡ c → d₀ ≡ d → content.nibe c₀ d₀ ≡ content.nibe c d
+  made c₀ d₀ p q = rw (p, q)
 
-  ask-row : isAsk (x .command) (x .content) ≡ true → ReadsTo (onNibe x) (ask (u16At 0 (x .content)))
-  unfolding fields isAsk
+  ask-row : isAsk c d ≡ true → ReadsTo (content.nibe c d) (ask (u16At 0 d))
+  unfolding contentOf isAsk
   ask-row t =
-      let q = both-true (eqb (x .command) 0x69) _ t in
-      let l : length (x .content) ≡ 2 = eqb-true _ 2 (q .1) in
-      let e : lowFirst 2 (u16At 0 (x .content)) ≡ x .content = word-bytes 0 (x .content) b (omega arith) ∙ take-all 2 (x .content) (omega arith) in
-      record { same = made _ _ (sym (eqb-true (x .command) 0x69 (q .0))) e; limits = word-lt 0 (x .content) b }
+      let q = both-true (eqb c 0x69) _ t in
+      let l : length d ≡ 2 = eqb-true _ 2 (q .1) in
+      let e : lowFirst 2 (u16At 0 d) ≡ d = word-bytes 0 d b (omega arith) ∙ take-all 2 d (omega arith) in
+      record { same = made _ _ (sym (eqb-true c 0x69 (q .0))) e; limits = word-lt 0 d b }
 
   -- a reply and a put differ in the command
-  valued-row : (want : ℕ) (make : ℕ → ℕ → ℕ → Message) → ((r w v : ℕ) → fields (make r w v) ≡ onNibe (nibeOf want (valued r w v)))
-      → ((r w v : ℕ) → (r < 65536) × Held w v → Limits (make r w v)) → isValued want (x .command) (x .content) ≡ true
-      → ReadsTo (onNibe x) (make (u16At 0 (x .content)) (length (x .content) - 2) (lowValue (drop 2 (x .content))))
+  valued-row : (want : ℕ) (make : ℕ → ℕ → ℕ → Message) → ((r w v : ℕ) → contentOf (make r w v) ≡ content.nibe want (valued r w v))
+      → ((r w v : ℕ) → (r < 65536) × Held w v → Limits (make r w v)) → isValued want c d ≡ true
+      → ReadsTo (content.nibe c d) (make (u16At 0 d) (length d - 2) (lowValue (drop 2 d)))
   unfolding isValued
   valued-row want make are within t =
-      let q = both-true (eqb (x .command) want) _ t in
-      let v = sizes (length (x .content)) (q .1) in
+      let q = both-true (eqb c want) _ t in
+      let v = sizes (length d) (q .1) in
       record {
-        same = are _ _ _ ∙ made want _ (sym (eqb-true (x .command) want (q .0))) (valued-bytes (x .content) b (v .0));
-        limits = within _ _ _ (valued-limits (x .content) b (v .1));
+        same = are _ _ _ ∙ made want _ (sym (eqb-true c want (q .0))) (valued-bytes d b (v .0));
+        limits = within _ _ _ (valued-limits d b (v .1));
       }
 
-  done-row : isDone (x .command) (x .content) ≡ true → ReadsTo (onNibe x) (done (eqb (getD (x .content) 0 0) 1))
-  unfolding fields isDone
+  done-row : isDone c d ≡ true → ReadsTo (content.nibe c d) (done (eqb (getD d 0 0) 1))
+  unfolding contentOf isDone
   done-row t =
-      let q = both-true (eqb (x .command) 0x6C) _ t in
-      let r = both-true (eqb (length (x .content)) 1) _ (q .1) in
-      let e : cond (eqb (getD (x .content) 0 0) 1) 1 0 ≡ getD (x .content) 0 0 = bit _ (leb-true _ 1 (r .1)) in
+      let q = both-true (eqb c 0x6C) _ t in
+      let r = both-true (eqb (length d) 1) _ (q .1) in
+      let e : cond (eqb (getD d 0 0) 1) 1 0 ≡ getD d 0 0 = bit _ (leb-true _ 1 (r .1)) in
       record {
         same =
-            made 0x6C _ (sym (eqb-true (x .command) 0x6C (q .0)))
-            (ap (λ (n : ℕ). n ∷ []) e ∙ one-byte (x .content) (eqb-true _ 1 (r .0)));
+            made 0x6C _ (sym (eqb-true c 0x6C (q .0)))
+            (ap (λ (n : ℕ). n ∷ []) e ∙ one-byte d (eqb-true _ 1 (r .0)));
         limits = tt;
       }
 
-  nibe-row : ReadsTo (onNibe x) (nibe (x .command) (x .content))
-  unfolding fields
+  nibe-row : ReadsTo (content.nibe c d) (nibe c d)
+  unfolding contentOf
   nibe-row =
       record {
         same = made _ _ refl refl;
-        limits = (f .limits .command, record { enough = omega arith; short = f .limits .short; bytes = f .limits .bytes });
+        limits = (f .command, record { enough = omega arith; short = f .short; bytes = f .bytes });
       }
 
-pub nibe-reads : (x : nibes.Nibe) → Passing nibes.nibe x → ReadsTo (onNibe x) (lookNibe (x .command) (x .content))
-unfolding lookNibe fields
-nibe-reads x f =
-    by-test (ReadsTo (onNibe x)) (isAsk (x .command) (x .content)) (ask-row x f)
-    (λ _. by-test (ReadsTo (onNibe x)) (isValued 0x6A (x .command) (x .content)) (valued-row x f 0x6A reply (λ r w v. refl) (λ r w v l. l))
-    (λ _. by-test (ReadsTo (onNibe x)) (isValued 0x6B (x .command) (x .content)) (valued-row x f 0x6B put (λ r w v. refl) (λ r w v l. l))
-    (λ _. by-test (ReadsTo (onNibe x)) (isDone (x .command) (x .content)) (done-row x f)
-    (λ _. nibe-row x f))))
+pub nibe-reads : (c : ℕ) (d : List ℕ) → nibes.Limits (nibeOf c d) → ReadsTo (content.nibe c d) (lookNibe c d)
+unfolding lookNibe contentOf
+nibe-reads c d f =
+    by-test (ReadsTo (content.nibe c d)) (isAsk c d) (ask-row c d f)
+    (λ _. by-test (ReadsTo (content.nibe c d)) (isValued 0x6A c d) (valued-row c d f 0x6A reply (λ r w v. refl) (λ r w v l. l))
+    (λ _. by-test (ReadsTo (content.nibe c d)) (isValued 0x6B c d) (valued-row c d f 0x6B put (λ r w v. refl) (λ r w v l. l))
+    (λ _. by-test (ReadsTo (content.nibe c d)) (isDone c d) (done-row c d f)
+    (λ _. nibe-row c d f))))
 
 -- ---- each row's message is found again
 
-pub ask-found : (r : ℕ) → Limits (ask r) → look (fields (ask r)) ≡ ask r
-unfolding look fields lookNibe isAsk lowFirst
+pub ask-found : (r : ℕ) → Limits (ask r) → look (contentOf (ask r)) ≡ ask r
+unfolding look contentOf lookNibe isAsk lowFirst
 ask-found r h = ap ask (word-at [] [] r h)
 
 valued-found : (make : ℕ → ℕ → ℕ → Message) (other : Message) (r w v : ℕ) → (r < 65536) × Held w v
@@ -157,22 +156,22 @@ valued-found make other r w v h =
       value-low w v (h .1 .below),
     )
 
-pub reply-found : (r w v : ℕ) → Limits (reply r w v) → look (fields (reply r w v)) ≡ reply r w v
-unfolding look fields lookNibe isAsk isValued
+pub reply-found : (r w v : ℕ) → Limits (reply r w v) → look (contentOf (reply r w v)) ≡ reply r w v
+unfolding look contentOf lookNibe isAsk isValued
 reply-found r w v h = valued-found reply _ r w v h
 
-pub put-found : (r w v : ℕ) → Limits (put r w v) → look (fields (put r w v)) ≡ put r w v
-unfolding look fields lookNibe isAsk isValued
+pub put-found : (r w v : ℕ) → Limits (put r w v) → look (contentOf (put r w v)) ≡ put r w v
+unfolding look contentOf lookNibe isAsk isValued
 put-found r w v h = valued-found put _ r w v h
 
-pub done-found : (ok : Bool) → look (fields (done ok)) ≡ done ok
-unfolding look fields lookNibe isAsk isValued isDone
+pub done-found : (ok : Bool) → look (contentOf (done ok)) ≡ done ok
+unfolding look contentOf lookNibe isAsk isValued isDone
 done-found true = refl
 done-found false = refl
 
 -- or a message above it
-pub nibe-found : (c : ℕ) (d : List ℕ) → Limits (nibe c d) → Found (nibe c d) (look (fields (nibe c d)))
-unfolding look fields lookNibe
+pub nibe-found : (c : ℕ) (d : List ℕ) → Limits (nibe c d) → Found (nibe c d) (look (contentOf (nibe c d)))
+unfolding look contentOf lookNibe
 nibe-found c d l =
     by-test (Found (nibe c d)) (isAsk c d) (λ _. inr (lit< tt))
     (λ _. by-test (Found (nibe c d)) (isValued 0x6A c d) (λ _. inr (lit< tt))
@@ -180,36 +179,36 @@ nibe-found c d l =
     (λ _. by-test (Found (nibe c d)) (isDone c d) (λ _. inr (lit< tt))
     (λ _. inl refl))))
 
--- ---- the fields of each are a frame's
+-- ---- the content of each makes a frame
 
-made-fit : (c : ℕ) (d : List ℕ) → T (oneOf commands c) → length d ≤ 255 → Bytes d → Fit (onNibe (nibeOf c d))
-made-fit c d o s b = record { limits = nibe-fit c d o s b; passes = refl }
+made-fit : (c : ℕ) (d : List ℕ) → T (oneOf commands c) → length d ≤ 255 → Bytes d → Fit (content.nibe c d)
+made-fit c d o s b = nibe-fit c d o s b
 
-pub ask-fit : (r : ℕ) → Limits (ask r) → Fit (fields (ask r))
-unfolding fields oneOf
+pub ask-fit : (r : ℕ) → Limits (ask r) → Fit (contentOf (ask r))
+unfolding contentOf oneOf
 ask-fit r l = made-fit 0x69 (lowFirst 2 r) tt (omega (arith, length-low 2 r)) (bytes-low 2 r)
 
-valued-fit : (c r w v : ℕ) → T (oneOf commands c) → (r < 65536) × Held w v → Fit (onNibe (nibeOf c (valued r w v)))
+valued-fit : (c r w v : ℕ) → T (oneOf commands c) → (r < 65536) × Held w v → Fit (content.nibe c (valued r w v))
 valued-fit c r w v o l =
     made-fit c (valued r w v) o (omega (arith, valued-length r w v, width-most (l .1 .known)))
     (bytes-append (lowFirst 2 r) (lowFirst w v) (bytes-low 2 r) (bytes-low w v))
 
-pub reply-fit : (r w v : ℕ) → Limits (reply r w v) → Fit (fields (reply r w v))
-unfolding fields oneOf
+pub reply-fit : (r w v : ℕ) → Limits (reply r w v) → Fit (contentOf (reply r w v))
+unfolding contentOf oneOf
 reply-fit r w v l = valued-fit 0x6A r w v tt l
 
-pub put-fit : (r w v : ℕ) → Limits (put r w v) → Fit (fields (put r w v))
-unfolding fields oneOf
+pub put-fit : (r w v : ℕ) → Limits (put r w v) → Fit (contentOf (put r w v))
+unfolding contentOf oneOf
 put-fit r w v l = valued-fit 0x6B r w v tt l
 
-pub done-fit : (ok : Bool) → Fit (fields (done ok))
-unfolding fields oneOf
+pub done-fit : (ok : Bool) → Fit (contentOf (done ok))
+unfolding contentOf oneOf
 done-fit ok = made-fit 0x6C (cond ok 1 0 ∷ []) tt (lit≤ tt) (bytes-cons (small ok) bytes-nil)
   where
     small : (t : Bool) → cond t 1 0 < 256
     small true = lit< tt
     small false = lit< tt
 
-pub nibe-message-fit : (c : ℕ) (d : List ℕ) → Limits (nibe c d) → Fit (fields (nibe c d))
-unfolding fields
+pub nibe-message-fit : (c : ℕ) (d : List ℕ) → Limits (nibe c d) → Fit (contentOf (nibe c d))
+unfolding contentOf
 nibe-message-fit c d l = made-fit c d (l .0) (l .1 .short) (l .1 .bytes)

@@ -1,36 +1,33 @@
--- The rows of kind 1: what is found for a frame's fields has those fields; each message is found for its own, or one above it is; and
--- its fields make a frame.
+-- The rows of kind 1: what is found for a content has that content; each message is found for its own, or one above it is; and its
+-- content makes a frame.
 -- Assumes nothing.
 use mathlib.Core.Bool.{Bool, true, false, cond, _||_}
 use mathlib.Core.List.{List, [], _∷_, _++_}
 use mathlib.Core.Logic.{inl, inr, ⊎-elim}
-use mathlib.Core.Path.{_≡_, refl, sym, ap, ap₂, _∙_, subst}
+use mathlib.Core.Path.{_≡_, refl, sym, ap, ap₂, _∙_}
 use Prim.Native.Nat.{ℕ, _≤_, _<_}
 use native.Mathlib.Omega.{arith}
 use lib.Dec.{eqb, lit<}
 use lib.ListN.{length, getD, length-append}
 use borrow.Author.Tests.{eqb-true}
-use Rattle.checks.specs.Paper.Buses.{nikobusCrc8}
-use Rattle.checks.specs.Paper.Check.{check}
 use Rattle.digits.proofs.Laws.Bytes.{bytes-nil, bytes-cons, bytes-append, bytes-part}
 use Rattle.digits.proofs.Laws.LowFirst.{length-low, bytes-low}
 use Rattle.digits.proofs.Laws.Parts.{length-part, ats}
 use Rattle.digits.specs.Paper.Bytes.{Bytes, part}
 use Rattle.digits.specs.Paper.LowFirst.{lowFirst}
 use Rattle.layouts.proofs.Laws.Made.{link-fit}
-use Rattle.layouts.specs.Paper.Made.{linkOf}
-use Rattle.layouts.specs.Paper.Nikobus as nikobuses
-use Rattle.layouts.specs.Paper.Nikobus.{linkChecked, link-limits, press-limits, tail-limits, link-passes, press-passes, tail-passes}
-use Rattle.messages.specs.Paper.Fields.{Fields, onNikobus}
-use Rattle.messages.specs.Work.Fields.{Passing, Fit}
+use Rattle.layouts.specs.Paper.Nikobus.{link-limits, press-limits, tail-limits}
+use Rattle.messages.specs.Paper.Content.{Content}
+use Rattle.messages.specs.Paper.Content as content
+use Rattle.messages.specs.Work.Content.{Fit}
 use Rattle.messages.specs.Paper.Message.{read, set, answer, press, tail, link}
-use Rattle.messages.specs.Paper.Table.{codeOf, fields, Group, SixBytes, Sized, Limits, u16At}
-use Rattle.messages.specs.Work.Look.{isRead, isSet, groupOf, lookLink, lookNikobus, look}
+use Rattle.messages.specs.Paper.Table.{codeOf, contentOf, Group, SixBytes, Sized, Limits, u16At}
+use Rattle.messages.specs.Work.Look.{isRead, isSet, groupOf, lookLink, look}
 use Rattle.messages.proofs.Laws.Choices.{by-test, both-true, by-length}
 use Rattle.messages.proofs.Laws.Rows.{ReadsTo, Found}
 use Rattle.messages.proofs.Laws.Words.{word-lt, word-bytes, word-at}
 
--- ---- what is found has the fields
+-- ---- what is found has the content
 
 -- two codes for the groups
 codes : (x a b : ℕ) → (eqb x a || eqb x b) ≡ true → codeOf a b (groupOf a x) ≡ x
@@ -45,15 +42,15 @@ group true = inl refl
 group false = inr refl
 
 -- a link whose message has this payload
-abbrev linked : List ℕ → Fields
-linked p = onNikobus (linkOf p)
+abbrev linked : List ℕ → Content
+linked p = content.link p
 
 module _ (p : List ℕ) (b : Bytes p) where
   six-part : 9 ≤ length p → SixBytes (part 3 9 p)
   six-part h = record { six = length-part 3 9 p (omega arith) h; bytes = bytes-part 3 9 p b }
 
   read-row : isRead p ≡ true → ReadsTo (linked p) (read (groupOf 0x12 (getD p 0 0)) (u16At 1 p))
-  unfolding fields isRead
+  unfolding contentOf isRead
   read-row t =
       let q = both-true _ _ t in
       let l = eqb-true (length p) 3 (q .0) in
@@ -64,7 +61,7 @@ module _ (p : List ℕ) (b : Bytes p) where
       }
 
   set-row : isSet p ≡ true → ReadsTo (linked p) (set (groupOf 0x15 (getD p 0 0)) (u16At 1 p) (part 3 9 p))
-  unfolding fields isSet
+  unfolding contentOf isSet
   set-row t =
       let q = both-true _ _ t in
       let r = both-true _ _ (q .1) in
@@ -81,7 +78,7 @@ module _ (p : List ℕ) (b : Bytes p) where
       }
 
   answer-row : eqb (length p) 9 ≡ true → ReadsTo (linked p) (answer (u16At 0 p) (getD p 2 0) (part 3 9 p))
-  unfolding fields
+  unfolding contentOf
   answer-row t =
       let l = eqb-true (length p) 9 t in
       let all : part 0 2 p ++ (getD p 2 0 ∷ part 3 9 p) ≡ p = by-length 9 (λ p. part 0 2 p ++ (getD p 2 0 ∷ part 3 9 p) ≡ p) (λ t. refl) p l in
@@ -91,57 +88,44 @@ module _ (p : List ℕ) (b : Bytes p) where
       }
 
   link-reads : Sized 1 122 p → ReadsTo (linked p) (lookLink p)
-  unfolding lookLink fields
+  unfolding lookLink contentOf
   link-reads f =
       by-test (ReadsTo (linked p)) (isRead p) read-row
       (λ _. by-test (ReadsTo (linked p)) (isSet p) set-row
       (λ _. by-test (ReadsTo (linked p)) (eqb (length p) 9) answer-row
       (λ _. record { same = refl; limits = f })))
 
-pub nikobus-reads : (x : nikobuses.Nikobus) → Passing nikobuses.nikobus x → ReadsTo (onNikobus x) (lookNikobus x)
-unfolding fields
-nikobus-reads (nikobuses.link p x y) f = go (f .limits) (f .passes)
-  where
-    go : nikobuses.Limits (nikobuses.link p x y) → nikobuses.Passes (nikobuses.link p x y) → ReadsTo (onNikobus (nikobuses.link p x y)) (lookLink p)
-    go (link-limits some short bytes _ _) (link-passes d e) =
-        let made : nikobuses.link p x y ≡ linkOf p =
-        ap (λ (c : ℕ). nikobuses.link p x c) e ∙ ap (λ (c : ℕ). nikobuses.link p c (check nikobusCrc8 (linkChecked p c))) d in
-        subst (λ (m : nikobuses.Nikobus). ReadsTo (onNikobus m) (lookLink p)) (sym made)
-        (link-reads p bytes (record { enough = some; short = short; bytes = bytes }))
-nikobus-reads (nikobuses.press d) f = record { same = refl; limits = pressed (f .limits) }
-  where
-    pressed : nikobuses.Limits (nikobuses.press d) → Limits (press d)
-    pressed (press-limits six hex) = (six, hex)
-nikobus-reads nikobuses.tail f = record { same = refl; limits = tt }
+pub linked-reads : (p : List ℕ) → Fit (linked p) → ReadsTo (linked p) (lookLink p)
+linked-reads p (link-limits some short bytes _ _) = link-reads p bytes (record { enough = some; short = short; bytes = bytes })
 
 -- ---- found again
 
 by-group : (g : ℕ) (P : ℕ → Type 0) → P 1 → P 2 → Group g → P g
 by-group g P a b k = ⊎-elim {C = P g} (λ e. rw e a) (λ e. rw e b) k
 
-pub read-found : (g a : ℕ) → Limits (read g a) → look (fields (read g a)) ≡ read g a
-unfolding look fields lookLink lowFirst isRead isSet
+pub read-found : (g a : ℕ) → Limits (read g a) → look (contentOf (read g a)) ≡ read g a
+unfolding look contentOf lookLink lowFirst isRead isSet
 read-found g a h =
-    by-group g (λ g. look (fields (read g a)) ≡ read g a)
+    by-group g (λ g. look (contentOf (read g a)) ≡ read g a)
     (ap (read 1) (word-at (0x12 ∷ []) [] a (h .1))) (ap (read 2) (word-at (0x17 ∷ []) [] a (h .1))) (h .0)
 
-pub set-found : (g a : ℕ) (out : List ℕ) → Limits (set g a out) → look (fields (set g a out)) ≡ set g a out
-unfolding look fields lookLink lowFirst isRead isSet
+pub set-found : (g a : ℕ) (out : List ℕ) → Limits (set g a out) → look (contentOf (set g a out)) ≡ set g a out
+unfolding look contentOf lookLink lowFirst isRead isSet
 set-found g a out h =
-    by-length 6 (λ o. look (fields (set g a o)) ≡ set g a o)
-    (λ t. by-group g (λ g. look (fields (set g a (ats t 0 6))) ≡ set g a (ats t 0 6))
+    by-length 6 (λ o. look (contentOf (set g a o)) ≡ set g a o)
+    (λ t. by-group g (λ g. look (contentOf (set g a (ats t 0 6))) ≡ set g a (ats t 0 6))
     (ap (λ (n : ℕ). set 1 n (ats t 0 6)) (word-at (0x15 ∷ []) [] a (h .1)))
     (ap (λ (n : ℕ). set 2 n (ats t 0 6)) (word-at (0x16 ∷ []) [] a (h .1))) (h .0))
     out (h .2 .six)
 
-pub answer-found : (a third : ℕ) (out : List ℕ) → Limits (answer a third out) → look (fields (answer a third out)) ≡ answer a third out
-unfolding look fields lookLink lowFirst isRead isSet
+pub answer-found : (a third : ℕ) (out : List ℕ) → Limits (answer a third out) → look (contentOf (answer a third out)) ≡ answer a third out
+unfolding look contentOf lookLink lowFirst isRead isSet
 answer-found a third out h =
-    by-length 6 (λ o. look (fields (answer a third o)) ≡ answer a third o)
+    by-length 6 (λ o. look (contentOf (answer a third o)) ≡ answer a third o)
     (λ t. ap (λ (n : ℕ). answer n third (ats t 0 6)) (word-at [] [] a (h .0))) out (h .2 .six)
 
-pub link-found : (p : List ℕ) → Limits (link p) → Found (link p) (look (fields (link p)))
-unfolding look fields lookLink
+pub link-found : (p : List ℕ) → Limits (link p) → Found (link p) (look (contentOf (link p)))
+unfolding look contentOf lookLink
 link-found p h =
     by-test (Found (link p)) (isRead p) (λ _. inr (lit< tt))
     (λ _. by-test (Found (link p)) (isSet p) (λ _. inr (lit< tt))
@@ -151,39 +135,39 @@ link-found p h =
 -- ---- a frame
 
 link-passing : (p : List ℕ) → 1 ≤ length p → length p ≤ 122 → Bytes p → Fit (linked p)
-link-passing p some short bytes = record { limits = link-fit p some short bytes; passes = link-passes refl refl }
+link-passing p some short bytes = link-fit p some short bytes
 
 code-lt : (t : Bool) (a b : ℕ) → a < 256 → b < 256 → cond t a b < 256
 code-lt true a b h k = h
 code-lt false a b h k = k
 
-pub read-fit : (g a : ℕ) → Limits (read g a) → Fit (fields (read g a))
-unfolding fields
+pub read-fit : (g a : ℕ) → Limits (read g a) → Fit (contentOf (read g a))
+unfolding contentOf
 read-fit g a h =
     link-passing _ (omega arith) (omega (arith, length-low 2 a)) (bytes-cons (code-lt (eqb g 1) 0x12 0x17 (lit< tt) (lit< tt)) (bytes-low 2 a))
 
-pub set-fit : (g a : ℕ) (out : List ℕ) → Limits (set g a out) → Fit (fields (set g a out))
-unfolding fields
+pub set-fit : (g a : ℕ) (out : List ℕ) → Limits (set g a out) → Fit (contentOf (set g a out))
+unfolding contentOf
 set-fit g a out h =
     let l : length (lowFirst 2 a ++ out ++ (0xFF ∷ [])) ≡ 9 = simp (length-append, length-low) (omega (arith, h .2 .six)) in
     link-passing _ (omega arith) (omega arith)
     (bytes-cons (code-lt (eqb g 1) 0x15 0x16 (lit< tt) (lit< tt))
     (bytes-append (lowFirst 2 a ++ out) (0xFF ∷ []) (bytes-append (lowFirst 2 a) out (bytes-low 2 a) (h .2 .bytes)) (bytes-cons (lit< tt) bytes-nil)))
 
-pub answer-fit : (a third : ℕ) (out : List ℕ) → Limits (answer a third out) → Fit (fields (answer a third out))
-unfolding fields
+pub answer-fit : (a third : ℕ) (out : List ℕ) → Limits (answer a third out) → Fit (contentOf (answer a third out))
+unfolding contentOf
 answer-fit a third out h =
     let l : length (lowFirst 2 a ++ (third ∷ out)) ≡ 9 = simp (length-append, length-low) (omega (arith, h .2 .six)) in
     link-passing _ (omega arith) (omega arith) (bytes-append (lowFirst 2 a) (third ∷ out) (bytes-low 2 a) (bytes-cons (h .1) (h .2 .bytes)))
 
-pub press-fit : (d : List ℕ) → Limits (press d) → Fit (fields (press d))
-unfolding fields
-press-fit d h = record { limits = press-limits (h .0) (h .1); passes = press-passes }
+pub press-fit : (d : List ℕ) → Limits (press d) → Fit (contentOf (press d))
+unfolding contentOf
+press-fit d h = press-limits (h .0) (h .1)
 
-pub tail-fit : Fit (fields tail)
-unfolding fields
-tail-fit = record { limits = tail-limits; passes = tail-passes }
+pub tail-fit : Fit (contentOf tail)
+unfolding contentOf
+tail-fit = tail-limits
 
-pub link-message-fit : (p : List ℕ) → Limits (link p) → Fit (fields (link p))
-unfolding fields
+pub link-message-fit : (p : List ℕ) → Limits (link p) → Fit (contentOf (link p))
+unfolding contentOf
 link-message-fit p h = link-passing p (h .enough) (h .short) (h .bytes)

@@ -3,15 +3,15 @@
 use mathlib.Core.Logic.{_⊎_}
 use mathlib.Core.Path.{_≡_}
 use Prim.Native.Nat.{_<_}
-use Rattle.messages.specs.Paper.Fields.{Fields}
+use Rattle.messages.specs.Paper.Content.{Content}
 use Rattle.messages.specs.Paper.Message.{Message, row}
-use Rattle.messages.specs.Paper.Table.{fields, Limits}
+use Rattle.messages.specs.Paper.Table.{contentOf, Limits}
 
--- m is a message within its limits with these fields
-pub record ReadsTo (x : Fields) (m : Message) : Type 0 where
-  pub same : fields m ≡ x
+-- m is a message within its limits with this content
+pub record ReadsTo (x : Content) (m : Message) : Type 0 where
+  pub same : contentOf m ≡ x
   pub limits : Limits m
 
--- what is found for the fields of m: m itself, or a message above it
+-- what is found for the content of m: m itself, or a message above it
 abbrev pub Found : Message → Message → Type 0
 Found m n = (n ≡ m) ⊎ (row n < row m)

@@ -5,12 +5,6 @@ use Rattle.messages.proofs.Laws.Decode.{inside, contents-part, contents
 use Rattle.messages.proofs.content.Statement.{statement}
 use Rattle.messages.proofs.content.Tie as tie
 
-one-frame-requires : tie.Need-one-frame-requires
-one-frame-requires c κs = search needs
-
-enum-known-from : tie.Need-enum-known-from
-enum-known-from c = search needs
-
 sub-result : tie.Need-sub-result
 sub-result c = inside (one-frame (c .before .before .before .one-frame .ensures) (c .before .from .given .1)) .0
 
@@ -19,12 +13,6 @@ part-result-start c = inside (one-frame (c .before .before .before .one-frame .e
 
 part-result-end : tie.Need-part-result-end
 part-result-end c = inside (one-frame (c .before .before .before .one-frame .ensures) (c .before .from .given .1)) .1
-
-enum-known-why : tie.Need-enum-known-why
-enum-known-why c = search needs
-
-slice-aggregate-result : tie.Need-slice-aggregate-result
-slice-aggregate-result c = search needs
 
 returns : tie.Need-returns
 returns c =
@@ -39,12 +27,12 @@ pub content-spec : {M : Type 1} → statement M
 content-spec =
     tie.close
     (tie.spec
-    one-frame-requires
-    enum-known-from
+    (λ c κs. search needs)
+    (λ c. search needs)
     sub-result
     part-result-start
     part-result-end
-    enum-known-why
-    slice-aggregate-result
+    (λ c. search needs)
+    (λ c. search needs)
     returns
     returns-2)

@@ -1,36 +1,25 @@
--- `messages::decode` meets its contract: where the whole is one frame, its message is the one; else it is no message's.
+-- `messages::decode` meets its contract: a number that is no kind's is refused, and else the kind's own decoder answers.
 -- Assumes nothing.
+use mathlib.Core.Path.{subst}
+use Prim.Native.Nat.{ℕ}
+use Rattle.frames.proofs.Laws.Kinds.{resolved-known, resolved-unknown}
+use Rattle.frames.proofs.Laws.Whole.{whole-no-kind}
+use Rattle.digits.proofs.Laws.Refusals.{cause-of}
+use Rattle.digits.specs.declared.refusal.Refusal.the-variants.{Kind}
+use Rattle.messages.specs.Paper.Answers.{Decodes}
+use Rattle.messages.proofs.Laws.Cases.{undecoded}
+use Rattle.messages.proofs.Laws.Decode.{first-decode}
 use borrow.Author.Needs.{needs}
-use Rattle.messages.proofs.Laws.Cases.{decoded, undecoded}
-use Rattle.messages.proofs.Laws.Decode.{first-decode, one-frame, no-first, first-of}
 use Rattle.messages.proofs.decode.Statement.{statement}
 use Rattle.messages.proofs.decode.Tie as tie
 
-one-frame-requires : tie.Need-one-frame-requires
-one-frame-requires c κs = search needs
-
-enum-known-from : tie.Need-enum-known-from
-enum-known-from c = search needs
-
-message-in-requires : tie.Need-message-in-requires
-message-in-requires c κs = one-frame (c .before .before .before .one-frame .ensures) (c .before .from .given .1)
-
-enum-known-why : tie.Need-enum-known-why
-enum-known-why c = search needs
-
 returns : tie.Need-returns
-returns c = decoded (first-decode (no-first (c .before .before .before .before .one-frame .ensures) (c .before .before .from .given .1))) (c .message-in .ensures)
+returns c = subst (λ (k : ℕ). Decodes k (c .before .before .before .before .before .before .args .frame .now) (c .decode-as .result)) (resolved-known (c .before .before .before .before .of .ensures) (c .before .before .known .given .1)) (c .decode-as .ensures)
 
 returns-2 : tie.Need-returns-2
-returns-2 c = undecoded (c .before .why .given .0 .0) (first-decode (first-of (c .before .before .before .one-frame .ensures) (c .before .why .given .1)))
+returns-2 c = undecoded Kind (first-decode (cause-of (whole-no-kind (resolved-unknown (c .before .before .of .ensures) (c .enum-told .given .1)))))
 
 pub decode-spec : {M : Type 1} → statement M
 decode-spec =
     tie.close
-    (tie.spec
-    one-frame-requires
-    enum-known-from
-    message-in-requires
-    enum-known-why
-    returns
-    returns-2)
+    (tie.spec (λ c κs. search needs) (λ c. search needs) (λ c κs. search needs) (λ c. search needs) returns returns-2)

@@ -6,24 +6,24 @@ use mathlib.Core.Option.{Option, none, some}
 use mathlib.Core.Path.{_≡_}
 use Prim.Native.Nat.{ℕ, _-_}
 use Rattle.digits.specs.Paper.Refusals.{refusalNumber, Answers}
-use Rattle.frames.specs.Paper.Kinds.{known}
+use Rattle.frames.specs.Paper.Kinds.{known, Frame}
 use Rattle.frames.specs.Paper.Search.{Hit, zeroHit, Leftmost, SearchCause, framePart}
 use Rattle.frames.specs.Paper.Whole.{Ends, zeroEnds}
-use Rattle.messages.specs.Paper.Fields.{kindOf, payloadIn, payloadFrom, payloadTo}
+use Rattle.messages.specs.Paper.Content.{contentAt, payloadIn, payloadFrom, payloadTo}
 use Rattle.messages.specs.Paper.Message.{Message}
 use Rattle.messages.specs.Paper.Says.{Says}
-use Rattle.messages.specs.Paper.Table.{fields, bytes, Good}
+use Rattle.messages.specs.Paper.Table.{contentOf, Good}
 use Rattle.messages.specs.declared.Message.{Message as Coded}
 use Rattle.messages.specs.declared.Decoded.{Decoded}
 use Rattle.messages.specs.declared.Decoded.the-variants.{Is, Refused}
 use Rattle.messages.specs.declared.Seen.{Seen}
 use Rattle.messages.specs.declared.Seen.the-variants.{At, Refused as Unseen}
 
--- f is the frame of the message m, of kind k
+-- the message m stands in f: f is a frame of kind k, and what it says is the content of m
 pub record Stands (k : ℕ) (f : List ℕ) (m : Message) : Type 0 where
   pub good : Good m
-  pub kind : kindOf (fields m) ≡ k
-  pub frame : bytes m ≡ f
+  pub frame : Frame k f
+  pub content : contentAt frame ≡ contentOf m
 
 -- ---- decode
 
@@ -36,9 +36,9 @@ pub data DecodeCause (k : ℕ) (f : List ℕ) : ℕ → Type 0 where
 pub record Said (k : ℕ) (f : List ℕ) (e : Coded) (from to : ℕ) : Type 0 where
   pub message : Message
   pub stands : Stands k f message
-  pub says : Says e (payloadIn (fields message)) message
-  pub from-is : from ≡ payloadFrom (fields message)
-  pub to-is : to ≡ payloadTo (fields message)
+  pub says : Says e (payloadIn (contentOf message)) message
+  pub from-is : from ≡ payloadFrom (contentOf message)
+  pub to-is : to ≡ payloadTo (contentOf message)
 
 -- the refusal number and the values of an answer: its message, and those places; of a refusal none, and zeros
 abbrev pub decodedNumber : Decoded → ℕ
@@ -64,7 +64,7 @@ Decodes k f r = Answers zeroDecoded (DecodeCause k f) (DecodedTo k f) (decodedNu
 
 pub record Contents (k : ℕ) (f p : List ℕ) : Type 0 where
   pub number : ℕ
-  pub answer : Answers [] (DecodeCause k f) (λ q. (m : Message) × (Stands k f m) × (q ≡ payloadIn (fields m))) number p
+  pub answer : Answers [] (DecodeCause k f) (λ q. (m : Message) × (Stands k f m) × (q ≡ payloadIn (contentOf m))) number p
 
 -- ---- find: the search and the decoder in one
 

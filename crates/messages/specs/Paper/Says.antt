@@ -6,6 +6,8 @@ use Prim.Native.Nat.{ℕ}
 use Rattle.digits.specs.Paper.Bytes.{Bytes}
 use Rattle.digits.specs.Paper.Hex.{hexBytes}
 use Rattle.layouts.specs.Paper.Made.{Wire, Payload}
+use Rattle.frames.specs.declared.kinds.Kind.{Kind}
+use Rattle.frames.specs.declared.kinds.Kind.the-variants as kinds
 use Rattle.messages.specs.Paper.Message.{Message, read, set, answer, press, tail, link, command, climate, state, break, end, text, response, ask, reply, put, done, nibe, output, input, shutter, beat, homiq}
 use Rattle.messages.specs.declared.Message.{Message as Coded}
 use Rattle.messages.specs.declared.Message.the-variants.{Nikobus as OnNikobus, Command, Response as AsResponse, Nibe as OnNibe, Homiq as OnHomiq}
@@ -76,9 +78,9 @@ Says (OnNibe e) s m = m ≡ ofNibe e s
 Says (OnHomiq e) s m = SaysHomiq e s m
 
 -- the kind whose message it is
-abbrev pub kindIn : Coded → ℕ
-kindIn (OnNikobus e) = 1
-kindIn (Command i) = 2
-kindIn (AsResponse e) = 3
-kindIn (OnNibe e) = 4
-kindIn (OnHomiq e) = 5
+abbrev pub kindIn : Coded → Kind
+kindIn (OnNikobus e) = kinds.Nikobus
+kindIn (Command i) = kinds.NestCommand
+kindIn (AsResponse e) = kinds.NestResponse
+kindIn (OnNibe e) = kinds.Nibe
+kindIn (OnHomiq e) = kinds.Homiq

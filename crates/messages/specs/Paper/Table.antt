@@ -1,4 +1,4 @@
--- 01, "Search, messages, commands": the table. A message's line gives the fields of its frame; its bytes are those of the layout.
+-- 01, "Search, messages, commands": the table. A message's line gives the content of its frame; its bytes are those of the layout.
 -- Assumes nothing.
 use mathlib.Core.Bool.{true, cond}
 use mathlib.Core.List.{List, [], _∷_, _++_}
@@ -14,10 +14,10 @@ use Rattle.digits.specs.Paper.LowFirst.{Held, lowFirst}
 use Rattle.numbers.specs.Paper.ByteValues.{Holds, valueBytes}
 use Rattle.layouts.specs.Paper.Chars.{all, isHex, oneOf}
 use Rattle.layouts.specs.Paper.Homiq as homiqs
-use Rattle.layouts.specs.Paper.Made.{linkOf, nestOf, nibeOf, Wire, homiqOf}
+use Rattle.layouts.specs.Paper.Made.{Wire, homiqOf}
 use Rattle.layouts.specs.Paper.Nibe.{commands}
-use Rattle.layouts.specs.Paper.Nikobus as nikobuses
-use Rattle.messages.specs.Paper.Fields.{Fields, onNikobus, asCommand, asResponse, onNibe, onHomiq, laid}
+use Rattle.messages.specs.Paper.Content.{Content, laid}
+use Rattle.messages.specs.Paper.Content as content
 use Rattle.messages.specs.Paper.Message.{Message, read, set, answer, press, tail, link, command, climate, state, break, end, text, response, ask, reply, put, done, nibe, output, input, shutter, beat, homiq, row}
 
 -- "payload 12 or 17 (group 1, 2)", "15 or 16 (group 1, 2)": the code of a group
@@ -28,35 +28,35 @@ codeOf first second group = cond (eqb group 1) first second
 abbrev pub valued : ℕ → ℕ → ℕ → List ℕ
 valued register width value = lowFirst 2 register ++ lowFirst width value
 
--- the fields of a message's frame, a line for each row
-unfoldable pub fields : Message → Fields
-fields (read g a) = onNikobus (linkOf (codeOf 0x12 0x17 g ∷ lowFirst 2 a))
-fields (set g a out) = onNikobus (linkOf (codeOf 0x15 0x16 g ∷ (lowFirst 2 a ++ out ++ (0xFF ∷ []))))
-fields (answer a third out) = onNikobus (linkOf (lowFirst 2 a ++ (third ∷ out)))
-fields (press d) = onNikobus (nikobuses.press d)
-fields tail = onNikobus nikobuses.tail
-fields (link p) = onNikobus (linkOf p)
-fields (command i p) = asCommand (nestOf i p)
-fields (climate t h) = asResponse (nestOf 0x0002 (valueBytes 2 t ++ lowFirst 2 h))
-fields (state p) = asResponse (nestOf 0x000B p)
-fields break = asResponse (nestOf 0x0001 (ascii "BRK"))
-fields end = asResponse (nestOf 0x002F [])
-fields (text i p) = asResponse (nestOf i p)
-fields (response i p) = asResponse (nestOf i p)
-fields (ask r) = onNibe (nibeOf 0x69 (lowFirst 2 r))
-fields (reply r w v) = onNibe (nibeOf 0x6A (valued r w v))
-fields (put r w v) = onNibe (nibeOf 0x6B (valued r w v))
-fields (done ok) = onNibe (nibeOf 0x6C (cond ok 0x01 0x00 ∷ []))
-fields (nibe c d) = onNibe (nibeOf c d)
-fields (output w) = onHomiq (homiqOf w)
-fields (input w) = onHomiq (homiqOf w)
-fields (shutter w) = onHomiq (homiqOf w)
-fields (beat w) = onHomiq (homiqOf w)
-fields (homiq w) = onHomiq (homiqOf w)
+-- the content of a message's frame, a line for each row
+unfoldable pub contentOf : Message → Content
+contentOf (read g a) = content.link (codeOf 0x12 0x17 g ∷ lowFirst 2 a)
+contentOf (set g a out) = content.link (codeOf 0x15 0x16 g ∷ (lowFirst 2 a ++ out ++ (0xFF ∷ [])))
+contentOf (answer a third out) = content.link (lowFirst 2 a ++ (third ∷ out))
+contentOf (press d) = content.press d
+contentOf tail = content.tail
+contentOf (link p) = content.link p
+contentOf (command i p) = content.command i p
+contentOf (climate t h) = content.response 0x0002 (valueBytes 2 t ++ lowFirst 2 h)
+contentOf (state p) = content.response 0x000B p
+contentOf break = content.response 0x0001 (ascii "BRK")
+contentOf end = content.response 0x002F []
+contentOf (text i p) = content.response i p
+contentOf (response i p) = content.response i p
+contentOf (ask r) = content.nibe 0x69 (lowFirst 2 r)
+contentOf (reply r w v) = content.nibe 0x6A (valued r w v)
+contentOf (put r w v) = content.nibe 0x6B (valued r w v)
+contentOf (done ok) = content.nibe 0x6C (cond ok 0x01 0x00 ∷ [])
+contentOf (nibe c d) = content.nibe c d
+contentOf (output w) = content.homiq w
+contentOf (input w) = content.homiq w
+contentOf (shutter w) = content.homiq w
+contentOf (beat w) = content.homiq w
+contentOf (homiq w) = content.homiq w
 
 -- the bytes of a message's frame
 abbrev pub bytes : Message → List ℕ
-bytes m = laid (fields m)
+bytes m = laid (contentOf m)
 
 -- ---- the limits of the fields
 
@@ -133,7 +133,7 @@ pub record Above (m : Message) : Type 0 where
   pub other : Message
   pub above : row other < row m
   pub limits : Limits other
-  pub same : fields other ≡ fields m
+  pub same : contentOf other ≡ contentOf m
 
 -- what stands in the table: within its limits, and no message above has its content
 pub record Good (m : Message) : Type 0 where

@@ -33,3 +33,11 @@ whichOf cmd val =
     (cond (same (ascii "UD") cmd && isLetter (ascii "uds") val) Shutter
     (cond (same (ascii "HB") cmd && isLetter (ascii "1") val) Beat
     Rest)))
+
+-- which case a message is
+abbrev pub caseNumber : Homiq → ℕ
+caseNumber Output = 0
+caseNumber Input = 1
+caseNumber Shutter = 2
+caseNumber Beat = 3
+caseNumber Rest = 4

@@ -1,5 +1,4 @@
--- The message that a frame's fields are, found by tests from the top of the table. The laws show that it is the one whose fields
--- they are.
+-- The message that a content is, found by tests from the top of the table. The laws show that it is the one whose content it is.
 -- Assumes nothing.
 use mathlib.Core.Bool.{Bool, cond, _&&_, _||_}
 use mathlib.Core.List.{List}
@@ -12,11 +11,10 @@ use Rattle.digits.specs.Paper.Ascii.{ascii}
 use Rattle.digits.specs.Paper.Bytes.{part}
 use Rattle.digits.specs.Work.LowFirst.{lowValue}
 use Rattle.layouts.specs.Paper.Chars.{oneOf}
-use Rattle.layouts.specs.Paper.Homiq as homiqs
 use Rattle.layouts.specs.Paper.Made.{Wire}
-use Rattle.layouts.specs.Paper.Nikobus as nikobuses
 use Rattle.layouts.specs.Work.Heads.{starts}
-use Rattle.messages.specs.Paper.Fields.{Fields, onNikobus, asCommand, asResponse, onNibe, onHomiq}
+use Rattle.messages.specs.Paper.Content.{Content}
+use Rattle.messages.specs.Paper.Content as content
 use Rattle.messages.specs.Paper.Message.{Message, read, set, answer, press, tail, link, command, climate, state, break, end, text, response, ask, reply, put, done, nibe}
 use Rattle.messages.specs.Paper.Says.{ofHomiq}
 use Rattle.messages.specs.Paper.Table.{u16At, textIds}
@@ -41,11 +39,6 @@ lookLink p =
     (cond (isSet p) (set (groupOf 0x15 (getD p 0 0)) (u16At 1 p) (part 3 9 p))
     (cond (eqb (length p) 9) (answer (u16At 0 p) (getD p 2 0) (part 3 9 p))
     (link p)))
-
-abbrev pub lookNikobus : nikobuses.Nikobus → Message
-lookNikobus (nikobuses.link p crc16 crc8) = lookLink p
-lookNikobus (nikobuses.press d) = press d
-lookNikobus nikobuses.tail = tail
 
 -- ---- Nest responses
 
@@ -104,18 +97,16 @@ pub record ValuedIn (d : List ℕ) (v : Valued) : Type 0 where
 
 -- ---- Homiq
 
--- the six fields of a frame
-abbrev pub wireOf : homiqs.Homiq → Wire
-wireOf m = record { cmd = m .cmd; val = m .val; src = m .src; dst = m .dst; id = m .id; type = m .type }
-
 abbrev pub lookHomiq : Wire → Message
 lookHomiq w = ofHomiq (whichOf (w .cmd) (w .val)) w
 
 -- ---- all of them
 
-unfoldable pub look : Fields → Message
-look (onNikobus m) = lookNikobus m
-look (asCommand m) = command (m .id) (m .payload)
-look (asResponse m) = lookResponse (m .id) (m .payload)
-look (onNibe m) = lookNibe (m .command) (m .content)
-look (onHomiq m) = lookHomiq (wireOf m)
+unfoldable pub look : Content → Message
+look (content.link p) = lookLink p
+look (content.press d) = press d
+look content.tail = tail
+look (content.command i p) = command i p
+look (content.response i p) = lookResponse i p
+look (content.nibe c d) = lookNibe c d
+look (content.homiq w) = lookHomiq w

@@ -8,10 +8,12 @@ use Rattle.digits.specs.Paper.Bytes.{Bytes, part}
 use Rattle.digits.specs.Paper.Hex.{hexBytes}
 use Rattle.layouts.specs.Paper.Layout.{Frame}
 use Rattle.layouts.specs.Paper.Nikobus.{nikobus, payload}
+use Rattle.frames.specs.declared.kinds.Kind.the-variants.{Nikobus}
 use Rattle.messages.specs.Paper.Says.{six, ofNikobus, SaysNikobus}
 use Rattle.messages.specs.Paper.Table.{Sized, u16At}
-use Rattle.messages.specs.Work.Look.{lookLink, lookNikobus}
-use Rattle.messages.specs.declared.nikobus.Nikobus.{Nikobus}
+use Rattle.messages.specs.Paper.Content.{contentIn}
+use Rattle.messages.specs.Work.Look.{lookLink, look}
+use Rattle.messages.specs.declared.nikobus.Nikobus.{Nikobus as Coded}
 use Rattle.messages.specs.declared.nikobus.Six.{Six}
 
 -- f is a frame, and p its payload
@@ -20,9 +22,9 @@ pub record NikobusFrame (f p : List ℕ) : Type 0 where
   pub is : p ≡ payload (frame .form .fields)
 
 -- e says its message
-pub record NikobusSaid (f p : List ℕ) (e : Nikobus) : Type 0 where
+pub record NikobusSaid (f p : List ℕ) (e : Coded) : Type 0 where
   pub frame : NikobusFrame f p
-  pub says : SaysNikobus e p (lookNikobus (frame .frame .form .fields))
+  pub says : SaysNikobus e p (look (contentIn Nikobus (frame .frame .form .fields)))
 
 -- d are the digits of a link's payload
 pub record LinkDigits (d : List ℕ) : Type 0 where
@@ -31,7 +33,7 @@ pub record LinkDigits (d : List ℕ) : Type 0 where
   pub is : d ≡ hexBytes payload
 
 -- e is the message of that payload
-pub record LinkSaid (d : List ℕ) (e : Nikobus) : Type 0 where
+pub record LinkSaid (d : List ℕ) (e : Coded) : Type 0 where
   pub link : LinkDigits d
   pub says : ofNikobus e (link .payload) ≡ lookLink (link .payload)
 

@@ -116,14 +116,13 @@ fn choose_room(words: &mut [String], random: &mut Random) {
         return;
     };
     let at = words.iter().position(|word| word == AT);
+    words[room] = generous(words).to_string();
     match at {
         None => {
-            words[room] = generous(words).to_string();
             let length = written(words);
             words[room] = room_for(length, random).to_string();
         }
         Some(at) => {
-            words[room] = "0".to_string();
             words[at] = "0".to_string();
             let length = written(words);
             let (chosen_room, chosen_at) = room_and_place(length.unwrap_or(20), random);

@@ -30,7 +30,7 @@ usage: compare listing [--seed N] [--count N] [--program COMMAND..]
        compare again FILE [--program COMMAND..]
 
 Compares what the proved program answers with what the second decoder answers: `listing` on at least 2,000 inputs of the listing, `calls`
-on at least 20,000 requests to every public function. Without a seed it runs seed 1 and a new one; each is printed. A case on which they
+on at least 40,000 requests to every public function. Without a seed it runs seed 1 and a new one; each is printed. A case on which they
 differ is made small and kept in target/second-failed; `again` runs such a file again. The last line is `N passed, M failed`: a test is a
 sort of input or a function, over all its cases, for a seed.
 
@@ -54,7 +54,7 @@ fn main() -> ExitCode {
             asked(What::Listing, 2_000, options).map(|asked| compare(&asked, listing::compare))
         }
         Some((&"calls", options)) => {
-            asked(What::Calls, 30_000, options).map(|asked| compare(&asked, calls::compare))
+            asked(What::Calls, 40_000, options).map(|asked| compare(&asked, calls::compare))
         }
         Some((&"again", [file, options @ ..])) => again(file, options),
         _ => None,

@@ -68,8 +68,28 @@ fn another_number(random: &mut Random) -> Vec<u8> {
 
 fn another_word(random: &mut Random) -> Vec<u8> {
     let words = [
-        "-", "0", "true", "false", "TRUE", "command", "response", "read", "tail", "homiq", "AB",
-        "ab", "ABC", "--", "", "room", "NoFrame", "single",
+        "-",
+        "0",
+        "true",
+        "false",
+        "TRUE",
+        "command",
+        "response",
+        "read",
+        "tail",
+        "homiq",
+        "AB",
+        "ab",
+        "ABC",
+        "--",
+        "",
+        "room",
+        "NoFrame",
+        "single",
+        "nibe",
+        "nest-command",
+        "nest",
+        "Homiq",
     ];
     random.pick(&words).into()
 }

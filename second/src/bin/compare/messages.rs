@@ -74,17 +74,9 @@ pub fn message(name: &str, random: &mut Random) -> Message {
             _ => contents::many(random, 16, 24),
         },
         "nibe" => {
-            let command = if random.one_in(6) {
-                random.byte()
-            } else {
-                random.pick(&COMMANDS)
-            };
+            let command = nibe_command(random);
             words.push(command.to_string());
-            match random.below(20) {
-                0 => random.bytes(256),
-                1 => random.bytes(255),
-                _ => contents::nibe_data(command, random),
-            }
+            nibe_data(command, random)
         }
         _ => homiq_content(name, random),
     };
@@ -109,7 +101,7 @@ fn group(random: &mut Random) -> String {
     group.to_string()
 }
 
-fn press_digits(random: &mut Random) -> Vec<u8> {
+pub fn press_digits(random: &mut Random) -> Vec<u8> {
     let alphabet = if random.one_in(5) {
         b"0123456789ABCDEFabcdefG:@/"
     } else {
@@ -136,7 +128,7 @@ fn value(random: &mut Random) -> String {
     }
 }
 
-fn link_digits(random: &mut Random) -> Vec<u8> {
+pub fn link_digits(random: &mut Random) -> Vec<u8> {
     match random.below(12) {
         0 => Vec::new(),
         1 => random.bytes_of(HEX, 246),
@@ -151,7 +143,7 @@ fn link_digits(random: &mut Random) -> Vec<u8> {
     }
 }
 
-fn nest_payload(id: u16, random: &mut Random) -> Vec<u8> {
+pub fn nest_payload(id: u16, random: &mut Random) -> Vec<u8> {
     match random.below(20) {
         0 => random.bytes(1_025),
         1 => random.bytes(1_024),
@@ -159,8 +151,24 @@ fn nest_payload(id: u16, random: &mut Random) -> Vec<u8> {
     }
 }
 
+pub fn nibe_command(random: &mut Random) -> u8 {
+    if random.one_in(6) {
+        random.byte()
+    } else {
+        random.pick(&COMMANDS)
+    }
+}
+
+pub fn nibe_data(command: u8, random: &mut Random) -> Vec<u8> {
+    match random.below(20) {
+        0 => random.bytes(256),
+        1 => random.bytes(255),
+        _ => contents::nibe_data(command, random),
+    }
+}
+
 /// CMD to TYPE of the row, of another, or of none.
-fn homiq_content(name: &str, random: &mut Random) -> Vec<u8> {
+pub fn homiq_content(name: &str, random: &mut Random) -> Vec<u8> {
     match random.below(8) {
         0 => damages::homiq_limits(random),
         1 | 2 => contents::homiq(random),

@@ -45,6 +45,11 @@ impl Row {
         ["link", "text", "response", "nibe", "homiq"].contains(&self.name)
     }
 
+    /// Has no field and no content that could be outside its limits.
+    pub fn is_always_allowed(&self) -> bool {
+        ["answer", "tail", "climate", "break", "end", "ask", "done"].contains(&self.name)
+    }
+
     pub fn has_width(&self) -> bool {
         ["reply", "put"].contains(&self.name)
     }

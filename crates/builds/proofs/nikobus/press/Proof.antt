@@ -11,11 +11,11 @@ use Rattle.builds.proofs.nikobus.press.Tie as tie
 returns : tie.Need-returns
 returns c = let s = c .before .before .before in not-within nikobus (press (s .args .digits .now)) (s .args .room .now) (λ l. c .if1 .taken (press-said l .0))
 
-all-hex-requires : tie.Need-all-hex-requires
-all-hex-requires c κs = search needs
+all-digits-requires : tie.Need-all-digits-requires
+all-digits-requires c κs = search needs
 
 returns-2 : tie.Need-returns-2
-returns-2 c = let s = c .before .before .before .before .before in not-within nikobus (press (s .args .digits .now)) (s .args .room .now) (λ l. not-told (c .before .all-hex .ensures) (c .if2 .taken) (press-said l .1))
+returns-2 c = let s = c .before .before .before .before .before in not-within nikobus (press (s .args .digits .now)) (s .args .room .now) (λ l. not-told (c .before .all-digits .ensures) (c .if2 .taken) (press-said l .1))
 
 shared-slice-read-t10 : tie.Need-shared-slice-read-t10
 shared-slice-read-t10 c = search needs
@@ -46,7 +46,7 @@ same-length c = search needs
 
 returns-3 : tie.Need-returns-3
 returns-3 c = let s = c .before .before .before .before .before .before .before .before .before .before .before .before .before .before .before .before in
-    fronted nikobus (press (s .args .digits .now)) (s .args .room .now) (press-limits (c .before .before .before .before .before .before .before .before .before .before .before .before .before .if1 .left) (told (c .before .before .before .before .before .before .before .before .before .before .before .before .all-hex .ensures) (c .before .before .before .before .before .before .before .before .before .before .before .if2 .left))) (c .before .before .front .result)
+    fronted nikobus (press (s .args .digits .now)) (s .args .room .now) (press-limits (c .before .before .before .before .before .before .before .before .before .before .before .before .before .if1 .left) (told (c .before .before .before .before .before .before .before .before .before .before .before .before .all-digits .ensures) (c .before .before .before .before .before .before .before .before .before .before .before .if2 .left))) (c .before .before .front .result)
     (press-whole (s .args .digits .now) (c .before .before .before .before .before .before .before .before .before .before .before .before .before .if1 .left)) (c .before .before .front .ensures)
 
 pub press-spec : {M : Type 1} → statement M
@@ -54,7 +54,7 @@ press-spec =
     tie.close
     (tie.spec
     returns
-    all-hex-requires
+    all-digits-requires
     returns-2
     shared-slice-read-t10
     shared-slice-read-t12

@@ -16,26 +16,8 @@ shared-slice-read-if1 c = omega (arith, some-payload (c .before .before .before 
 returns : tie.Need-returns
 returns c = λ w x. of-type-a x (framed x) (c .if1 .taken)
 
-slice-aggregate-exchange : tie.Need-slice-aggregate-exchange
-slice-aggregate-exchange c = search needs
-
-exchange-requires : tie.Need-exchange-requires
-exchange-requires c κs = search needs
-
-sub-frame : tie.Need-sub-frame
-sub-frame c = search needs
-
-part-frame-start : tie.Need-part-frame-start
-part-frame-start c = search needs
-
 part-frame-end : tie.Need-part-frame-end
 part-frame-end c = reply-inside (c .before .before .before .before .before .before .before .before .pre) (c .before .before .exchange .ensures) refl
-
-frame-requires : tie.Need-frame-requires
-frame-requires c κs = search needs
-
-same-length : tie.Need-same-length
-same-length c = search needs
 
 returns-2 : tie.Need-returns-2
 returns-2 c = λ w x. of-type-s x (framed x) (c .before .before .before .before .before .before .before .before .before .if1 .left) (c .before .before .frame .result) (reply-bytes (c .before .before .before .before .before .before .before .before .before .before .before .before .before .pre) (c .before .before .before .before .before .before .before .exchange .ensures) refl) (c .before .before .frame .ensures)
@@ -47,11 +29,11 @@ answer-spec =
     sub-if1
     shared-slice-read-if1
     returns
-    slice-aggregate-exchange
-    exchange-requires
-    sub-frame
-    part-frame-start
+    (λ c. search needs)
+    (λ c κs. search needs)
+    (λ c. search needs)
+    (λ c. search needs)
     part-frame-end
-    frame-requires
-    same-length
+    (λ c κs. search needs)
+    (λ c. search needs)
     returns-2)

@@ -4,14 +4,8 @@ use borrow.Author.Needs.{needs}
 use Rattle.commands.proofs.homiq.exchange.Statement.{statement}
 use Rattle.commands.proofs.homiq.exchange.Tie as tie
 
-relay-requires : tie.Need-relay-requires
-relay-requires c κs = search needs
-
-same-length : tie.Need-same-length
-same-length c = search needs
-
 returns : tie.Need-returns
 returns c = c .before .before .relay .ensures
 
 pub exchange-spec : {M : Type 1} → statement M
-exchange-spec = tie.close (tie.spec relay-requires same-length returns)
+exchange-spec = tie.close (tie.spec (λ c κs. search needs) (λ c. search needs) returns)

@@ -9,14 +9,8 @@ use Rattle.commands.proofs.nest.signed_bytes.Tie as tie
 cast-write : tie.Need-cast-write
 cast-write c = cast-fits (c .args .z) (c .fits .z)
 
-slice-aggregate-write : tie.Need-slice-aggregate-write
-slice-aggregate-write c = search needs
-
-write-requires : tie.Need-write-requires
-write-requires c κs = search needs
-
 returns : tie.Need-returns
 returns c = let s = c .before .before .before in two-written (s .args .z) (c .before .write .result) (s .fits .z) refl (c .before .write .ensures)
 
 pub signed-bytes-spec : {M : Type 1} → statement M
-signed-bytes-spec = tie.close (tie.spec cast-write slice-aggregate-write write-requires returns)
+signed-bytes-spec = tie.close (tie.spec cast-write (λ c. search needs) (λ c κs. search needs) returns)

@@ -9,27 +9,6 @@ use borrow.Author.Needs.{needs}
 use Rattle.commands.proofs.nibe.has_width.Statement.{statement}
 use Rattle.commands.proofs.nibe.has_width.Tie as tie
 
-enum-known-message : tie.Need-enum-known-message
-enum-known-message c = search needs
-
-enum-known-message-2 : tie.Need-enum-known-message-2
-enum-known-message-2 c = search needs
-
-is-width-requires : tie.Need-is-width-requires
-is-width-requires c κs = search needs
-
-enum-known-message-3 : tie.Need-enum-known-message-3
-enum-known-message-3 c = search needs
-
-is-width-requires-2 : tie.Need-is-width-requires-2
-is-width-requires-2 c κs = search needs
-
-enum-known-message-4 : tie.Need-enum-known-message-4
-enum-known-message-4 c = search needs
-
-enum-known-message-5 : tie.Need-enum-known-message-5
-enum-known-message-5 c = search needs
-
 returns : tie.Need-returns
 returns c = subst (λ (m : Nibe). Tells (NibeWidth m) true) (sym (c .before .message .given .1)) (holds tt)
 
@@ -49,13 +28,13 @@ pub has-width-spec : {M : Type 1} → statement M
 has-width-spec =
     tie.close
     (tie.spec
-    enum-known-message
-    enum-known-message-2
-    is-width-requires
-    enum-known-message-3
-    is-width-requires-2
-    enum-known-message-4
-    enum-known-message-5
+    (λ c. search needs)
+    (λ c. search needs)
+    (λ c κs. search needs)
+    (λ c. search needs)
+    (λ c κs. search needs)
+    (λ c. search needs)
+    (λ c. search needs)
     returns
     returns-2
     returns-3

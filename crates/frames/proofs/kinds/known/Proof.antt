@@ -1,17 +1,16 @@
--- `frames::kinds::known` meets its contract: the range of the kinds.
+-- `frames::kinds::known` meets its contract: what is resolved is known.
 -- Assumes nothing.
-use borrow.Author.Tests.{le-leb, lt-leb}
-use Rattle.frames.specs.Paper.Kinds.{known}
+use mathlib.Core.Path.{sym}
+use Rattle.frames.proofs.Laws.Kinds.{known-of, resolved-known, resolved-unknown}
+use borrow.Author.Needs.{needs}
 use Rattle.frames.proofs.kinds.known.Statement.{statement}
 use Rattle.frames.proofs.kinds.known.Tie as tie
 
 returns : tie.Need-returns
-unfolding known
-returns c = simp (lt-leb _ _ (c .if1 .taken))
+returns c = sym (known-of (c .before .kind .given .0 .0) (resolved-known (c .before .before .before .of .ensures) (c .before .kind .given .1)))
 
 returns-2 : tie.Need-returns-2
-unfolding known
-returns-2 c = simp (le-leb 1 _ (c .if1 .left))
+returns-2 c = sym (resolved-unknown (c .before .before .of .ensures) (c .enum-told .given .1))
 
 pub known-spec : {M : Type 1} → statement M
-known-spec = tie.close (tie.spec returns returns-2)
+known-spec = tie.close (tie.spec (λ c κs. search needs) (λ c. search needs) (λ c. search needs) returns returns-2)

@@ -49,10 +49,10 @@ Behind =
       word-at-reads.Learnt,
       nothing-reads.Asked,
       nothing-reads.Learnt,
-      crc-reads.Asked,
-      crc-reads.Learnt,
       value-reads.Asked,
       value-reads.Learnt,
+      crc-reads.Asked,
+      crc-reads.Learnt,
     )
     reads.Pre reads.Post
 
@@ -63,14 +63,29 @@ found c =
     let w = c .before in
     frame-found _ _ _ _ (w .before .before .before .head .ensures) (w .before .before .number-at .ensures) (w .word-at .ensures) (c .if1 .left)
 
+sub-value : tie.Need-sub-value
+sub-value c = let f = found c in omega (arith, f .crosses)
+
+sub-value-2 : tie.Need-sub-value-2
+sub-value-2 c = let f = found c in omega (arith, f .crosses)
+
+part-value-start : tie.Need-part-value-start
+part-value-start c = let f = found c in omega (arith, f .crosses)
+
+part-value-end : tie.Need-part-value-end
+part-value-end c = let f = found c in omega (arith, f .inner)
+
+value-requires : tie.Need-value-requires
+value-requires c κs = frame-figures (found (c .before))
+
 sub-crc : tie.Need-sub-crc
-sub-crc c = found c .two
+sub-crc c = found (c .before .before) .two
 
 part-crc-start : tie.Need-part-crc-start
-part-crc-start c = found c .two
+part-crc-start c = found (c .before .before) .two
 
 part-crc-end : tie.Need-part-crc-end
-part-crc-end c = let f = found c in omega (arith, f .crosses, f .inner)
+part-crc-end c = let f = found (c .before .before) in omega (arith, f .crosses, f .inner)
 
 crc-requires : tie.Need-crc-requires
 crc-requires c κs = search needs
@@ -78,32 +93,17 @@ crc-requires c κs = search needs
 cast-if2 : tie.Need-cast-if2
 cast-if2 c = search needs
 
-sub-value : tie.Need-sub-value
-sub-value c = let f = found (c .before .before) in omega (arith, f .crosses)
-
-sub-value-2 : tie.Need-sub-value-2
-sub-value-2 c = let f = found (c .before .before) in omega (arith, f .crosses)
-
-part-value-start : tie.Need-part-value-start
-part-value-start c = let f = found (c .before .before) in omega (arith, f .crosses)
-
-part-value-end : tie.Need-part-value-end
-part-value-end c = let f = found (c .before .before) in omega (arith, f .inner)
-
-value-requires : tie.Need-value-requires
-value-requires c κs = frame-figures (found (c .before .before .before))
-
 nothing-requires-2 : tie.Need-nothing-requires-2
 nothing-requires-2 c κs = search needs
 
 returns-2 : tie.Need-returns-2
-returns-2 c = let v = c .before .before in rw (c .nothing2 .ensures .0, c .nothing2 .ensures .1 .0, c .nothing2 .ensures .1 .1) (frame-other (found (c .before .before .before .before .before .before)) _ _ (v .before .before .crc .ensures) (v .value .ensures) (c .before .if2 .taken))
+returns-2 c = rw (c .nothing2 .ensures .0, c .nothing2 .ensures .1 .0, c .nothing2 .ensures .1 .1) (frame-other (found (c .before .before .before .before .before .before)) _ _ (c .before .before .crc .ensures) (c .before .before .before .before .value .ensures) (c .before .if2 .taken))
 
-sub-t11 : tie.Need-sub-t11
-sub-t11 c = let f = found (c .before .before .before .before .before) in omega (arith, f .two)
+sub-t12 : tie.Need-sub-t12
+sub-t12 c = let f = found (c .before .before .before .before .before) in omega (arith, f .two)
 
 returns-3 : tie.Need-returns-3
-returns-3 c = frame-same (found (c .before .before .before .before .before)) _ _ (c .before .before .before .crc .ensures) (c .before .value .ensures) (c .if2 .left)
+returns-3 c = frame-same (found (c .before .before .before .before .before)) _ _ (c .before .crc .ensures) (c .before .before .before .value .ensures) (c .if2 .left)
 
 pub frame-spec : {M : Type 1} → statement M
 frame-spec =
@@ -115,17 +115,17 @@ frame-spec =
     word-at-requires
     nothing-requires
     returns
-    sub-crc
-    part-crc-start
-    part-crc-end
-    crc-requires
-    cast-if2
     sub-value
     sub-value-2
     part-value-start
     part-value-end
     value-requires
+    sub-crc
+    part-crc-start
+    part-crc-end
+    crc-requires
+    cast-if2
     nothing-requires-2
     returns-2
-    sub-t11
+    sub-t12
     returns-3)

@@ -17,17 +17,14 @@ shared-slice-read-if2 c = search needs
 returns-2 : tie.Need-returns-2
 returns-2 c = form-mark _ (c .if2 .taken)
 
-slice-aggregate-one-of : tie.Need-slice-aggregate-one-of
-slice-aggregate-one-of c = search needs
+shared-slice-read-is-command : tie.Need-shared-slice-read-is-command
+shared-slice-read-is-command c = search needs
 
-shared-slice-read-one-of : tie.Need-shared-slice-read-one-of
-shared-slice-read-one-of c = search needs
-
-one-of-requires : tie.Need-one-of-requires
-one-of-requires c κs = search needs
+is-command-requires : tie.Need-is-command-requires
+is-command-requires c κs = search needs
 
 returns-3 : tie.Need-returns-3
-returns-3 c = form-command _ (sym (c .before .one-of .ensures) ∙ not-true _ (c .if3 .taken))
+returns-3 c = form-command _ (sym (c .before .is-command .ensures) ∙ not-true _ (c .if3 .taken))
 
 shared-slice-read-n : tie.Need-shared-slice-read-n
 shared-slice-read-n c = search needs
@@ -42,7 +39,7 @@ returns-4 : tie.Need-returns-4
 returns-4 c = form-short _ (c .if4 .taken)
 
 returns-5 : tie.Need-returns-5
-returns-5 c = form-there _ (record { each = λ i. c .before .shared-slice-known4 .given i .fits }) (c .before .before .before .before .before .before .if2 .left) (sym (c .before .before .before .one-of .ensures) ∙ not-false _ (c .before .before .if3 .left)) (c .if4 .left)
+returns-5 c = form-there _ (record { each = λ i. c .before .shared-slice-known4 .given i .fits }) (c .before .before .before .before .before .if2 .left) (sym (c .before .before .before .is-command .ensures) ∙ not-false _ (c .before .before .if3 .left)) (c .if4 .left)
 
 pub form-spec : {M : Type 1} → statement M
 form-spec =
@@ -51,9 +48,8 @@ form-spec =
     returns
     shared-slice-read-if2
     returns-2
-    slice-aggregate-one-of
-    shared-slice-read-one-of
-    one-of-requires
+    shared-slice-read-is-command
+    is-command-requires
     returns-3
     shared-slice-read-n
     cast-n

@@ -6,17 +6,8 @@ use Rattle.messages.specs.Work.Homiq.{whichOf}
 use Rattle.messages.proofs.homiq.message_of.Statement.{statement}
 use Rattle.messages.proofs.homiq.message_of.Tie as tie
 
-field-requires : tie.Need-field-requires
-field-requires c κs = search needs
-
-field-requires-2 : tie.Need-field-requires-2
-field-requires-2 c κs = search needs
-
-which-requires : tie.Need-which-requires
-which-requires c κs = search needs
-
 returns : tie.Need-returns
 returns c = c .which .ensures ∙ ap₂ whichOf (c .before .before .field .ensures) (c .before .field2 .ensures)
 
 pub message-of-spec : {M : Type 1} → statement M
-message-of-spec = tie.close (tie.spec field-requires field-requires-2 which-requires returns)
+message-of-spec = tie.close (tie.spec (λ c κs. search needs) (λ c κs. search needs) (λ c κs. search needs) returns)

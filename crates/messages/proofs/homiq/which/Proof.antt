@@ -5,30 +5,18 @@ use Rattle.messages.proofs.Laws.HomiqLook.{look-output, look-input, loo
 use Rattle.messages.proofs.homiq.which.Statement.{statement}
 use Rattle.messages.proofs.homiq.which.Tie as tie
 
-is-output-requires : tie.Need-is-output-requires
-is-output-requires c κs = search needs
-
 returns : tie.Need-returns
 returns c = look-output _ _ (c .before .is-output .ensures) (c .if1 .taken)
-
-is-input-requires : tie.Need-is-input-requires
-is-input-requires c κs = search needs
 
 returns-2 : tie.Need-returns-2
 returns-2 c =
     look-input _ _ (c .before .before .before .is-output .ensures) (c .before .is-input .ensures) (c .before .before .if1 .left)
     (c .if2 .taken)
 
-is-shutter-requires : tie.Need-is-shutter-requires
-is-shutter-requires c κs = search needs
-
 returns-3 : tie.Need-returns-3
 returns-3 c =
     look-shutter _ _ (c .before .before .before .before .before .is-output .ensures) (c .before .before .before .is-input .ensures)
     (c .before .before .before .before .if1 .left) (c .before .is-shutter .ensures) (c .before .before .if2 .left) (c .if3 .taken)
-
-is-beat-requires : tie.Need-is-beat-requires
-is-beat-requires c κs = search needs
 
 returns-4 : tie.Need-returns-4
 returns-4 c =
@@ -48,12 +36,12 @@ pub which-spec : {M : Type 1} → statement M
 which-spec =
     tie.close
     (tie.spec
-    is-output-requires
+    (λ c κs. search needs)
     returns
-    is-input-requires
+    (λ c κs. search needs)
     returns-2
-    is-shutter-requires
+    (λ c κs. search needs)
     returns-3
-    is-beat-requires
+    (λ c κs. search needs)
     returns-4
     returns-5)

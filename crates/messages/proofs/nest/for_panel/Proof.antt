@@ -7,27 +7,6 @@ use Rattle.messages.proofs.Laws.Responses.{pair-shown, pair-refused}
 use Rattle.messages.proofs.nest.for_panel.Statement.{statement}
 use Rattle.messages.proofs.nest.for_panel.Tie as tie
 
-enum-known-message : tie.Need-enum-known-message
-enum-known-message c = search needs
-
-pair-requires : tie.Need-pair-requires
-pair-requires c κs = search needs
-
-enum-told : tie.Need-enum-told
-enum-told c = search needs
-
-enum-told-2 : tie.Need-enum-told-2
-enum-told-2 c = search needs
-
-enum-told-3 : tie.Need-enum-told-3
-enum-told-3 c = search needs
-
-enum-known-message-2 : tie.Need-enum-known-message-2
-enum-known-message-2 c = search needs
-
-enum-known-message-3 : tie.Need-enum-known-message-3
-enum-known-message-3 c = search needs
-
 returns : tie.Need-returns
 returns c = pair-shown (c .pair .result) _ _ (c .before .before .message .given .1) (record { sfits = c .before .known-told .given .0 .1 }) (c .pair .ensures)
 
@@ -50,13 +29,13 @@ pub for-panel-spec : {M : Type 1} → statement M
 for-panel-spec =
     tie.close
     (tie.spec
-    enum-known-message
-    pair-requires
-    enum-told
-    enum-told-2
-    enum-told-3
-    enum-known-message-2
-    enum-known-message-3
+    (λ c. search needs)
+    (λ c κs. search needs)
+    (λ c. search needs)
+    (λ c. search needs)
+    (λ c. search needs)
+    (λ c. search needs)
+    (λ c. search needs)
     returns
     returns-2
     returns-3

@@ -8,12 +8,6 @@ use Rattle.messages.proofs.Laws.Responses.{word-test}
 use Rattle.messages.proofs.nest.is_break.Statement.{statement}
 use Rattle.messages.proofs.nest.is_break.Tie as tie
 
-slice-aggregate-same : tie.Need-slice-aggregate-same
-slice-aggregate-same c = search needs
-
-same-requires : tie.Need-same-requires
-same-requires c κs = search needs
-
 returns : tie.Need-returns
 unfolding isBreak
 returns c = simp (eq-eqb _ _ (c .before .before .if1 .taken)) (word-test (ascii "BRK") _ (c .same .ensures))
@@ -23,4 +17,4 @@ unfolding isBreak
 returns-2 c = simp (ne-eqb _ _ (c .if1 .left))
 
 pub is-break-spec : {M : Type 1} → statement M
-is-break-spec = tie.close (tie.spec slice-aggregate-same same-requires returns returns-2)
+is-break-spec = tie.close (tie.spec (λ c. search needs) (λ c κs. search needs) returns returns-2)

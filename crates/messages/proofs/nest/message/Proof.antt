@@ -32,9 +32,6 @@ no-break c = sym (c .before .is-break .ensures) ∙ c .if3 .left
 no-end : (c : tie.Else4) → isEnd (c .before .before .before .before .before .before .before .before .before .args .id) (now (c .before .before .before .before .before .before .before .before .before .args .payload)) ≡ false
 no-end c = sym (c .before .is-end .ensures) ∙ c .if4 .left
 
-is-climate-requires : tie.Need-is-climate-requires
-is-climate-requires c κs = search needs
-
 signed-at-requires : tie.Need-signed-at-requires
 signed-at-requires c κs = omega (arith, four c)
 
@@ -49,15 +46,9 @@ returns c =
     simp (sym (c .before .before .before .is-climate .ensures) ∙ c .before .before .if1 .taken)
     (ap₂ climate (ap (λ (z : ℤ). toZ w16 (ofZ w16 z)) (c .before .signed-at .ensures) ∙ signed-back 0 p b) (c .word .ensures))
 
-is-state-requires : tie.Need-is-state-requires
-is-state-requires c κs = search needs
-
 returns-2 : tie.Need-returns-2
 unfolding lookResponse
 returns-2 c = simp (no-climate (c .before .before), sym (c .before .is-state .ensures) ∙ c .if2 .taken)
-
-is-break-requires : tie.Need-is-break-requires
-is-break-requires c κs = search needs
 
 returns-3 : tie.Need-returns-3
 unfolding lookResponse
@@ -65,18 +56,12 @@ returns-3 c =
     let u = c .before .before in
     simp (no-climate (u .before .before), no-state u, sym (c .before .is-break .ensures) ∙ c .if3 .taken)
 
-is-end-requires : tie.Need-is-end-requires
-is-end-requires c κs = search needs
-
 returns-4 : tie.Need-returns-4
 unfolding lookResponse
 returns-4 c =
     let v = c .before .before in
     let u = v .before .before in
     simp (no-climate (u .before .before), no-state u, no-break v, sym (c .before .is-end .ensures) ∙ c .if4 .taken)
-
-is-text-requires : tie.Need-is-text-requires
-is-text-requires c κs = search needs
 
 returns-5 : tie.Need-returns-5
 unfolding lookResponse
@@ -98,16 +83,16 @@ pub message-spec : {M : Type 1} → statement M
 message-spec =
     tie.close
     (tie.spec
-    is-climate-requires
+    (λ c κs. search needs)
     signed-at-requires
     word-requires
     returns
-    is-state-requires
+    (λ c κs. search needs)
     returns-2
-    is-break-requires
+    (λ c κs. search needs)
     returns-3
-    is-end-requires
+    (λ c κs. search needs)
     returns-4
-    is-text-requires
+    (λ c κs. search needs)
     returns-5
     returns-6)

@@ -16,17 +16,8 @@ below c =
     subst (λ (x : ℕ). x < 65536) (sym (c .before .word .ensures))
     (word-lt (s .args .at) (now (s .args .s)) (record { each = λ i. c .before .before .shared-slice-known .given i .fits }))
 
-word-requires : tie.Need-word-requires
-word-requires c κs = search needs
-
-cast-result : tie.Need-cast-result
-cast-result c = search needs
-
 returns : tie.Need-returns
 returns c = low-signed (c .before .word .result) (c .if1 .taken) ∙ ap ofTwos (c .before .word .ensures)
-
-cast-result-2 : tie.Need-cast-result-2
-cast-result-2 c = search needs
 
 sub-result : tie.Need-sub-result
 sub-result c = turned-fits (c .before .word .result) (c .if1 .left) (below c)
@@ -40,4 +31,4 @@ returns-2 c = high-signed (c .before .word .result) (c .if1 .left) (below c) ∙
 pub signed-at-spec : {M : Type 1} → statement M
 signed-at-spec =
     tie.close
-    (tie.spec word-requires cast-result returns cast-result-2 sub-result cast-result-3 returns-2)
+    (tie.spec (λ c κs. search needs) (λ c. search needs) returns (λ c. search needs) sub-result cast-result-3 returns-2)

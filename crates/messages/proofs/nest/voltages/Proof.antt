@@ -8,18 +8,9 @@ use Rattle.messages.proofs.nest.voltages.Tie as tie
 returns : tie.Need-returns
 returns c = volts-refused (c .if1 .taken)
 
-word-requires : tie.Need-word-requires
-word-requires c κs = search needs
-
-word-requires-2 : tie.Need-word-requires-2
-word-requires-2 c κs = search needs
-
-word-requires-3 : tie.Need-word-requires-3
-word-requires-3 c κs = search needs
-
 returns-2 : tie.Need-returns-2
 returns-2 c = volts-read (c .before .before .before .if1 .left) (c .before .before .word .ensures) (c .before .word2 .ensures) (c .word3 .ensures)
 
 pub voltages-spec : {M : Type 1} → statement M
 voltages-spec =
-    tie.close (tie.spec returns word-requires word-requires-2 word-requires-3 returns-2)
+    tie.close (tie.spec returns (λ c κs. search needs) (λ c κs. search needs) (λ c κs. search needs) returns-2)

@@ -6,9 +6,6 @@ use Rattle.messages.specs.Work.Look.{isDone}
 use Rattle.messages.proofs.nibe.is_done.Statement.{statement}
 use Rattle.messages.proofs.nibe.is_done.Tie as tie
 
-shared-slice-read-result : tie.Need-shared-slice-read-result
-shared-slice-read-result c = search needs
-
 returns : tie.Need-returns
 unfolding isDone
 returns c = simp (eq-eqb _ _ (c .before .before .if1 .taken), eq-eqb _ _ (c .before .if2 .taken))
@@ -22,4 +19,4 @@ unfolding isDone
 returns-3 c = simp (ne-eqb _ _ (c .if1 .left))
 
 pub is-done-spec : {M : Type 1} → statement M
-is-done-spec = tie.close (tie.spec shared-slice-read-result returns returns-2 returns-3)
+is-done-spec = tie.close (tie.spec (λ c. search needs) returns returns-2 returns-3)

@@ -8,9 +8,6 @@ use Rattle.messages.proofs.Laws.NibeLook.{ask-size, valued-size, done-s
 use Rattle.messages.proofs.nibe.message.Statement.{statement}
 use Rattle.messages.proofs.nibe.message.Tie as tie
 
-is-ask-requires : tie.Need-is-ask-requires
-is-ask-requires c κs = search needs
-
 word-requires : tie.Need-word-requires
 word-requires c κs = omega (arith, ask-size _ (now (c .before .before .before .args .content)) (sym (c .before .is-ask .ensures) ∙ c .if1 .taken))
 
@@ -18,9 +15,6 @@ returns : tie.Need-returns
 returns c =
     look-ask _ (now (c .before .before .before .before .args .content)) (c .word .ensures)
     (sym (c .before .before .is-ask .ensures) ∙ c .before .if1 .taken)
-
-is-valued-requires : tie.Need-is-valued-requires
-is-valued-requires c κs = search needs
 
 valued-in-requires : tie.Need-valued-in-requires
 valued-in-requires c κs =
@@ -33,9 +27,6 @@ returns-2 c =
     (sym (c .before .before .before .before .is-ask .ensures) ∙ c .before .before .before .if1 .left)
     (sym (c .before .before .is-valued .ensures) ∙ c .before .if2 .taken)
 
-is-valued-requires-2 : tie.Need-is-valued-requires-2
-is-valued-requires-2 c κs = search needs
-
 valued-in-requires-2 : tie.Need-valued-in-requires-2
 valued-in-requires-2 c κs =
     valued-size _ (now (c .before .before .before .before .before .before .before .args .content)) 0x6B
@@ -47,9 +38,6 @@ returns-3 c =
     (sym (c .before .before .before .before .before .before .is-ask .ensures) ∙ c .before .before .before .before .before .if1 .left)
     (sym (c .before .before .before .before .is-valued .ensures) ∙ c .before .before .before .if2 .left)
     (sym (c .before .before .is-valued2 .ensures) ∙ c .before .if3 .taken)
-
-is-done-requires : tie.Need-is-done-requires
-is-done-requires c κs = search needs
 
 shared-slice-read-t11 : tie.Need-shared-slice-read-t11
 shared-slice-read-t11 c =
@@ -75,16 +63,16 @@ pub message-spec : {M : Type 1} → statement M
 message-spec =
     tie.close
     (tie.spec
-    is-ask-requires
+    (λ c κs. search needs)
     word-requires
     returns
-    is-valued-requires
+    (λ c κs. search needs)
     valued-in-requires
     returns-2
-    is-valued-requires-2
+    (λ c κs. search needs)
     valued-in-requires-2
     returns-3
-    is-done-requires
+    (λ c κs. search needs)
     shared-slice-read-t11
     returns-4
     returns-5)

@@ -11,15 +11,6 @@ use Rattle.messages.proofs.Laws.NibeLook.{number-value}
 use Rattle.messages.proofs.nibe.value_of.Statement.{statement}
 use Rattle.messages.proofs.nibe.value_of.Tie as tie
 
-number-of-requires : tie.Need-number-of-requires
-number-of-requires c κs = search needs
-
-enum-known-n : tie.Need-enum-known-n
-enum-known-n c = search needs
-
-enum-told : tie.Need-enum-told
-enum-told c = search needs
-
 returns : tie.Need-returns
 returns c =
     let s = now (c .before .before .before .before .before .args .s) in
@@ -33,4 +24,4 @@ returns-2 c =
     (c .before .before .number-of .ensures) (ap numberRefusal (c .enum-told .given .1)))
 
 pub value-of-spec : {M : Type 1} → statement M
-value-of-spec = tie.close (tie.spec number-of-requires enum-known-n enum-told returns returns-2)
+value-of-spec = tie.close (tie.spec (λ c κs. search needs) (λ c. search needs) (λ c. search needs) returns returns-2)

@@ -11,23 +11,8 @@ use Rattle.messages.proofs.Laws.NibeLook.{behind-two}
 use Rattle.messages.proofs.nibe.valued_in.Statement.{statement}
 use Rattle.messages.proofs.nibe.valued_in.Tie as tie
 
-word-requires : tie.Need-word-requires
-word-requires c κs = search needs
-
-sub-t4 : tie.Need-sub-t4
-sub-t4 c = search needs
-
 cast-t5 : tie.Need-cast-t5
 cast-t5 c = omega (arith, width-most (c .before .before .pre .1))
-
-sub-value-of : tie.Need-sub-value-of
-sub-value-of c = search needs
-
-part-value-of-start : tie.Need-part-value-of-start
-part-value-of-start c = search needs
-
-part-value-of-end : tie.Need-part-value-of-end
-part-value-of-end c = search needs
 
 value-of-requires : tie.Need-value-of-requires
 value-of-requires c κs = behind-two (now (c .before .before .before .args .content)) (c .before .before .before .pre)
@@ -41,11 +26,11 @@ pub valued-in-spec : {M : Type 1} → statement M
 valued-in-spec =
     tie.close
     (tie.spec
-    word-requires
-    sub-t4
+    (λ c κs. search needs)
+    (λ c. search needs)
     cast-t5
-    sub-value-of
-    part-value-of-start
-    part-value-of-end
+    (λ c. search needs)
+    (λ c. search needs)
+    (λ c. search needs)
     value-of-requires
     returns)

@@ -6,30 +6,6 @@ use Rattle.messages.proofs.Laws.Links.{byte-there, byte-never-none}
 use Rattle.messages.proofs.nikobus.byte_at.Statement.{statement}
 use Rattle.messages.proofs.nikobus.byte_at.Tie as tie
 
-mul-byte-of : tie.Need-mul-byte-of
-mul-byte-of c = search needs
-
-shared-slice-read-byte-of : tie.Need-shared-slice-read-byte-of
-shared-slice-read-byte-of c = search needs
-
-mul-byte-of-2 : tie.Need-mul-byte-of-2
-mul-byte-of-2 c = search needs
-
-add-byte-of : tie.Need-add-byte-of
-add-byte-of c = search needs
-
-shared-slice-read-byte-of-2 : tie.Need-shared-slice-read-byte-of-2
-shared-slice-read-byte-of-2 c = search needs
-
-byte-of-requires : tie.Need-byte-of-requires
-byte-of-requires c κs = search needs
-
-enum-known-b : tie.Need-enum-known-b
-enum-known-b c = search needs
-
-enum-told : tie.Need-enum-told
-enum-told c = search needs
-
 returns : tie.Need-returns
 returns c =
     let s = c .before .before .before .before .before .before .before in
@@ -44,13 +20,13 @@ pub byte-at-spec : {M : Type 1} → statement M
 byte-at-spec =
     tie.close
     (tie.spec
-    mul-byte-of
-    shared-slice-read-byte-of
-    mul-byte-of-2
-    add-byte-of
-    shared-slice-read-byte-of-2
-    byte-of-requires
-    enum-known-b
-    enum-told
+    (λ c. search needs)
+    (λ c. search needs)
+    (λ c. search needs)
+    (λ c. search needs)
+    (λ c. search needs)
+    (λ c κs. search needs)
+    (λ c. search needs)
+    (λ c. search needs)
     returns
     returns-2)

@@ -8,47 +8,14 @@ use Rattle.messages.proofs.nikobus.linked.Tie as tie
 byte-at-requires : tie.Need-byte-at-requires
 byte-at-requires c κs = some-digits (c .before .pre)
 
-is-one-of-requires : tie.Need-is-one-of-requires
-is-one-of-requires c κs = search needs
-
-group-of-requires : tie.Need-group-of-requires
-group-of-requires c κs = search needs
-
-word-at-requires : tie.Need-word-at-requires
-word-at-requires c κs = search needs
-
 returns : tie.Need-returns
 returns c = said-read (c .before .before .before .before .before .before .before .pre) (c .before .before .before .before .if1 .taken) (c .before .before .before .before .before .byte-at .ensures) (c .before .before .before .is-one-of .ensures) (c .before .before .if2 .taken) (c .before .group-of .ensures) (c .word-at .ensures)
 
 returns-2 : tie.Need-returns-2
 returns-2 c = said-no-read (c .before .before .before .before .before .pre) (c .before .before .if1 .taken) (c .before .before .before .byte-at .ensures) (c .before .is-one-of .ensures) (c .if2 .left)
 
-word-at-requires-2 : tie.Need-word-at-requires-2
-word-at-requires-2 c κs = search needs
-
-byte-at-requires-2 : tie.Need-byte-at-requires-2
-byte-at-requires-2 c κs = search needs
-
-six-at-requires : tie.Need-six-at-requires
-six-at-requires c κs = search needs
-
 returns-3 : tie.Need-returns-3
 returns-3 c = said-answer (c .before .before .before .before .before .before .before .pre) (c .six-at .result) (c .before .before .before .if3 .taken) (c .before .before .word-at2 .ensures) (c .before .byte-at2 .ensures) (c .six-at .ensures)
-
-is-one-of-requires-2 : tie.Need-is-one-of-requires-2
-is-one-of-requires-2 c κs = search needs
-
-byte-at-requires-3 : tie.Need-byte-at-requires-3
-byte-at-requires-3 c κs = search needs
-
-group-of-requires-2 : tie.Need-group-of-requires-2
-group-of-requires-2 c κs = search needs
-
-word-at-requires-3 : tie.Need-word-at-requires-3
-word-at-requires-3 c κs = search needs
-
-six-at-requires-2 : tie.Need-six-at-requires-2
-six-at-requires-2 c κs = search needs
 
 returns-4 : tie.Need-returns-4
 returns-4 c = said-set (c .before .before .before .before .before .before .before .before .before .before .before .before .pre) (c .six-at2 .result) (c .before .before .before .before .before .before .before .if4 .taken) (c .before .before .before .before .before .before .before .before .before .before .byte-at .ensures) (c .before .before .before .before .before .before .is-one-of2 .ensures) (c .before .before .before .before .before .if5 .taken) (c .before .before .before .before .byte-at3 .ensures) (c .before .before .before .if6 .taken) (c .before .before .group-of2 .ensures) (c .before .word-at3 .ensures) (c .six-at2 .ensures)
@@ -67,20 +34,20 @@ linked-spec =
     tie.close
     (tie.spec
     byte-at-requires
-    is-one-of-requires
-    group-of-requires
-    word-at-requires
+    (λ c κs. search needs)
+    (λ c κs. search needs)
+    (λ c κs. search needs)
     returns
     returns-2
-    word-at-requires-2
-    byte-at-requires-2
-    six-at-requires
+    (λ c κs. search needs)
+    (λ c κs. search needs)
+    (λ c κs. search needs)
     returns-3
-    is-one-of-requires-2
-    byte-at-requires-3
-    group-of-requires-2
-    word-at-requires-3
-    six-at-requires-2
+    (λ c κs. search needs)
+    (λ c κs. search needs)
+    (λ c κs. search needs)
+    (λ c κs. search needs)
+    (λ c κs. search needs)
     returns-4
     returns-5
     returns-6

@@ -6,17 +6,8 @@ use borrow.Author.Needs.{needs}
 use Rattle.messages.proofs.words.word.Statement.{statement}
 use Rattle.messages.proofs.words.word.Tie as tie
 
-shared-slice-read-result : tie.Need-shared-slice-read-result
-shared-slice-read-result c = search needs
-
 cast-result : tie.Need-cast-result
 cast-result c = omega (arith, c .shared-slice-known .given (c .before .args .at) .fits)
-
-add-result : tie.Need-add-result
-add-result c = search needs
-
-shared-slice-read-result-2 : tie.Need-shared-slice-read-result-2
-shared-slice-read-result-2 c = search needs
 
 cast-result-2 : tie.Need-cast-result-2
 cast-result-2 c = omega (arith, c .shared-slice-known2 .given (c .before .before .args .at + 1) .fits)
@@ -29,18 +20,15 @@ add-result-2 c =
     let s = c .before .before in
     omega (arith, c .before .shared-slice-known .given (s .args .at) .fits, c .shared-slice-known2 .given (s .args .at + 1) .fits)
 
-returns : tie.Need-returns
-returns c = search needs
-
 pub word-spec : {M : Type 1} → statement M
 word-spec =
     tie.close
     (tie.spec
-    shared-slice-read-result
+    (λ c. search needs)
     cast-result
-    add-result
-    shared-slice-read-result-2
+    (λ c. search needs)
+    (λ c. search needs)
     cast-result-2
     mul-result
     add-result-2
-    returns)
+    (λ c. search needs))

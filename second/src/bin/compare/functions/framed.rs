@@ -1,6 +1,6 @@
-//! The functions on frames, messages, commands and lines.
+//! The functions on frames in bytes: built, searched, decoded and listed.
 
-use super::{any_kind, at, bytes, function, number, of_length, room, words, Function};
+use super::{any_kind, at, function, number, of_length, room, words, Function};
 use crate::arguments::{self, hex};
 use crate::captures;
 use crate::contents::{self, HEX};
@@ -8,35 +8,9 @@ use crate::damages;
 use crate::frames::KINDS;
 use crate::messages;
 use crate::random::Random;
-use crate::rows::{Row, ROWS};
+use crate::rows::ROWS;
 
-pub fn layouts() -> Vec<Function> {
-    let answers = ["ok", "ok 0 0 0"];
-    vec![
-        function("layouts::nikobus::frame", 8, &answers, |r| {
-            words([hex(&at_the_head(1, r))])
-        }),
-        function("layouts::nest::frame", 8, &answers, |r| {
-            let kind = r.pick(&[2, 3]);
-            words([direction(kind, r), hex(&at_the_head(kind, r))])
-        }),
-        function("layouts::nibe::frame", 8, &answers, |r| {
-            words([hex(&at_the_head(4, r))])
-        }),
-        function("layouts::homiq::frame", 8, &answers, |r| {
-            words([hex(&at_the_head(5, r))])
-        }),
-        function("layouts::homiq::crc", 3, &["ok"], |r| {
-            words([if r.one_in(3) {
-                bytes(r)
-            } else {
-                hex(&contents::homiq(r))
-            }])
-        }),
-    ]
-}
-
-fn direction(kind: u8, random: &mut Random) -> String {
+pub fn direction(kind: u8, random: &mut Random) -> String {
     let right = if kind == 2 { "command" } else { "response" };
     let word = if random.one_in(8) {
         random.pick(&["command", "response"])
@@ -47,7 +21,7 @@ fn direction(kind: u8, random: &mut Random) -> String {
 }
 
 /// A frame, mostly good, and what may follow it.
-fn at_the_head(kind: u8, random: &mut Random) -> Vec<u8> {
+pub fn at_the_head(kind: u8, random: &mut Random) -> Vec<u8> {
     let mut bytes = one_frame(kind, random);
     if random.one_in(2) {
         bytes.extend(captures::short(kind, random));
@@ -85,13 +59,7 @@ pub fn builds() -> Vec<Function> {
             words([hex(&payload), room()])
         }),
         function("builds::nikobus::press", 5, &answers, |r| {
-            let count = if r.one_in(6) { r.below(9) } else { 6 };
-            let alphabet = if r.one_in(5) {
-                b"0123456789ABCDEFabcdefG:@/"
-            } else {
-                HEX
-            };
-            words([hex(&r.bytes_of(alphabet, count)), room()])
+            words([hex(&nearly_press(r)), room()])
         }),
         function("builds::nikobus::tail", 2, &["ok", "refused 4"], |_| {
             words([room()])
@@ -129,7 +97,18 @@ pub fn builds() -> Vec<Function> {
     ]
 }
 
-fn homiq_payload(random: &mut Random) -> Vec<u8> {
+/// The digits of a press, or other characters, or more or fewer.
+pub fn nearly_press(random: &mut Random) -> Vec<u8> {
+    let count = if random.one_in(6) { random.below(9) } else { 6 };
+    let alphabet = if random.one_in(5) {
+        b"0123456789ABCDEFabcdefG:@/"
+    } else {
+        HEX
+    };
+    random.bytes_of(alphabet, count)
+}
+
+pub fn homiq_payload(random: &mut Random) -> Vec<u8> {
     match random.below(8) {
         0 | 1 => damages::homiq_limits(random),
         2 => {
@@ -139,7 +118,19 @@ fn homiq_payload(random: &mut Random) -> Vec<u8> {
             content
         }
         3 => contents::many(random, 0, 20),
+        4 => with_a_field_more(random),
         _ => contents::homiq(random),
+    }
+}
+
+/// CMD to TYPE with a `;`, or with a field behind or before them that is like one of theirs.
+fn with_a_field_more(random: &mut Random) -> Vec<u8> {
+    let content = contents::homiq(random);
+    let more = random.pick(&[";", ";s", ";a", "s", ";42", "I.3;", ";"]);
+    if random.one_in(3) {
+        [more.as_bytes(), &content].concat()
+    } else {
+        [&content, more.as_bytes()].concat()
     }
 }
 
@@ -162,6 +153,8 @@ fn searched(kind: u8, random: &mut Random) -> Vec<String> {
     ])
 }
 
+const KIND_NAMES: [&str; 5] = ["nikobus", "nest-command", "nest-response", "nibe", "homiq"];
+
 pub fn searches() -> Vec<Function> {
     let found = ["ok", "refused 2", "refused 3", "refused 1"];
     let by_kind = |kind: u8| {
@@ -173,6 +166,25 @@ pub fn searches() -> Vec<Function> {
         function("frames::kinds::known", 1, &["ok true", "ok false"], |r| {
             words([arguments::kind(any_kind(r), r)])
         }),
+        function(
+            "frames::kinds::of",
+            2,
+            &[
+                "ok nikobus",
+                "ok nest-command",
+                "ok nest-response",
+                "ok nibe",
+                "ok homiq",
+                "refused 2",
+            ],
+            |r| words([arguments::kind(any_kind(r), r)]),
+        ),
+        function(
+            "frames::kinds::number",
+            2,
+            &["ok 1", "ok 2", "ok 3", "ok 4", "ok 5"],
+            |r| words([r.pick(&KIND_NAMES).to_string()]),
+        ),
         function("frames::frame", 8, &["ok", "ok -"], |r| {
             searched(any_kind(r), r)
         }),
@@ -204,7 +216,6 @@ pub fn decoded() -> Vec<Function> {
         .collect();
     vec![
         function("messages::decode", 30, &answers, of_one_frame),
-        function("messages::message_in", 16, &answers, of_one_frame),
         function("messages::content", 8, &["ok", "ok -"], of_one_frame),
         function(
             "messages::nest::for_panel",
@@ -237,35 +248,6 @@ pub fn decoded() -> Vec<Function> {
     ]
 }
 
-pub fn commands() -> Vec<Function> {
-    let encode = |row: &'static Row| {
-        let mut answers = vec!["ok", "refused 2", "refused 5", "refused 4"];
-        answers.extend(row.has_width().then_some("refused 7"));
-        answers.extend(row.is_last().then_some("refused 6"));
-        let mut function = function("commands::encode", 4, &answers, |r| encoded(row, r));
-        function.test += &format!(", {}", row.name);
-        function
-    };
-    let acknowledge = function(
-        "commands::acknowledge",
-        14,
-        &["ok", "refused 5", "refused 4"],
-        |r| words([hex(&one_frame(5, r)), room()]),
-    );
-    ROWS.iter().map(encode).chain([acknowledge]).collect()
-}
-
-fn encoded(row: &Row, random: &mut Random) -> Vec<String> {
-    let kind = arguments::kind(row.kind, random);
-    let message = messages::message(row.name, random);
-    [
-        vec![kind],
-        message.words,
-        vec![hex(&message.content), room()],
-    ]
-    .concat()
-}
-
 pub fn lines() -> Vec<Function> {
     vec![
         function(
@@ -284,15 +266,6 @@ pub fn lines() -> Vec<Function> {
             |r| {
                 let [kind, capture, place] = searched(any_kind(r), r).try_into().unwrap();
                 words([kind, capture, place, room(), at()])
-            },
-        ),
-        function(
-            "lines::tested",
-            14,
-            &["ok", "refused 2", "refused 5"],
-            |r| {
-                let [kind, frame] = of_one_frame(r).try_into().unwrap();
-                words([kind, frame, number(64, r), room(), at()])
             },
         ),
         function("list::write", 14, &["ok", "refused 4"], |r| {

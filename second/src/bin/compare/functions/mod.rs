@@ -2,6 +2,8 @@
 
 mod framed;
 mod kept;
+mod layouts;
+mod table;
 mod values;
 
 use crate::arguments::{self, hex};
@@ -34,11 +36,14 @@ pub fn all() -> Vec<Function> {
         values::puts(),
         values::numbers(),
         values::json(),
-        framed::layouts(),
+        layouts::layouts(),
+        layouts::tests(),
         framed::builds(),
         framed::searches(),
         framed::decoded(),
-        framed::commands(),
+        table::meant(),
+        table::standing(),
+        table::commands(),
         framed::lines(),
         kept::book(),
     ]

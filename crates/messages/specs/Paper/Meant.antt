@@ -1,0 +1,78 @@
+-- The promises of the functions that answer the message of a content, from the content's parts.
+-- Assumes nothing.
+use mathlib.Core.List.{List}
+use mathlib.Core.Option.{Option, none, some}
+use mathlib.Core.Path.{_≡_}
+use Prim.Native.Nat.{ℕ}
+use Rattle.digits.specs.Paper.Hex.{hexBytes}
+use Rattle.digits.specs.Paper.Refusals.{refusalNumber, Answers}
+use Rattle.layouts.specs.Paper.Made.{Wire, Payload}
+use Rattle.layouts.specs.declared.nest.Direction.{Direction}
+use Rattle.layouts.specs.declared.nest.Direction.the-variants.{Command, Response}
+use Rattle.messages.specs.Paper.Content.{Content, payloadIn}
+use Rattle.messages.specs.Paper.Content as content
+use Rattle.messages.specs.Paper.Message.{Message}
+use Rattle.messages.specs.Paper.Says.{Says}
+use Rattle.messages.specs.Paper.Table.{contentOf, Good}
+use Rattle.messages.specs.declared.Meant.{Meant}
+use Rattle.messages.specs.declared.Meant.the-variants.{Is, Refused}
+use Rattle.messages.specs.declared.Message.{Message as Coded}
+
+-- ---- the content that parts are
+
+-- a link with these digits
+pub record LinkWith (d : List ℕ) (c : Content) : Type 0 where
+  pub payload : List ℕ
+  pub is : c ≡ content.link payload
+  pub digits : d ≡ hexBytes payload
+
+-- a press with these digits
+abbrev pub PressWith : List ℕ → Content → Type 0
+PressWith d c = c ≡ content.press d
+
+-- a Nest record of this direction, with this id and payload
+abbrev pub nestWith : Direction → ℕ → List ℕ → Content
+nestWith Command i p = content.command i p
+nestWith Response i p = content.response i p
+
+abbrev pub NestWith : Direction → ℕ → List ℕ → Content → Type 0
+NestWith direction i p c = c ≡ nestWith direction i p
+
+-- Nibe's command with these data
+abbrev pub NibeWith : ℕ → List ℕ → Content → Type 0
+NibeWith command d c = c ≡ content.nibe command d
+
+-- the six Homiq fields with this payload
+pub record HomiqWith (p : List ℕ) (c : Content) : Type 0 where
+  pub wire : Wire
+  pub is : c ≡ content.homiq wire
+  pub payload : Payload p wire
+
+-- ---- its message
+
+-- 5: "a field .. outside its limits": no message of the table has that content
+pub data MeantCause (With : Content → Type 0) : ℕ → Type 0 where
+  no-message : ((m : Message) → Good m → With (contentOf m) → ⊥) → MeantCause With 5
+
+-- e is the message of the table with that content
+pub record MessageWith (With : Content → Type 0) (e : Coded) : Type 0 where
+  pub message : Message
+  pub good : Good message
+  pub content : With (contentOf message)
+  pub says : Says e (payloadIn (contentOf message)) message
+
+-- the refusal number and the value of an answer: its message; of a refusal none
+abbrev pub noneMeant : Option Coded
+noneMeant = none
+
+abbrev pub meantNumber : Meant → ℕ
+meantNumber (Is e) = 0
+meantNumber (Refused why) = refusalNumber why
+
+abbrev pub meantValue : Meant → Option Coded
+meantValue (Is e) = some e
+meantValue (Refused why) = noneMeant
+
+-- r is the right answer
+abbrev pub Means : (Content → Type 0) → Meant → Type 0
+Means With r = Answers noneMeant (MeantCause With) (λ v. (e : Coded) × (v ≡ some e) × MessageWith With e) (meantNumber r) (meantValue r)
