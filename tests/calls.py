@@ -37,6 +37,11 @@ def message(name, fields):
     return [name, *(map(bool, values) if name == "done" else values)]
 
 
+def tag(name, fields):
+    """A content's tag, as words of their own: a press's digits are no field of it, but its payload."""
+    return [name] if name == "press" else message(name, fields)
+
+
 def request(function, *arguments):
     return " ".join([function, *map(word, arguments)])
 

@@ -466,9 +466,21 @@ NO_REQUESTS = [
     # a message without what stands beside it
     "messages::allowed tail",
     "lines::of tail 0 4 40 0",
+    # a content without its payload; a tag that is none, or without what it has, or with more than its type holds
+    "messages::of tail",
+    "lines::of_content tail 0 4 40 0",
+    "messages::of Tail -",
+    "messages::of input 492E333B313B30483B303B34323B73",
+    "messages::of read 1 18183 -",
+    "messages::of command 42524B",
+    "messages::of response 65536 42524B",
+    "messages::of nibe 256 449C",
+    "messages::of link 6 110000",
     # functions that there were
     "messages::message_in 4 C06902640066",
     "lines::tested 4 C06902640066 0 80 0",
+    "messages::nikobus::of_press 344543423141",
+    "messages::nest::of response 1 42524B",
 ]
 
 

@@ -28,9 +28,9 @@ paper.value = functools.lru_cache(maxsize=None)(paper.value)
 
 class Case(NamedTuple):
     test: str
-    asked: str  # decode, encode, acknowledge, field, voltages, pair, meant, payload, allowed or line
+    asked: str  # decode, encode, acknowledge, field, voltages, pair, meant, content line, payload, allowed or line
     kind: int = 0
-    name: str = "read"
+    name: str = "read"  # a message's, or a tag's where a content is asked of
     fields: dict = {}
     content: bytes = b""
     room: int = 0
@@ -57,20 +57,6 @@ def shown(climate):
     return "single", climate["temperature"], "single", climate["humidity"]
 
 
-def meant(kind, fields, content):
-    """The message of a content, without a frame around it; six digits are also a press's."""
-    if kind == 1:
-        yield request("messages::nikobus::of_link", content), told(table.of_link(content))
-        yield request("messages::nikobus::of_press", content), told(table.of_press(content))
-    elif kind in (2, 3):
-        direction, number = {2: "command", 3: "response"}[kind], fields["id"]
-        yield request("messages::nest::of", direction, number, content), told(table.of_nest(kind, number, content))
-    elif kind == 4:
-        yield request("messages::nibe::of", fields["command"], content), told(table.of_nibe(fields["command"], content))
-    else:
-        yield request("messages::homiq::of", content), told(table.of_homiq(content))
-
-
 def told(found):
     """The answer that is a message, or a refusal's number."""
     return answer(found if isinstance(found, int) else calls.message(*found))
@@ -80,6 +66,16 @@ def line_made(name, fields, content, at, length):
     """A message's line; 5 where it is none of the table, whatever the cause."""
     if table.allowed(name, fields, content) != ():
         return 5
+    return line_of(name, fields, content, at, length)
+
+
+def content_line(tag, fields, payload, at, length):
+    """The line of a content's message, or the refusal's number."""
+    found = table.of(tag, fields, payload)
+    return found if isinstance(found, int) else line_of(*found, payload, at, length)
+
+
+def line_of(name, fields, content, at, length):
     return lines.text(name, fields, content, at, length).encode("ascii") + b"\n"
 
 
@@ -99,7 +95,10 @@ def pairs(case):
     elif asked == "voltages":
         yield request("messages::nest::voltages", content), answer(table.voltages(content))
     elif asked == "meant":
-        yield from meant(kind, fields, content)
+        yield request("messages::of", *calls.tag(name, fields), content), told(table.of(name, fields, content))
+    elif asked == "content line":
+        made = content_line(name, fields, content, at, length)
+        yield request("lines::of_content", *calls.tag(name, fields), content, at, length, room, to), in_room(made, room, to)
     elif asked == "payload":
         yield request("layouts::homiq::is_payload", content), answer((paper.is_payload(content),))
     elif asked == "allowed":
@@ -326,24 +325,35 @@ def encode_cases(name, fields, content):
 FAR = 2**64 - 1
 
 
-def standing_cases(name, fields, content):
-    """Whether it is allowed; and its line into a room with just as many bytes left, one fewer, more, none, and a place beyond the room."""
-    kind, given = table.KINDS[name], (name, fields, content)
-    yield Case("allowed " + name, "allowed", kind, *given)
+def line_cases(test, asked, made, name, fields, content):
+    """A line into a room with just as many bytes left, one fewer, more, none, and a place beyond the room."""
     at, length = (0, FAR, 65535)[len(content) % 3], (0, 16, FAR)[len(content) % 3]
-    made = line_made(*given, at, length)
-    n = len(made) if isinstance(made, bytes) else 64
+    line = made(name, fields, content, at, length)
+    n = len(line) if isinstance(line, bytes) else 64
     for room, to in ((n, 0), (n + 3, 3), (n + 9, 4), (n - 1, 0), (n + 2, 3), (0, 0), (n, n), (n, n + 1), (n, FAR)):
-        yield Case("line of " + name, "line", kind, *given, room, to, at, length)
+        yield Case(test, asked, table.KINDS[name], name, fields, content, room, to, at, length)
+
+
+def standing_cases(name, fields, content):
+    """Whether it is allowed; and its line."""
+    yield Case("allowed " + name, "allowed", table.KINDS[name], name, fields, content)
+    yield from line_cases("line of " + name, "line", line_made, name, fields, content)
+
+
+# the tags that the content of a row is asked with: Nest's in both directions, digits as a link's and as a press's
+ASKED_WITH = {
+    **{name: ("command", "response") for name in ("command", "text", "response")},
+    **{name: ("link", "press") for name in ("link", "press")},
+    **{name: (name,) for name in ("tail", "nibe", "homiq")},
+}
 
 
 def content_cases(name, fields, content):
-    """The message that the content of a row with one is; a Nest payload's in both directions."""
-    kind = table.KINDS[name]
-    for other in (2, 3) if name in ("command", "text", "response") else (kind,) if name in table.LAST else ():
-        yield Case("meant, kind %d" % other, "meant", other, name, fields, content)
-    if name == "press":
-        yield Case("meant, a press", "meant", kind, name, fields, fields["digits"])
+    """The message that the content of a row is, and its line."""
+    payload = fields["digits"] if name == "press" else content
+    for tag in ASKED_WITH.get(name, ()):
+        yield Case("meant, " + tag, "meant", table.KINDS[tag], tag, fields, payload)
+        yield from line_cases("line of a content, " + tag, "content line", content_line, tag, fields, payload)
     if name == "homiq":
         yield Case("is_payload", "payload", content=content)
 
@@ -546,7 +556,7 @@ def known():
     yield table.encode(4, "ask", {"register": 40004}, b"") == paper.ASK_E
     yield table.decode(5, paper.HOMIQ_G)[0] == "input" and table.decode(5, paper.HOMIQ_G.replace(b"134", b"143")) == 5
     yield table.acknowledge(paper.HOMIQ_G) == paper.HOMIQ_H and table.acknowledge(paper.HOMIQ_H) == 5
-    yield table.of_link(b"110000") == ("link", {}) and table.of_link(b"120747") == ("read", {"group": 1, "address": 0x4707})
+    yield table.of("link", {}, b"110000") == ("link", {}) and table.of("link", {}, b"120747") == ("read", {"group": 1, "address": 0x4707})
     yield line_made("command", {"id": 255}, b"", 0, 9) == b'{"at":0,"len":9,"msg":"command","id":255,"data":""}\n'
 
 
@@ -559,12 +569,12 @@ def reached(cases, exchanges):
     yield {no for what, no in refused if what == "encode"} == set("24567")
     yield {no for what, no in refused if what == "acknowledge"} == set("45")
     yield {name for what, name, told in seen if (what, told) == ("encode", "refused 6")} == table.LAST
-    for what, refusals in (("allowed", "56"), ("line", "45")):
-        yield {name for asked, name, told in seen if asked == what and told.startswith("ok")} == set(table.NAMES)
+    for what, refusals, names in (("allowed", "56", table.NAMES), ("line", "45", table.NAMES), ("content line", "45", table.TAGS)):
+        yield {name for asked, name, told in seen if asked == what and told.startswith("ok")} == set(names)
         yield {no for asked, no in refused if asked == what} == set(refusals)
     yield {name for what, name, told in seen if (what, told) == ("allowed", "refused 6")} == table.LAST
     meanings = {" ".join(right.split(" ")[:2]) for case, exchange in zip(cases, exchanges) if case.asked == "meant" for _, right in exchange}
-    yield meanings == {*("ok " + name for name in table.NAMES if name != "tail"), "refused 5"}
+    yield meanings == {*("ok " + name for name in table.NAMES), "refused 5"}
     yield {right for case, ((_, right), *_) in zip(cases, exchanges) if case.asked == "payload"} == {"ok true", "ok false"}
 
 

@@ -19,6 +19,8 @@ NAMES = [name for names in OF_KIND.values() for name in names]
 KINDS = {name: kind for kind, names in OF_KIND.items() for name in names}
 # what "may not be encoded with a content that a message above them in the table has"
 LAST = {"link", "text", "response", "nibe", "homiq"}
+# the tags of contents; each has the kind, and but for a press the fields, of the row of its name
+TAGS = ("link", "press", "tail", "command", "response", "nibe", "homiq")
 TEXTS = (0x0001, 0x0018, 0x0019)
 DIGITS = re.compile(rb"(?:[0-9A-F]{2}){1,122}")
 SIX_DIGITS = re.compile(rb"[0-9A-F]{6}")
@@ -165,29 +167,10 @@ def first_row(kind, made):
     return next((name, fields) for name, fields in rows if fields is not None)
 
 
-def of_link(digits):
-    return row_or_refused(1, MAKE["link"]({}, digits))
-
-
-def of_press(digits):
-    return row_or_refused(1, MAKE["press"]({"digits": digits}, b""))
-
-
-def of_nest(kind, number, payload):
-    return row_or_refused(kind, nest_parts(number, payload))
-
-
-def of_nibe(command, data):
-    return row_or_refused(4, MAKE["nibe"]({"command": command}, data))
-
-
-def of_homiq(content):
-    return row_or_refused(5, homiq_parts({}, content))
-
-
-def row_or_refused(kind, made):
-    """The name and the fields of the row that has these parts; 5 where there are none."""
-    return 5 if made is None else first_row(kind, made)
+def of(tag, fields, payload):
+    """The name and the fields of the message of a content; 5 where something is outside its limits. A press's digits are its payload."""
+    made = MAKE[tag]({"digits": payload} if tag == "press" else fields, payload)
+    return 5 if made is None else first_row(KINDS[tag], made)
 
 
 def decode(kind, s):

@@ -418,14 +418,7 @@ fn in_messages(function: &str, words: &mut Words) -> Option<Answer> {
             let head = frames::one_frame(kind, &bytes);
             part(head.map(|head| &bytes[head.begins..head.ends]))
         }
-        "nikobus::of_link" => means(messages::of_link(&words.bytes()?)),
-        "nikobus::of_press" => means(messages::of_press(&words.bytes()?)),
-        "nest::of" => {
-            let (preamble, id) = (words.direction()?, words.number()?);
-            means(messages::of_nest(preamble, id, &words.bytes()?))
-        }
-        "nibe::of" => means(messages::of_nibe(words.number()?, &words.bytes()?)),
-        "homiq::of" => means(messages::of_homiq(&words.bytes()?)),
+        "of" => means(messages::of(words.tag()?, &words.bytes()?)),
         "allowed" => passes(messages::allowed(&words.message()?, &words.bytes()?)),
         "nest::for_panel" => for_panel(&words.message()?),
         "nest::voltages" => {
@@ -500,11 +493,21 @@ fn in_lines(function: &str, words: &mut Words) -> Option<Answer> {
         "of" => {
             let (message, content) = (words.message()?, words.bytes()?);
             let line = lines::of(&message, &content, words.number()?, words.number()?);
-            let room = words.room()?;
-            writes_at(room, words.number()?, line)
+            in_room_at(line, words)
+        }
+        "of_content" => {
+            let (tag, payload) = (words.tag()?, words.bytes()?);
+            let line = lines::of_content(tag, &payload, words.number()?, words.number()?);
+            in_room_at(line, words)
         }
         _ => None,
     }
+}
+
+/// Writes a line in the room that follows in the request, from the place that follows there on.
+fn in_room_at(line: Result<Vec<u8>, Refusal>, words: &mut Words) -> Option<Answer> {
+    let room = words.room()?;
+    writes_at(room, words.number()?, line)
 }
 
 fn in_book(function: &str, words: &mut Words) -> Option<Answer> {
@@ -574,8 +577,9 @@ mod tests {
             "lines::write",
             "lines::next",
             "lines::of",
+            "lines::of_content",
             "messages::allowed",
-            "messages::nest::of",
+            "messages::of",
             "frames::kinds::of",
             "book::open",
             "book::line",
@@ -606,6 +610,7 @@ mod tests {
             "340AC06902449CDA",
             "reply 1 2 3",
             "text 1",
+            "response 1",
             "state",
             "homiq",
         ];

@@ -69,6 +69,18 @@ pub enum Message {
     Homiq,
 }
 
+/// What a frame says beside its payload. The two together are its content, with the digits of a link or a press as the payload.
+#[derive(Clone, Copy, Debug, PartialEq, Eq)]
+pub enum Tag {
+    Link,
+    Press,
+    Tail,
+    Command { id: u16 },
+    Response { id: u16 },
+    Nibe { command: u8 },
+    Homiq,
+}
+
 const CLIMATE_ID: u16 = 0x0002;
 const STATE_ID: u16 = 0x000B;
 const BREAK_ID: u16 = 0x0001;
@@ -171,51 +183,41 @@ fn nikobus_message(frame: &[u8], payload: &[u8]) -> Result<Message, Refusal> {
     Ok(link_message(&bytes))
 }
 
-/// The message of a link with these digits: 5.
-pub fn of_link(digits: &[u8]) -> Result<Message, Refusal> {
-    match digits::bytes_of_hex(digits) {
-        Some(payload) if (1..=frames::MOST_LINK_BYTES).contains(&payload.len()) => {
-            Ok(link_message(&payload))
+/// The message of a content: 5. A tail takes nothing from the payload.
+pub fn of(tag: Tag, payload: &[u8]) -> Result<Message, Refusal> {
+    let message = match tag {
+        Tag::Link => of_link(payload),
+        Tag::Press => of_press(payload),
+        Tag::Tail => Some(Message::Tail),
+        Tag::Command { id } => nest_within(payload).then(|| Message::Command { id }),
+        Tag::Response { id } => nest_within(payload).then(|| response_message(id, payload)),
+        Tag::Nibe { command } => {
+            nibe_within(command, payload).then(|| nibe_message(command, payload))
         }
-        _ => Err(Refusal::Limits),
-    }
+        Tag::Homiq => frames::homiq_content(payload).then(|| homiq_message(payload)),
+    };
+    message.ok_or(Refusal::Limits)
 }
 
-/// The message of a press with these digits: 5.
-pub fn of_press(digits: &[u8]) -> Result<Message, Refusal> {
-    match <[u8; 6]>::try_from(digits) {
-        Ok(digits) if digits::all_hex(&digits) => Ok(Message::Press { digits }),
-        _ => Err(Refusal::Limits),
-    }
+/// None where the digits are not those of so many bytes as a link has.
+fn of_link(digits: &[u8]) -> Option<Message> {
+    let payload = digits::bytes_of_hex(digits)?;
+    let within = (1..=frames::MOST_LINK_BYTES).contains(&payload.len());
+    within.then(|| link_message(&payload))
 }
 
-/// The message of a Nest command or response; the preamble says which: 5.
-pub fn of_nest(preamble: &[u8], id: u16, payload: &[u8]) -> Result<Message, Refusal> {
-    if payload.len() > frames::MOST_NEST_PAYLOAD {
-        Err(Refusal::Limits)
-    } else if preamble == frames::COMMAND_PREAMBLE {
-        Ok(Message::Command { id })
-    } else {
-        Ok(response_message(id, payload))
-    }
+/// None where they are not six digits.
+fn of_press(digits: &[u8]) -> Option<Message> {
+    let digits = <[u8; 6]>::try_from(digits).ok()?;
+    digits::all_hex(&digits).then_some(Message::Press { digits })
 }
 
-/// The message of a Nibe command with these data: 5.
-pub fn of_nibe(command: u8, data: &[u8]) -> Result<Message, Refusal> {
-    if frames::NIBE_COMMANDS.contains(&command) && data.len() <= frames::MOST_NIBE_DATA {
-        Ok(nibe_message(command, data))
-    } else {
-        Err(Refusal::Limits)
-    }
+fn nest_within(payload: &[u8]) -> bool {
+    payload.len() <= frames::MOST_NEST_PAYLOAD
 }
 
-/// The message of CMD to TYPE: 5.
-pub fn of_homiq(content: &[u8]) -> Result<Message, Refusal> {
-    if frames::homiq_content(content) {
-        Ok(homiq_message(content))
-    } else {
-        Err(Refusal::Limits)
-    }
+fn nibe_within(command: u8, data: &[u8]) -> bool {
+    frames::NIBE_COMMANDS.contains(&command) && data.len() <= frames::MOST_NIBE_DATA
 }
 
 /// The message of a link's payload, as bytes.

@@ -2,7 +2,7 @@
 
 use crate::digits;
 use crate::frames;
-use crate::messages::Message;
+use crate::messages::{Message, Tag};
 use crate::refusal::Refusal;
 
 pub const MOST_LINE: usize = 300_000;
@@ -108,6 +108,23 @@ impl<'a> Words<'a> {
             b"3" => Some(3),
             _ => None,
         }
+    }
+
+    /// A content's tag: its name, then its field.
+    pub fn tag(&mut self) -> Option<Tag> {
+        let tag = match self.word()? {
+            b"link" => Tag::Link,
+            b"press" => Tag::Press,
+            b"tail" => Tag::Tail,
+            b"command" => Tag::Command { id: self.number()? },
+            b"response" => Tag::Response { id: self.number()? },
+            b"nibe" => Tag::Nibe {
+                command: self.number()?,
+            },
+            b"homiq" => Tag::Homiq,
+            _ => return None,
+        };
+        Some(tag)
     }
 
     /// A message: its name, then its fields.

@@ -2,7 +2,8 @@
 use super::contents;
 use super::layout;
 use digits::refusal::Refusal;
-use messages::Meant;
+use frames::kinds;
+use frames::kinds::Resolved;
 use puts::Written;
 ghost use mathlib.Core.Path.{_≡_};
 ghost use Prim.Native.Nat.{_-_};
@@ -88,7 +89,7 @@ fn place_for(aim: Aim, bytes: usize) -> usize
 }
 
 // Puts the line of one frame, which stands at `at` of the book and whose payload goes from the one place to the other, at a place of a
-// room that has room for it there. Answers how long it is: neither the message nor its line is ever refused.
+// room that has room for it there. Answers how long it is: the frame was tested, so its kind is known, and its line is never refused.
 fn put_line(
     kind: u8,
     frame: &[u8],
@@ -102,10 +103,12 @@ fn put_line(
     requires { ⌜ RoomFor kind (now frame) at (length (now room) - to) ⌝ }
     ensures { λ r. ⌜ PutsOne kind (now (frame .entry)) at (now (room .entry)) (now (room .exit)) to r ⌝ }
 {
-    let payload = &frame[start..stop];
-    match contents::message(kind, frame, payload) {
-        Meant::Is(message) => { bytes_in(lines::of(message, payload, at, frame.len(), room, to)) }
-        Meant::Refused(why) => 0,
+    match kinds::of(kind) {
+        Resolved::Is(known) => {
+            let tag = contents::tag(known, frame);
+            bytes_in(lines::of_content(tag, &frame[start..stop], at, frame.len(), room, to))
+        }
+        Resolved::Unknown => 0,
     }
 }
 

@@ -17,6 +17,7 @@ pub(crate) fn read(line: &[u8], values: &mut [u64; 16], store: &mut [u8]) -> usi
         lines::write u8 bytes usize room\n\
         lines::next u8 bytes usize room usize\n\
         lines::of Message bytes usize usize room usize\n\
+        lines::of_content Tag bytes usize usize room usize\n\
         book::open bytes\n\
         book::entry bytes usize\n\
         book::frame bytes usize\n\
@@ -31,18 +32,18 @@ pub(crate) fn read(line: &[u8], values: &mut [u64; 16], store: &mut [u8]) -> usi
 }
 
 pub(crate) fn call(row: usize, values: &[u64; 16], store: &[u8], room: &mut [u8]) -> Answer {
-    if row < 4 {
+    if row < 5 {
         return of_line(row, values, store, room);
     }
     let s = value::bytes(store, values[0], values[1]);
     let number = value::place(values[2]);
     match row {
-        4 => opened(book::open(s)),
-        5 => kept(book::entry(s, number)),
-        6 => put(book::frame(s, number), room),
-        7 => written(book::line(s, number, room)),
-        8 => written(book::list(s, room)),
-        9 => written(book::add(
+        5 => opened(book::open(s)),
+        6 => kept(book::entry(s, number)),
+        7 => put(book::frame(s, number), room),
+        8 => written(book::line(s, number, room)),
+        9 => written(book::list(s, room)),
+        10 => written(book::add(
             s,
             value::small(values[2]),
             value::bytes(store, values[3], values[4]),
@@ -59,13 +60,27 @@ fn of_line(row: usize, values: &[u64; 16], store: &[u8], room: &mut [u8]) -> Ans
     match row {
         1 => written(lines::write(kind, s, at, room)),
         2 => listed(lines::next(kind, s, at, room, value::place(values[4]))),
-        _ => written(line_of(values, store, room)),
+        3 => written(line_of(values, store, room)),
+        _ => written(line_of_content(values, store, room)),
     }
 }
 
+// The line of a message.
 fn line_of(values: &[u64; 16], store: &[u8], room: &mut [u8]) -> Written {
     lines::of(
         message::of(values, store),
+        value::bytes(store, values[8], values[9]),
+        value::place(values[10]),
+        value::place(values[11]),
+        room,
+        value::place(values[12]),
+    )
+}
+
+// The line of a content, of which a request has no message.
+fn line_of_content(values: &[u64; 16], store: &[u8], room: &mut [u8]) -> Written {
+    lines::of_content(
+        message::tag(values),
         value::bytes(store, values[8], values[9]),
         value::place(values[10]),
         value::place(values[11]),

@@ -1,10 +1,11 @@
-// Messages, out of a request's values and into an answer.
+// Messages, out of a request's values and into an answer, and the tags of contents, out of a request's values.
 use super::answer;
 use super::answer::Answer;
 use super::answer::nothing;
 use super::answer::plain;
 use super::value;
 use messages::Message;
+use messages::Tag;
 use messages::homiq::Homiq;
 use messages::nest::Response;
 use messages::nibe::Nibe;
@@ -133,6 +134,25 @@ fn homiq(row: u64) -> Homiq {
         21 => Homiq::Shutter,
         22 => Homiq::Beat,
         _ => Homiq::Homiq,
+    }
+}
+
+// The tag whose row and field stand in slots 1 and 2; a row is its number in the table of request.rt.
+pub(crate) fn tag(values: &[u64; 16]) -> Tag {
+    match values[1] {
+        1 => Tag::Link,
+        2 => Tag::Press,
+        3 => Tag::Tail,
+        4 => Tag::Command {
+            id: value::word(values[2]),
+        },
+        5 => Tag::Response {
+            id: value::word(values[2]),
+        },
+        6 => Tag::Nibe {
+            command: value::small(values[2]),
+        },
+        _ => Tag::Homiq,
     }
 }
 

@@ -2,7 +2,6 @@
 use super::answer;
 use super::answer::Answer;
 use super::digit_calls::put;
-use super::layout_calls::direction;
 use super::message;
 use super::put_calls::written;
 use super::request;
@@ -15,8 +14,6 @@ use messages::homiq;
 use messages::nest;
 use messages::nest::Pair;
 use messages::nest::Volts;
-use messages::nibe;
-use messages::nikobus;
 
 pub(crate) fn read(line: &[u8], values: &mut [u64; 16], store: &mut [u8]) -> usize {
     request::read(
@@ -24,11 +21,7 @@ pub(crate) fn read(line: &[u8], values: &mut [u64; 16], store: &mut [u8]) -> usi
         messages::decode u8 bytes\n\
         messages::find u8 bytes usize\n\
         messages::content u8 bytes\n\
-        messages::nikobus::of_link bytes\n\
-        messages::nikobus::of_press bytes\n\
-        messages::homiq::of bytes\n\
-        messages::nest::of Direction u16 bytes\n\
-        messages::nibe::of u8 bytes\n\
+        messages::of Tag bytes\n\
         messages::allowed Message bytes\n\
         messages::nest::for_panel Message\n\
         messages::nest::voltages bytes\n\
@@ -45,19 +38,20 @@ pub(crate) fn call(row: usize, values: &[u64; 16], store: &[u8], room: &mut [u8]
     if row < 4 {
         return in_frame(row, values, store, room);
     }
-    if row < 9 {
-        return meant(of_content(row, values, store));
-    }
     let s = value::bytes(store, values[0], values[1]);
     match row {
-        9 => standing(messages::allowed(
+        4 => meant(messages::of(
+            message::tag(values),
+            value::bytes(store, values[8], values[9]),
+        )),
+        5 => standing(messages::allowed(
             message::of(values, store),
             value::bytes(store, values[8], values[9]),
         )),
-        10 => for_panel(values),
-        11 => volts(nest::voltages(s)),
-        12 => put(homiq::field(s, value::place(values[2])), room),
-        13 => written(commands::encode(
+        6 => for_panel(values),
+        7 => volts(nest::voltages(s)),
+        8 => put(homiq::field(s, value::place(values[2])), room),
+        9 => written(commands::encode(
             value::small(values[0]),
             message::of(values, store),
             value::bytes(store, values[8], values[9]),
@@ -74,24 +68,6 @@ fn in_frame(row: usize, values: &[u64; 16], store: &[u8], room: &mut [u8]) -> An
         1 => decoded(messages::decode(kind, s)),
         2 => seen(messages::find(kind, s, value::place(values[3]))),
         _ => put(messages::content(kind, s), room),
-    }
-}
-
-fn of_content(row: usize, values: &[u64; 16], store: &[u8]) -> Meant {
-    let s = value::bytes(store, values[0], values[1]);
-    match row {
-        4 => nikobus::of_link(s),
-        5 => nikobus::of_press(s),
-        6 => homiq::of(s),
-        7 => nest::of(
-            direction(values[0]),
-            value::word(values[1]),
-            value::bytes(store, values[2], values[3]),
-        ),
-        _ => nibe::of(
-            value::small(values[0]),
-            value::bytes(store, values[1], values[2]),
-        ),
     }
 }
 

@@ -1,11 +1,12 @@
 // A request's arguments, read as the row of its function says: a row has the function's name and the types of its parameters.
 //
 // Each argument has a slot of the values, or two: a number is itself; bytes are the places in the store where they begin and end; a
-// message is its row, always in slot 1, and its fields, from slot 2 on, and what follows it stands from slot 8 on. A room's length is
-// slot 15, and slot 14 is 1 where one is lent and else 0.
+// message or a tag is its row, always in slot 1, and its fields, from slot 2 on, and what follows it stands from slot 8 on. A room's
+// length is slot 15, and slot 14 is 1 where one is lent and else 0.
 use super::table;
 use super::word;
 use super::word::Value;
+use digits::slices;
 ghost use Prim.Native.Nat.{_+_, _≤_, _<_};
 ghost use lib.ListN.{length};
 
@@ -37,7 +38,7 @@ pub(crate) fn read(rows: &[u8], line: &[u8], values: &mut [u64; 16], store: &mut
     number
 }
 
-// Reads the arguments of these types. Where they have a message, its name and fields stand there.
+// Reads the arguments of these types. Where they have a message or a tag, its name and fields stand there.
 fn arguments(
     types: &[u8],
     line: &[u8],
@@ -45,20 +46,49 @@ fn arguments(
     values: &mut [u64; 16],
     store: &mut [u8],
 ) -> Cursor {
-    let n = table::until(types, b'M');
-    if types.len() - n < 7 {
+    let n = first_named(types);
+    if types.len() <= n {
         return each(types, line, start, values, store);
     }
     if n == 0 {
         return wrong();
     }
-    let named = each(&types[0..n - 1], line, start, values, store);
-    let behind = fields(line, named, values, store);
-    each(&types[n + 7..], line, behind, values, store)
+    let before = each(&types[0..n - 1], line, start, values, store);
+    let rest = &types[n..];
+    let size = table::until(rest, b' ');
+    let read = named(&rest[0..size], line, before, values, store);
+    each(&rest[size..], line, read, values, store)
 }
 
-// Reads a message.
-fn fields(line: &[u8], c: Cursor, values: &mut [u64; 16], store: &mut [u8]) -> Cursor {
+// Where the first type begins whose values have a name, and fields behind it: `Message` or `Tag`. No other type has these letters.
+fn first_named(types: &[u8]) -> usize {
+    let message = table::until(types, b'M');
+    table::until(&types[0..message], b'T')
+}
+
+// Reads a message or a tag, as the type says.
+fn named(kind: &[u8], line: &[u8], c: Cursor, values: &mut [u64; 16], store: &mut [u8]) -> Cursor {
+    if slices::same(kind, b"Tag") {
+        return tag(line, c, values, store);
+    }
+    message(line, c, values, store)
+}
+
+// Reads a tag, by the rows of its names.
+fn tag(line: &[u8], c: Cursor, values: &mut [u64; 16], store: &mut [u8]) -> Cursor {
+    let rows = b"\
+        link\n\
+        press\n\
+        tail\n\
+        command u16\n\
+        response u16\n\
+        nibe u8\n\
+        homiq\n";
+    of_row(rows, line, c, values, store)
+}
+
+// Reads a message, by the rows of the table.
+fn message(line: &[u8], c: Cursor, values: &mut [u64; 16], store: &mut [u8]) -> Cursor {
     let rows = b"\
         read u8 u16\n\
         set u8 u16 six\n\

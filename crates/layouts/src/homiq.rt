@@ -6,35 +6,33 @@ use checks::homiq::Crc;
 ghost use mathlib.Core.Path.{_≡_};
 ghost use mathlib.Core.List.{[], _∷_};
 ghost use Prim.Native.Nat.{_≤_, _<_, _^_};
-ghost use lib.Dec.{T};
-ghost use lib.ListN.{length};
+ghost use lib.ListN.{length, take, drop};
 ghost use Rattle.digits.specs.Paper.Ascii.{ascii};
 ghost use Rattle.digits.specs.Paper.Decimal.{decimal};
 ghost use Rattle.digits.specs.Paper.Read.{Tells};
 ghost use Rattle.digits.specs.Work.Decimal.{guess};
 ghost use Rattle.checks.specs.Paper.Check.{feed, check};
 ghost use Rattle.checks.specs.Paper.Buses.{homiqCrc};
-ghost use Rattle.layouts.specs.Paper.Chars.{oneOf, all};
+ghost use Rattle.layouts.specs.Paper.Chars.{oneOf};
 ghost use Rattle.layouts.specs.Paper.Layout.{Leads};
 ghost use Rattle.layouts.specs.Paper.Homiq.{homiq, fieldChar, kept};
 ghost use Rattle.layouts.specs.Paper.Starts.{homiqStarts};
 ghost use Rattle.layouts.specs.Paper.Made.{Wire, Payload};
 ghost use Rattle.layouts.specs.Work.Heads.{leading, onward};
-ghost use Rattle.layouts.specs.Work.Homiq.{fieldLen, isFigure, numberLen, typeLen, headLen, fiveLen};
+ghost use Rattle.layouts.specs.Work.Homiq.{fieldLen, isFigure, numberIn, numberLen, typeLen, headLen, fiveLen};
 
 // The frame at the head of s; its payload is CMD to TYPE.
 pub fn frame(s: &[u8]) -> Spot
     ensures { λ r. ⌜ Leads homiq (now (s .entry)) (r .len) (r .from) (r .to) ⌝ }
 {
     let before = head(s);
-    let behind = number_at(s, before, 0, 255);
+    let claimed = number_at(s, before, 0, 255);
+    let behind = claimed.end;
     let n = words::word_at(s, behind, b">\r\n");
     if n == 0 {
         return nothing();
     }
-    // before the CRC is worked out, so that less is kept over its loop
-    let claimed = value(&s[before..behind - 1]);
-    if crc(&s[2..before]) as u16 != claimed {
+    if crc(&s[2..before]) as u16 != claimed.value {
         return nothing();
     }
     Spot {
@@ -92,7 +90,7 @@ fn five(p: &[u8]) -> usize
     let b = field_at(p, a, 16);
     let c = field_at(p, b, 4);
     let d = field_at(p, c, 4);
-    number_at(p, d, 1, 511)
+    number_at(p, d, 1, 511).end
 }
 
 fn is_type(c: u8) -> bool
@@ -113,7 +111,7 @@ fn head(s: &[u8]) -> usize
     let c = field_at(s, b, 16);
     let d = field_at(s, c, 4);
     let e = field_at(s, d, 4);
-    let f = number_at(s, e, 1, 511);
+    let f = number_at(s, e, 1, 511).end;
     type_at(s, f)
 }
 
@@ -181,41 +179,58 @@ fn is_character(c: u8) -> bool
     c != b'>'
 }
 
-// The end of a number from low to high, with its `;`.
-fn number_at(s: &[u8], at: usize, low: u16, high: u16) -> usize
-    requires { ⌜ at ≤ length (now s) ⌝ }
-    requires { ⌜ high < 1000 ⌝ }
-    ensures { λ r. ⌜ r ≡ onward (numberLen low high) (now (s .entry)) at ⌝ }
-{
-    if at == 0 {
-        return 0;
-    }
-    words::onto(at, number(&s[at..], low, high))
+// A number that has been read: where it ends, 0 for none, and what it is. Its digits are read once, for both.
+struct Numeral {
+    end: usize,
+    value: u16,
 }
 
-fn number(s: &[u8], low: u16, high: u16) -> usize
+// The number from low to high at a place; its end is that of its `;`.
+fn number_at(s: &[u8], at: usize, low: u16, high: u16) -> Numeral
+    requires { ⌜ at ≤ length (now s) ⌝ }
     requires { ⌜ high < 1000 ⌝ }
-    ensures { λ r. ⌜ r ≡ numberLen low high (now (s .entry)) ⌝ }
+    ensures { λ r. ⌜ r .end ≡ onward (numberLen low high) (now (s .entry)) at ⌝ }
+    ensures { λ r. ⌜ (0 < r .end → r .value ≡ numberIn (drop at (now (s .entry)))) ⌝ }
 {
-    let n = figures(words::first(s, 4));
-    let v = value(&s[0..n]);
+    if at == 0 {
+        return Numeral { end: 0, value: 0 };
+    }
+    let n = number(&s[at..], low, high);
+    Numeral {
+        end: words::onto(at, n.end),
+        value: n.value,
+    }
+}
+
+// The number from low to high at the head of s; its end is that of its `;`.
+fn number(s: &[u8], low: u16, high: u16) -> Numeral
+    requires { ⌜ high < 1000 ⌝ }
+    ensures { λ r. ⌜ r .end ≡ numberLen low high (now (s .entry)) ⌝ }
+    ensures { λ r. ⌜ (0 < r .end → r .value ≡ numberIn (now (s .entry))) ⌝ }
+{
+    let digits = figures(words::first(s, 4));
+    let n = digits.end;
+    let v = digits.value;
     if v < low {
-        return 0;
+        return Numeral { end: 0, value: 0 };
     }
     if high < v {
-        return 0;
+        return Numeral { end: 0, value: 0 };
     }
     // none at all, or leading zeros
     if n != width(v) {
-        return 0;
+        return Numeral { end: 0, value: 0 };
     }
     if s.len() <= n {
-        return 0;
+        return Numeral { end: 0, value: 0 };
     }
     if s[n] != b';' {
-        return 0;
+        return Numeral { end: 0, value: 0 };
     }
-    n + 1
+    Numeral {
+        end: n + 1,
+        value: v,
+    }
 }
 
 // How many decimal digits a number below 1,000 has.
@@ -232,18 +247,23 @@ fn width(v: u16) -> usize
     3
 }
 
-// How many decimal digits are at the head of s.
-fn figures(s: &[u8]) -> usize
-    ensures { λ r. ⌜ r ≡ leading isFigure (now (s .entry)) ⌝ }
+// The decimal digits at the head of s: how many there are, and the number that they are. `0` is 48, so that a digit's character
+// ends in its value.
+fn figures(s: &[u8]) -> Numeral
+    requires { ⌜ length (now s) ≤ 4 ⌝ }
+    ensures { λ r. ⌜ r .end ≡ leading isFigure (now (s .entry)) ⌝ }
+    ensures { λ r. ⌜ r .value ≡ guess 0 (take (r .end) (now (s .entry))) ⌝ }
 {
+    let mut v: u16 = 0;
     let mut i = 0;
     while i < s.len() {
         if !is_figure(s[i]) {
-            return i;
+            return Numeral { end: i, value: v };
         }
+        v = v * 10 + (s[i] % 16) as u16;
         i += 1;
     }
-    i
+    Numeral { end: i, value: v }
 }
 
 fn is_figure(c: u8) -> bool
@@ -253,21 +273,6 @@ fn is_figure(c: u8) -> bool
         return false;
     }
     c <= b'9'
-}
-
-// The number that at most four digits are: `0` is 48, so that a digit's character ends in its value.
-fn value(s: &[u8]) -> u16
-    requires { ⌜ length (now s) ≤ 4 ⌝ }
-    requires { ⌜ T (all isFigure (now s)) ⌝ }
-    ensures { λ r. ⌜ r ≡ guess 0 (now (s .entry)) ⌝ }
-{
-    let mut v: u16 = 0;
-    let mut i = 0;
-    while i < s.len() {
-        v = v * 10 + (s[i] % 16) as u16;
-        i += 1;
-    }
-    v
 }
 
 // The end of TYPE, with its `;`.

@@ -21,6 +21,9 @@ ghost use Rattle.layouts.specs.Work.Heads.{onward};
 ghost use Rattle.layouts.specs.Work.Nikobus as work;
 ghost use Rattle.layouts.specs.Work.Nikobus.{hexPair, bytesOf, digitsLen, llOf, linkFormLen, linkLen, pressLen, tailLen};
 
+// So many characters are tested at a time, with no branch between them: the compiler makes vector instructions of that.
+const BLOCK: usize = 32;
+
 // The frame at the head of s; its payload is a link's digits or a press's, and a tail has none.
 pub fn frame(s: &[u8]) -> Spot
     ensures { λ r. ⌜ Leads nikobus (now (s .entry)) (r .len) (r .from) (r .to) ⌝ }
@@ -179,14 +182,33 @@ fn digits(s: &[u8], k: usize) -> usize
 pub fn all_digits(s: &[u8]) -> bool
     ensures { λ r. ⌜ r ≡ all isHex (now (s .entry)) ⌝ }
 {
-    let mut i = 0;
-    while i < s.len() {
-        if !is_digit(s[i]) {
+    // of a head with another behind it, the first character shows it: no block is read for that
+    if s.len() != 0 {
+        if !is_digit(s[0]) {
             return false;
         }
+    }
+    let mut i = 0;
+    while BLOCK <= s.len() - i {
+        if !block_is_digits(&s[i..i + BLOCK]) {
+            return false;
+        }
+        i += BLOCK;
+    }
+    block_is_digits(&s[i..])
+}
+
+// Whether all characters of a block are digits: each is tested, also behind one that is none, so that no branch stands in the loop.
+fn block_is_digits(block: &[u8]) -> bool
+    ensures { λ r. ⌜ r ≡ all isHex (now (block .entry)) ⌝ }
+{
+    let mut so_far = true;
+    let mut i = 0;
+    while i < block.len() {
+        so_far = so_far & is_digit(block[i]);
         i += 1;
     }
-    true
+    so_far
 }
 
 // Whether c is a hex digit, upper case.

@@ -1,20 +1,24 @@
 -- What the definition of a line comes to, for a reader.
 -- Assumes nothing.
 use mathlib.Core.List.{List}
-use mathlib.Core.Path.{_≡_, refl, ap, _∙_}
+use mathlib.Core.Path.{_≡_, refl, ap, _∙_, subst}
 use Prim.Native.Nat.{ℕ, _+_, _*_, _^_, _≤_, _<_}
 use native.Mathlib.Omega.{arith}
 use lib.ListN.{length}
 use Rattle.frames.specs.Paper.Kinds.{Frame}
 use Rattle.messages.specs.Paper.Answers.{Stands}
+use Rattle.messages.specs.Paper.Content.{contentAt}
+use Rattle.messages.specs.Paper.Meant.{ContentWith}
 use Rattle.messages.specs.Paper.Message.{Message}
 use Rattle.messages.specs.Paper.Says.{Says}
-use Rattle.messages.specs.Paper.Table.{Good}
+use Rattle.messages.specs.Paper.Table.{contentOf, Good}
 use Rattle.messages.specs.declared.Message.{Message as Coded}
+use Rattle.messages.specs.declared.Tag.{Tag}
+use Rattle.messages.proofs.Laws.Frames.{one-content}
 use Rattle.messages.proofs.Laws.Says.{one-said}
 use Rattle.messages.proofs.Theorems.{has-message}
 use Rattle.puts.specs.Paper.Put.{last}
-use Rattle.lines.specs.Paper.Answers.{LineOf, LineCause, short, LineSaid, SaidCause}
+use Rattle.lines.specs.Paper.Answers.{LineOf, LineCause, short, LineSaid, SaidCause, HasContent}
 use Rattle.lines.specs.Paper.Line.{line, lineRoom}
 use Rattle.lines.proofs.Laws.Of as of
 use Rattle.lines.proofs.Laws.Same as same
@@ -44,22 +48,35 @@ never-short {f = f} {at = at} h r (short l g) = let few : at < 10 ^ 20 = omega a
 pub line-most : {k : ℕ} {f : List ℕ} {at : ℕ} {t : List ℕ} → at < 10 ^ 20 → LineOf k f at t → length t ≤ 8368
 line-most h l = sizes.line-most h l
 
--- ---- THE LINE OF A MESSAGE
+-- ---- THE LINE OF A MESSAGE, AND OF A CONTENT
 
--- every message of the table has a line, whatever place and length it is to say, and one only
-pub has-line-said : (e : Coded) (s : List ℕ) (at len : ℕ) {m : Message} → Good m → Says e s m → (t : List ℕ) × LineSaid e s at len t
-has-line-said e s at len {m} g x = (line at len m, record { message = m; good = g; says = x; is = refl })
+-- every message of the table that is said has a line, whatever place and length it is to say
+pub has-line-said : (IsSaid : Message → Type 0) (at len : ℕ) {m : Message} → Good m → IsSaid m → (t : List ℕ) × LineSaid IsSaid at len t
+has-line-said IsSaid at len {m} g x = (line at len m, record { message = m; good = g; said = x; is = refl })
 
-pub one-line-said : {e : Coded} {s : List ℕ} {at len : ℕ} (t u : List ℕ) → LineSaid e s at len t → LineSaid e s at len u → t ≡ u
-one-line-said = of.one-line-said
+-- a case with what stands beside it says one line only, and so does a tag with its payload
+pub one-line-says : (e : Coded) (s : List ℕ) {at len : ℕ} (t u : List ℕ) → LineSaid (Says e s) at len t → LineSaid (Says e s) at len u → t ≡ u
+one-line-says e s = of.one-line-said (of.one-says e s)
 
--- THE LINE OF A FRAME'S MESSAGE, with the frame's length, IS THE FRAME'S LINE
-pub said-of-frame : {k : ℕ} {f : List ℕ} {m : Message} (e : Coded) {s : List ℕ} {at : ℕ} {t : List ℕ} → Stands k f m → Says e s m
-    → LineSaid e s at (length f) t → LineOf k f at t
-said-of-frame {f = f} {m = m} e {s} {at} r x l =
-    record { message = m; stands = r; is = l .is ∙ ap (line at (length f)) (one-said e s (l .message) m (l .says) x) }
+pub one-line-has : (tag : Tag) (p : List ℕ) {at len : ℕ} (t u : List ℕ) → LineSaid (HasContent tag p) at len t → LineSaid (HasContent tag p) at len u → t ≡ u
+one-line-has tag p = of.one-line-said (of.one-has tag p)
+
+-- THE LINE OF A FRAME'S MESSAGE, with the frame's length, IS THE FRAME'S LINE; and so is that of what the frame says
+pub said-of-frame : {k : ℕ} {f : List ℕ} {m : Message} (e : Coded) (s : List ℕ) {at : ℕ} {t : List ℕ} → Stands k f m → Says e s m
+    → LineSaid (Says e s) at (length f) t → LineOf k f at t
+said-of-frame {f = f} {m = m} e s {at} r x l =
+    record { message = m; stands = r; is = l .is ∙ ap (line at (length f)) (one-said e s (l .message) m (l .said) x) }
+
+pub content-of-frame : {k : ℕ} {f : List ℕ} (x : Frame k f) (tag : Tag) (p : List ℕ) {at : ℕ} {t : List ℕ} → ContentWith tag p (contentAt x)
+    → LineSaid (HasContent tag p) at (length f) t → LineOf k f at t
+content-of-frame {k} {f} x tag p {at} w l =
+    let own = has-message x in
+    let same : contentAt x ≡ contentOf (own .0) = one-content x (own .1 .frame) ∙ own .1 .content in
+    let m : l .message ≡ own .0 = of.one-has tag p (l .message) (own .0) (l .good) (own .1 .good) (l .said) (subst (ContentWith tag p) same w) in
+    record { message = own .0; stands = own .1; is = l .is ∙ ap (line at (length f)) m }
 
 -- A LINE IS WITHIN 8 TIMES WHAT STANDS BESIDE ITS MESSAGE AND 352 BYTES (place and length are numbers of 64 bits): so such a room is never
 -- refused with 4
-pub never-short-said : {e : Coded} {s : List ℕ} {at len left : ℕ} → at ≤ last → len ≤ last → 8 * length s + 352 ≤ left → SaidCause e s at len left 4 → ⊥
-never-short-said h k r (short l g) = omega (arith, sizes.line-bounded h k l .most)
+pub never-short-said : (e : Coded) (s : List ℕ) {at len left : ℕ} → at ≤ last → len ≤ last → 8 * length s + 352 ≤ left
+    → SaidCause (Says e s) at len left 4 → ⊥
+never-short-said e s h k r (short l g) = omega (arith, sizes.line-bounded e s h k l .most)

@@ -38,8 +38,10 @@ fn id_and_type(fields: &[u8], room: &mut [u8], at: usize) -> usize
     let id = homiq::field(fields, 0);
     let a = puts::bytes(b",\"id\":", room, at);
     let b = puts::bytes(id, room, a);
-    let from_type = behind(fields, id.len());
-    members::chars(b",\"type\":", homiq::field(from_type, 0), room, b)
+    let kind = homiq::field(behind(fields, id.len()), 0);
+    // not by `members::chars`: with `json::chars` called from here too, the compiler does not inline it there, but inlines `members::chars`
+    let c = puts::bytes(b",\"type\":", room, b);
+    json::chars(kind, room, c)
 }
 
 // What stands behind the first field, which has n characters, and its `;`. So each field is looked for once.

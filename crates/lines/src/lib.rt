@@ -7,16 +7,19 @@ mod nikobus;
 
 use digits::refusal::Refusal;
 use messages::Decoded;
+use messages::Meant;
 use messages::Message;
 use messages::Seen;
 use messages::Standing;
+use messages::Tag;
 use puts::Written;
 ghost use mathlib.Core.Path.{_≡_};
 ghost use Prim.Native.Nat.{_-_};
 ghost use lib.Dec.{leb};
 ghost use lib.ListN.{length};
 ghost use Rattle.puts.specs.Paper.Put.{Put};
-ghost use Rattle.lines.specs.Paper.Answers.{WritesLine, WritesSaid, PutsNext};
+ghost use Rattle.messages.specs.Paper.Says.{Says};
+ghost use Rattle.lines.specs.Paper.Answers.{WritesLine, WritesSaid, HasContent, PutsNext};
 ghost use Rattle.lines.specs.Work.Put.{restOf, put, Bounded, AllOrNone};
 
 // No line is longer than so many bytes, and so many more for each byte that stands beside its message.
@@ -57,11 +60,29 @@ pub fn of(
     room: &mut [u8],
     to: usize,
 ) -> Written
-    ensures { λ r. ⌜ WritesSaid message (now (content .entry)) at len (now (room .entry)) to r (now (room .exit)) ⌝ }
+    ensures { λ r. ⌜ WritesSaid (Says message (now (content .entry))) at len (now (room .entry)) to r (now (room .exit)) ⌝ }
 {
     match messages::allowed(message, content) {
         Standing::Good => placed(message, content, at, len, room, to),
         Standing::Refused(why) => Written::Refused(Refusal::Limits),
+    }
+}
+
+// Puts the line of a content, of which nothing has been tested, as `of` puts that of a message. Refusals: 5 for a field outside its
+// limits, 4 for a room that is too short.
+pub fn of_content(
+    tag: Tag,
+    payload: &[u8],
+    at: usize,
+    len: usize,
+    room: &mut [u8],
+    to: usize,
+) -> Written
+    ensures { λ r. ⌜ WritesSaid (HasContent tag (now (payload .entry))) at len (now (room .entry)) to r (now (room .exit)) ⌝ }
+{
+    match messages::of(tag, payload) {
+        Meant::Is(message) => placed(message, payload, at, len, room, to),
+        Meant::Refused(why) => Written::Refused(why),
     }
 }
 

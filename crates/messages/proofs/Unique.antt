@@ -11,8 +11,8 @@ use Rattle.frames.specs.declared.Found.the-variants.{At as Hit, Refused as NoHi
 use Rattle.frames.proofs.Unique.{searched-one, hit-or-none}
 use Rattle.messages.specs.Paper.Answers.{Stands, Said, Decodes, Contents, Finds}
 use Rattle.messages.specs.Paper.Allowed.{Allows}
-use Rattle.messages.specs.Paper.Content.{Content, payloadIn, payloadFrom, payloadTo}
-use Rattle.messages.specs.Paper.Meant.{LinkWith, HomiqWith, Means}
+use Rattle.messages.specs.Paper.Content.{payloadIn, payloadFrom, payloadTo}
+use Rattle.messages.specs.Paper.Meant.{ContentWith, Means}
 use Rattle.messages.specs.Paper.Message.{Message}
 use Rattle.messages.specs.Paper.Says.{Says}
 use Rattle.messages.specs.Paper.Table.{contentOf}
@@ -29,8 +29,9 @@ use Rattle.messages.specs.declared.nest.Response.{Response}
 use Rattle.messages.specs.declared.nest.Volts.{Volts}
 use Rattle.messages.specs.declared.Meant.{Meant}
 use Rattle.messages.specs.declared.Standing.{Standing}
+use Rattle.messages.specs.declared.Tag.{Tag}
 use Rattle.messages.proofs.Laws.Allowed.{one-standing}
-use Rattle.messages.proofs.Laws.Meant.{one-link, one-homiq, one-equal, one-meant}
+use Rattle.messages.proofs.Laws.Meant.{one-content-with, one-meant}
 use Rattle.messages.proofs.Laws.Cases.{said-in, search-in, found-in, search-refused}
 use Rattle.messages.proofs.Laws.NestUnique.{one-pair, one-volts}
 use Rattle.messages.proofs.Laws.Says.{one-case}
@@ -92,15 +93,9 @@ for-panel = one-pair
 pub voltages : (p : List ℕ) (r q : Volts) → ReadsVolts p r → ReadsVolts p q → r ≡ q
 voltages = one-volts
 
--- nikobus::of_link, nikobus::of_press, nest::of, nibe::of, homiq::of
-pub of-link : (d : List ℕ) (r q : Meant) → Means (LinkWith d) r → Means (LinkWith d) q → r ≡ q
-of-link d = one-meant one-link
-
-pub of-content : (c : Content) (r q : Meant) → Means (λ x. x ≡ c) r → Means (λ x. x ≡ c) q → r ≡ q
-of-content c = one-meant one-equal
-
-pub of-homiq : (p : List ℕ) (r q : Meant) → Means (HomiqWith p) r → Means (HomiqWith p) q → r ≡ q
-of-homiq p = one-meant one-homiq
+-- of
+pub of : (t : Tag) (p : List ℕ) (r q : Meant) → Means (ContentWith t p) r → Means (ContentWith t p) q → r ≡ q
+of t p = one-meant (one-content-with t p)
 
 -- allowed
 pub allowed : (e : Coded) (s : List ℕ) (r q : Standing) → Allows e s r → Allows e s q → r ≡ q

@@ -32,7 +32,7 @@ pub enum Homiq {
 }
 
 // The message of CMD to TYPE; 5 where they are not the six fields within their limits.
-pub fn of(payload: &[u8]) -> Meant
+pub(crate) fn of(payload: &[u8]) -> Meant
     ensures { λ r. ⌜ Means (HomiqWith (now (payload .entry))) r ⌝ }
 {
     if !homiq::is_payload(payload) {

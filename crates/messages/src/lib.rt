@@ -1,5 +1,6 @@
 // Messages of frames: the table of document 01, read.
 pub mod homiq;
+mod limits;
 pub mod nest;
 pub mod nibe;
 pub mod nikobus;
@@ -18,6 +19,7 @@ use nikobus::Nikobus;
 ghost use Rattle.frames.specs.Paper.Kinds.{numberOf};
 ghost use Rattle.messages.specs.Paper.Allowed.{Allows};
 ghost use Rattle.messages.specs.Paper.Answers.{Decodes, Said, Contents, Finds};
+ghost use Rattle.messages.specs.Paper.Meant.{ContentWith, Means};
 ghost use Rattle.messages.specs.Work.Answers.{Payloaded};
 
 // A message. Its bytes of free length stand beside it, as its frame's payload has them: a link's digits, Nest's payload, Nibe's
@@ -53,8 +55,19 @@ pub enum Seen {
     Refused(Refusal),
 }
 
-// What a content means: its message. (The content's parts are a link's digits, a press's digits, a direction with an id and a payload, a
-// command and its data, CMD to TYPE.)
+// What a frame says, its content, is a tag and a payload: the digits of a link or a press, Nest's payload, Nibe's data, Homiq's CMD to
+// TYPE. A tail takes nothing from the payload.
+pub enum Tag {
+    Link,
+    Press,
+    Tail,
+    Command { id: u16 },
+    Response { id: u16 },
+    Nibe { command: u8 },
+    Homiq,
+}
+
+// What a content means: its message.
 pub enum Meant {
     Is(Message),
     Refused(Refusal),
@@ -147,6 +160,21 @@ fn message_in(kind: Kind, frame: &[u8], from: usize, to: usize) -> Message
     }
 }
 
+// The message of a content. Refusal: 5 for a field outside its limits.
+pub fn of(tag: Tag, payload: &[u8]) -> Meant
+    ensures { λ r. ⌜ Means (ContentWith tag (now (payload .entry))) r ⌝ }
+{
+    match tag {
+        Tag::Link => nikobus::of_link(payload),
+        Tag::Press => nikobus::of_press(payload),
+        Tag::Tail => Meant::Is(Message::Nikobus(Nikobus::Tail)),
+        Tag::Command { id } => nest::of_command(id, payload),
+        Tag::Response { id } => nest::of_response(id, payload),
+        Tag::Nibe { command } => nibe::of(command, payload),
+        Tag::Homiq => homiq::of(payload),
+    }
+}
+
 // Whether a message, with what stands beside it, is one of the table. Refusals: 5 for a field outside its limits, 6 for the content of a
 // message above it.
 pub fn allowed(message: Message, content: &[u8]) -> Standing
@@ -154,7 +182,7 @@ pub fn allowed(message: Message, content: &[u8]) -> Standing
 {
     match message {
         Message::Nikobus(m) => nikobus::allowed(m, content),
-        Message::Command { id } => nest::command_allowed(id, content),
+        Message::Command { id } => limits::standing(nest::is_short(content)),
         Message::Response(m) => nest::allowed(m, content),
         Message::Nibe(m) => nibe::allowed(m, content),
         Message::Homiq(m) => homiq::allowed(m, content),

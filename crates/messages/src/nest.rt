@@ -5,7 +5,6 @@ use super::Standing;
 use super::words;
 use digits::refusal::Refusal;
 use digits::slices;
-use layouts::nest::Direction;
 use numbers::panel;
 use numbers::panel::Climate;
 ghost use mathlib.Core.Path.{_≡_};
@@ -15,8 +14,8 @@ ghost use lib.ListN.{length};
 ghost use Rattle.digits.specs.Paper.Read.{Tells};
 ghost use Rattle.layouts.specs.Paper.Chars.{oneOf};
 ghost use Rattle.messages.specs.Paper.Allowed.{StandsSo};
-ghost use Rattle.messages.specs.Paper.Meant.{Means, NestWith};
-ghost use Rattle.messages.specs.Paper.Message.{command, state, text, response, row as rowOf};
+ghost use Rattle.messages.specs.Paper.Meant.{Means, CommandWith, ResponseWith};
+ghost use Rattle.messages.specs.Paper.Message.{state, text, response, row as rowOf};
 ghost use Rattle.messages.specs.Paper.Panel.{ShowsPair, ReadsVolts};
 ghost use Rattle.messages.specs.Paper.Says.{ofResponse};
 ghost use Rattle.messages.specs.Paper.Table.{textIds};
@@ -45,27 +44,24 @@ pub enum Volts {
     Refused(Refusal),
 }
 
-// The message of a command or a response with this id and payload; 5 where the payload is longer than 1,024 bytes.
-pub fn of(direction: Direction, id: u16, payload: &[u8]) -> Meant
-    ensures { λ r. ⌜ Means (NestWith direction id (now (payload .entry))) r ⌝ }
+// The message of a command with this id and payload; 5 where the payload is longer than 1,024 bytes.
+pub(crate) fn of_command(id: u16, payload: &[u8]) -> Meant
+    ensures { λ r. ⌜ Means (CommandWith id (now (payload .entry))) r ⌝ }
 {
     if !is_short(payload) {
         return Meant::Refused(Refusal::Limits);
     }
-    match direction {
-        Direction::Command => Meant::Is(Message::Command { id: id }),
-        Direction::Response => Meant::Is(Message::Response(message(id, payload))),
-    }
+    Meant::Is(Message::Command { id: id })
 }
 
-// Whether a command with this payload is one of the table.
-pub(crate) fn command_allowed(id: u16, payload: &[u8]) -> Standing
-    ensures { λ r. ⌜ StandsSo (Only (command id (now (payload .entry)))) r ⌝ }
+// The message of a response with this id and payload; 5 where the payload is longer than 1,024 bytes.
+pub(crate) fn of_response(id: u16, payload: &[u8]) -> Meant
+    ensures { λ r. ⌜ Means (ResponseWith id (now (payload .entry))) r ⌝ }
 {
     if !is_short(payload) {
-        return Standing::Refused(Refusal::Limits);
+        return Meant::Refused(Refusal::Limits);
     }
-    Standing::Good
+    Meant::Is(Message::Response(message(id, payload)))
 }
 
 // Whether a response, with this payload beside it, is one of the table.
@@ -200,7 +196,7 @@ pub(crate) fn message(id: u16, payload: &[u8]) -> Response
 }
 
 // Whether a payload is no longer than it may be.
-fn is_short(payload: &[u8]) -> bool
+pub(crate) fn is_short(payload: &[u8]) -> bool
     ensures { λ r. ⌜ Tells (length (now (payload .entry)) ≤ 1024) r ⌝ }
 {
     if payload.len() <= 1024 {

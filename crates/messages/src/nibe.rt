@@ -2,6 +2,7 @@
 use super::Meant;
 use super::Message;
 use super::Standing;
+use super::limits;
 use super::words;
 use digits::low_first;
 use digits::low_first::Number;
@@ -16,7 +17,7 @@ ghost use Rattle.digits.specs.Paper.Read.{Tells};
 ghost use Rattle.digits.specs.Work.LowFirst.{lowValue};
 ghost use Rattle.messages.specs.Paper.Allowed.{StandsSo};
 ghost use Rattle.messages.specs.Paper.Meant.{Means, NibeWith};
-ghost use Rattle.messages.specs.Paper.Message.{reply, put, nibe, row as rowOf};
+ghost use Rattle.messages.specs.Paper.Message.{nibe, row as rowOf};
 ghost use Rattle.messages.specs.Paper.Says.{ofNibe};
 ghost use Rattle.messages.specs.Work.Answers.{Only};
 ghost use Rattle.messages.specs.Work.Look.{isAsk, isValued, isDone, ValuedIn, lookNibe};
@@ -41,7 +42,7 @@ pub enum Nibe {
 }
 
 // The message of a command with these data; 5 where there is no such command, or the data are longer than 255 bytes.
-pub fn of(command: u8, content: &[u8]) -> Meant
+pub(crate) fn of(command: u8, content: &[u8]) -> Meant
     ensures { λ r. ⌜ Means (NibeWith command (now (content .entry))) r ⌝ }
 {
     if !nibe::is_command(command) {
@@ -59,29 +60,11 @@ pub(crate) fn allowed(message: Nibe, content: &[u8]) -> Standing
 {
     match message {
         Nibe::Ask { register } => Standing::Good,
-        Nibe::Reply(v) => reply_allowed(v.register, v.width, v.value),
-        Nibe::Put(v) => put_allowed(v.register, v.width, v.value),
+        Nibe::Reply(v) => limits::standing(holds(v.width, v.value)),
+        Nibe::Put(v) => limits::standing(holds(v.width, v.value)),
         Nibe::Done { ok } => Standing::Good,
         Nibe::Nibe { command } => plain_allowed(command, content),
     }
-}
-
-fn reply_allowed(register: u16, width: u8, value: u32) -> Standing
-    ensures { λ r. ⌜ StandsSo (Only (reply register width value)) r ⌝ }
-{
-    if holds(width, value) {
-        return Standing::Good;
-    }
-    Standing::Refused(Refusal::Limits)
-}
-
-fn put_allowed(register: u16, width: u8, value: u32) -> Standing
-    ensures { λ r. ⌜ StandsSo (Only (put register width value)) r ⌝ }
-{
-    if holds(width, value) {
-        return Standing::Good;
-    }
-    Standing::Refused(Refusal::Limits)
 }
 
 // Any other command and data, where no message above has them.

@@ -2,6 +2,7 @@
 use super::Meant;
 use super::Message;
 use super::Standing;
+use super::limits;
 use digits::hex;
 use digits::hex::Byte;
 use digits::refusal::Refusal;
@@ -16,7 +17,7 @@ ghost use Rattle.digits.specs.Paper.Read.{Tells};
 ghost use Rattle.layouts.specs.Paper.Chars.{all, isHex};
 ghost use Rattle.messages.specs.Paper.Allowed.{StandsSo};
 ghost use Rattle.messages.specs.Paper.Meant.{Means, LinkWith, PressWith};
-ghost use Rattle.messages.specs.Paper.Message.{read, set, press, row as rowOf};
+ghost use Rattle.messages.specs.Paper.Message.{press, row as rowOf};
 ghost use Rattle.messages.specs.Paper.Says.{six, ofNikobus, SaysNikobus};
 ghost use Rattle.messages.specs.Paper.Table.{Group};
 ghost use Rattle.messages.specs.Work.Answers.{Only};
@@ -45,7 +46,7 @@ pub enum Nikobus {
 }
 
 // The message of a link with these digits; 5 where they are not those of 1 to 122 bytes.
-pub fn of_link(digits: &[u8]) -> Meant
+pub(crate) fn of_link(digits: &[u8]) -> Meant
     ensures { λ r. ⌜ Means (LinkWith (now (digits .entry))) r ⌝ }
 {
     if !is_link(digits) {
@@ -55,7 +56,7 @@ pub fn of_link(digits: &[u8]) -> Meant
 }
 
 // The message of a press with these digits; 5 where they are not six.
-pub fn of_press(digits: &[u8]) -> Meant
+pub(crate) fn of_press(digits: &[u8]) -> Meant
     ensures { λ r. ⌜ Means (PressWith (now (digits .entry))) r ⌝ }
 {
     if !is_press(digits) {
@@ -69,12 +70,12 @@ pub(crate) fn allowed(message: Nikobus, digits: &[u8]) -> Standing
     ensures { λ r. ⌜ StandsSo (SaysNikobus message (now (digits .entry))) r ⌝ }
 {
     match message {
-        Nikobus::Read { group, address } => read_allowed(group, address),
+        Nikobus::Read { group, address } => limits::standing(is_group(group)),
         Nikobus::Set {
             group,
             address,
             out,
-        } => set_allowed(group, address, out),
+        } => limits::standing(is_group(group)),
         Nikobus::Answer {
             address,
             third,
@@ -86,32 +87,11 @@ pub(crate) fn allowed(message: Nikobus, digits: &[u8]) -> Standing
     }
 }
 
-fn read_allowed(group: u8, address: u16) -> Standing
-    ensures { λ r. ⌜ StandsSo (Only (read group address)) r ⌝ }
-{
-    if is_group(group) {
-        return Standing::Good;
-    }
-    Standing::Refused(Refusal::Limits)
-}
-
-fn set_allowed(group: u8, address: u16, out: Six) -> Standing
-    ensures { λ r. ⌜ StandsSo (Only (set group address (six out))) r ⌝ }
-{
-    if is_group(group) {
-        return Standing::Good;
-    }
-    Standing::Refused(Refusal::Limits)
-}
-
 fn press_allowed(digits: Six) -> Standing
     ensures { λ r. ⌜ StandsSo (Only (press (six digits))) r ⌝ }
 {
     let chars = [digits.a, digits.b, digits.c, digits.d, digits.e, digits.f];
-    if is_press(&chars) {
-        return Standing::Good;
-    }
-    Standing::Refused(Refusal::Limits)
+    limits::standing(is_press(&chars))
 }
 
 // A link, where no message above it has its payload.

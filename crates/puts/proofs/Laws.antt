@@ -3,3 +3,4 @@ pub mod Wrote
 pub mod Right
 pub mod Sizes
 pub mod Spelt
+pub mod Figures

@@ -7,10 +7,10 @@ ghost use mathlib.Core.Path.{_≡_};
 ghost use mathlib.Core.Bool.{cond};
 ghost use mathlib.Core.List.{[], _∷_};
 ghost use lib.Dec.{leb};
-ghost use Prim.Native.Nat.{_+_, _*_, _≤_};
+ghost use Prim.Native.Nat.{_+_, _*_, _%_, _≤_};
 ghost use lib.ListN.{length};
 ghost use lib.Seq.{sets};
-ghost use Rattle.digits.specs.Paper.Decimal.{decimal};
+ghost use Rattle.digits.specs.Paper.Decimal.{decimalDigit, decimal};
 ghost use Rattle.digits.specs.Paper.Hex.{hexBytes};
 ghost use Rattle.puts.specs.Paper.Put.{Put};
 ghost use Rattle.puts.specs.Paper.Wrote.{RoomCause, Writes};
@@ -96,8 +96,47 @@ fn clipped(s: &[u8], room: &mut [u8], at: usize) -> usize
     next
 }
 
-// Puts the decimal digits of n.
+// Puts the decimal digits of n. Up to five, as many as a place in a capture has, are put at once.
 pub fn whole(n: u64, room: &mut [u8], at: usize) -> usize
+    ensures { λ r. ⌜ Put (now (room .entry)) (now (room .exit)) at r (decimal n) ⌝ }
+{
+    if n < 10 {
+        return byte(figure(n), room, at);
+    }
+    if n < 100 {
+        let two = [figure(n / 10), figure(n)];
+        return bytes(&two, room, at);
+    }
+    if n < 1000 {
+        let three = [figure(n / 100), figure(n / 10), figure(n)];
+        return bytes(&three, room, at);
+    }
+    if n < 10000 {
+        let four = [figure(n / 1000), figure(n / 100), figure(n / 10), figure(n)];
+        return bytes(&four, room, at);
+    }
+    if n < 100000 {
+        let five = [
+            figure(n / 10000),
+            figure(n / 1000),
+            figure(n / 100),
+            figure(n / 10),
+            figure(n),
+        ];
+        return bytes(&five, room, at);
+    }
+    long(n, room, at)
+}
+
+// The last decimal digit of n.
+fn figure(n: u64) -> u8
+    ensures { λ r. ⌜ r ≡ decimalDigit (n % 10) ⌝ }
+{
+    b'0' + (n % 10) as u8
+}
+
+// Puts the decimal digits of any number.
+fn long(n: u64, room: &mut [u8], at: usize) -> usize
     ensures { λ r. ⌜ Put (now (room .entry)) (now (room .exit)) at r (decimal n) ⌝ }
 {
     let d = decimal::digits(n);

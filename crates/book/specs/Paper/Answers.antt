@@ -86,7 +86,8 @@ TellsEntry s number r = Answers zeroTold (EntryCause s number) (EntryOf s number
 -- the frame of that entry is handed back as that part of the book; a refused part is empty
 pub record HandsFrame (s : List ℕ) (number : ℕ) (p : List ℕ) : Type 0 where
   pub refusal : ℕ
-  pub answer : Answers [] (EntryCause s number) (λ q. (v : Told) × (EntryOf s number v) × (q ≡ part (v .from) (v .to) s)) refusal p
+  pub answer : Answers [] (EntryCause s number)
+      (λ q. (v : Told) × (EntryOf s number v) × (q ≡ part (v .from) (v .to) s)) refusal p
 
 -- ---- line: "A book's entries give the same lines, `at` being the entry's offset"
 
@@ -107,14 +108,16 @@ pub data EntryLineCause (s : List ℕ) (number room : ℕ) : ℕ → Type 0 wher
 
 -- r is the right answer, and `later` the right room afterwards
 abbrev pub WritesEntryLine : List ℕ → ℕ → List ℕ → Written → List ℕ → Type 0
-WritesEntryLine s number room r later = WritesRight (EntryLineCause s number (length room)) (EntryLine s number) room r later
+WritesEntryLine s number room r later =
+    WritesRight (EntryLineCause s number (length room)) (EntryLine s number) room r later
 
 -- ---- list: the lines of all entries, one behind the other
 
 -- t is the lines of these entries, of which the first stands at `at`
 pub data EntryLines : (at : ℕ) → List Entry → List ℕ → Type 0 where
   none : {at : ℕ} → EntryLines at [] []
-  line : {at : ℕ} {e : Entry} {es : List Entry} {t rest : List ℕ} → LineOf (e .kind) (e .frame) at t → EntryLines (at + length (entryBytes e)) es rest
+  line : {at : ℕ} {e : Entry} {es : List Entry} {t rest : List ℕ} → LineOf (e .kind) (e .frame) at t
+      → EntryLines (at + length (entryBytes e)) es rest
       → EntryLines at (e ∷ es) (t ++ rest)
 
 -- t is the lines of the book s

@@ -18,7 +18,8 @@ pub data BuildCause (Limits : Type 0) (room bytes : ℕ) : ℕ → Type 0 where
 
 -- r is the right answer, and `later` the right room afterwards, of building the frame of these fields
 abbrev pub Builds : (l : Layout) → l .Fields → List ℕ → Written → List ℕ → Type 0
-Builds l m room r later = Writes (BuildCause (l .Limits m) (length room) (length (bytesOf l m))) (bytesOf l m) room r later
+Builds l m room r later =
+    Writes (BuildCause (l .Limits m) (length room) (length (bytesOf l m))) (bytesOf l m) room r later
 
 -- Homiq. 5: p is no payload of fields within their limits; 4: the room is too short for the frame with this payload
 pub data HomiqCause (p : List ℕ) (room : ℕ) : ℕ → Type 0 where

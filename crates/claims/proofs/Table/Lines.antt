@@ -8,9 +8,10 @@ use Rattle.digits.specs.Paper.Ascii.{ascii}
 use Rattle.digits.specs.Paper.Refusals.{order, First}
 use Rattle.digits.proofs.Laws.Refusals.{cause-of, refused-zeros}
 use Rattle.frames.specs.Paper.Search.{SearchCause}
-use Rattle.lines.specs.Paper.Answers.{LineCause, SaidCause, WritesSaid, listedNumber, listedPlaced, zeroPlaced, PutsNext}
+use Rattle.lines.specs.Paper.Answers.{LineCause, SaidCause, WritesSaid, HasContent, listedNumber, listedPlaced, zeroPlaced, PutsNext}
 use Rattle.lines.specs.declared.Listed.{Listed}
-use Rattle.messages.specs.declared.Message.{Message}
+use Rattle.messages.specs.Paper.Message.{Message}
+use Rattle.messages.specs.Paper.Says.{Says}
 use Rattle.puts.specs.declared.Written.{Written}
 use Rattle.puts.specs.Paper.Wrote.{writtenRefusal}
 use Rattle.lines.proofs as lines
@@ -78,39 +79,58 @@ next-kept =
 pub next-open : AcceptsAll next
 next-open = λ κs a. tt
 
--- ---- the line of a message
+-- ---- the line of a message, and of a content
+
+said-told : {IsSaid : Message → Type 0} {at len : ℕ} {room : List ℕ} {to : ℕ} (r : Written) {later : List ℕ} → WritesSaid IsSaid at len room to r later
+    → (no : ℕ) × (First (SaidCause IsSaid at len (length room - to)) order no × tellsWritten room (r, later) no)
+said-told r a = (writtenRefusal r, (cause-of a, (refl, λ h. (ap (λ v. v .0) (refused-zeros a h), ap (λ v. v .1) (refused-zeros a h)))))
+
+said-stated : {IsSaid : Message → Type 0} {at len left no : ℕ} → SaidCause IsSaid at len left no → OneOf no (5 ∷ 4 ∷ [])
+said-stated (SaidCause.no-message f) = here
+said-stated (SaidCause.short l h) = there here
 
 abbrev pub of : Row
 of =
     writing (ascii "lines::of") lines.of.Kinds.ps lines.of.Kinds.r lines.of.Reads.Pre lines.of.Reads.Post
     lines.of.Statement.statement (5 ∷ 4 ∷ [])
-    (λ κs a. SaidCause (a .0) (a .1 .0 .now) (a .1 .1 .0) (a .1 .1 .1 .0) (length (a .1 .1 .1 .1 .0 .now) - a .1 .1 .1 .1 .1 .0))
+    (λ κs a. SaidCause (Says (a .0) (a .1 .0 .now)) (a .1 .1 .0) (a .1 .1 .1 .0) (length (a .1 .1 .1 .1 .0 .now) - a .1 .1 .1 .1 .1 .0))
     (λ κs a. a .1 .1 .1 .1 .0 .now) (λ κs r. r) (λ κs s. s .1 .1 .1 .1 .0 .now)
-
-said-told : {e : Message} {s : List ℕ} {at len : ℕ} {room : List ℕ} {to : ℕ} (r : Written) {later : List ℕ} → WritesSaid e s at len room to r later
-    → (no : ℕ) × (First (SaidCause e s at len (length room - to)) order no × tellsWritten room (r, later) no)
-said-told r a = (writtenRefusal r, (cause-of a, (refl, λ h. (ap (λ v. v .0) (refused-zeros a h), ap (λ v. v .1) (refused-zeros a h)))))
 
 pub of-kept : Kept of
 of-kept =
     record {
       ends = lines.of.Met.met;
       told = λ κs a r s p. said-told r p;
-      stated = λ κs a no c. stated c;
-      one = λ κs a r q s t x y. both (unique.of r q x y);
+      stated = λ κs a no c. said-stated c;
+      one = λ κs a r q s t x y. both (unique.of (a .0) (a .1 .0 .now) r q x y);
     }
-  where
-    stated : {e : Message} {s : List ℕ} {at len left no : ℕ} → SaidCause e s at len left no → OneOf no (5 ∷ 4 ∷ [])
-    stated (SaidCause.no-message f) = here
-    stated (SaidCause.short l h) = there here
 
 pub of-open : AcceptsAll of
 of-open = λ κs a. tt
 
+abbrev pub of-content : Row
+of-content =
+    writing (ascii "lines::of_content") lines.of_content.Kinds.ps lines.of_content.Kinds.r lines.of_content.Reads.Pre
+    lines.of_content.Reads.Post lines.of_content.Statement.statement (5 ∷ 4 ∷ [])
+    (λ κs a. SaidCause (HasContent (a .0) (a .1 .0 .now)) (a .1 .1 .0) (a .1 .1 .1 .0) (length (a .1 .1 .1 .1 .0 .now) - a .1 .1 .1 .1 .1 .0))
+    (λ κs a. a .1 .1 .1 .1 .0 .now) (λ κs r. r) (λ κs s. s .1 .1 .1 .1 .0 .now)
+
+pub of-content-kept : Kept of-content
+of-content-kept =
+    record {
+      ends = lines.of_content.Met.met;
+      told = λ κs a r s p. said-told r p;
+      stated = λ κs a no c. said-stated c;
+      one = λ κs a r q s t x y. both (unique.of-content (a .0) (a .1 .0 .now) r q x y);
+    }
+
+pub of-content-open : AcceptsAll of-content
+of-content-open = λ κs a. tt
+
 -- ---- all of them
 
 abbrev pub rows : List Row
-rows = write ∷ next ∷ of ∷ []
+rows = write ∷ next ∷ of ∷ of-content ∷ []
 
 pub rows-kept : Every Proper rows
-rows-kept = also write-kept write-open (also next-kept next-open (also of-kept of-open none))
+rows-kept = also write-kept write-open (also next-kept next-open (also of-kept of-open (also of-content-kept of-content-open none)))

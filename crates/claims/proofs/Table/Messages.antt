@@ -6,8 +6,8 @@ use Rattle.digits.specs.Paper.Ascii.{ascii}
 use Rattle.frames.specs.Paper.Search.{SearchCause}
 use Rattle.messages.specs.Paper.Allowed.{StandingCause, standingNumber, standingValue}
 use Rattle.messages.specs.Paper.Answers.{DecodeCause, decodedNumber, decodedValue, zeroDecoded, seenNumber, seenValue, zeroSeen}
-use Rattle.messages.specs.Paper.Content.{Content, press, nibe}
-use Rattle.messages.specs.Paper.Meant.{LinkWith, PressWith, nestWith, NestWith, NibeWith, HomiqWith, MeantCause, meantNumber, meantValue, noneMeant}
+use Rattle.messages.specs.Paper.Content.{Content}
+use Rattle.messages.specs.Paper.Meant.{ContentWith, MeantCause, meantNumber, meantValue, noneMeant}
 use Rattle.messages.specs.Paper.Message.{Message}
 use Rattle.messages.specs.Paper.Says.{Says}
 use Rattle.messages.specs.Paper.Panel.{PairCause, pairNumber, pairValue, zeroCounts, VoltsCause, voltsNumber, voltsValue, zeroVolts}
@@ -123,73 +123,22 @@ nest-voltages-open = λ κs a. tt
 
 -- ---- the message of a content
 
-meant-stated : {With : Content → Type 0} {no : ℕ} → MeantCause With no → OneOf no (5 ∷ [])
-meant-stated (MeantCause.no-message f) = here
+abbrev pub of : Row
+of =
+    refusing (ascii "messages::of") messages.of.Kinds.ps messages.of.Kinds.r messages.of.Reads.Pre messages.of.Reads.Post
+    messages.of.Statement.statement (5 ∷ []) (λ κs a. MeantCause (ContentWith (a .0) (a .1 .0 .now))) meantNumber meantValue noneMeant
+    (λ κs r. r)
 
-abbrev pub homiq-of : Row
-homiq-of =
-    refusing (ascii "messages::homiq::of") messages.homiq.of.Kinds.ps messages.homiq.of.Kinds.r messages.homiq.of.Reads.Pre messages.homiq.of.Reads.Post
-    messages.homiq.of.Statement.statement (5 ∷ []) (λ κs a. MeantCause (HomiqWith (a .0 .now))) meantNumber meantValue noneMeant (λ κs r. r)
+pub of-kept : Kept of
+of-kept =
+    refusing-kept (λ M. messages.of.Met.met) (λ κs a r q s t x y. unique.of (a .0) (a .1 .0 .now) r q x y) (λ κs a r s p. p)
+    (λ κs a no c. stated c)
+  where
+    stated : {With : Content → Type 0} {no : ℕ} → MeantCause With no → OneOf no (5 ∷ [])
+    stated (MeantCause.no-message f) = here
 
-pub homiq-of-kept : Kept homiq-of
-homiq-of-kept =
-    refusing-kept (λ M. messages.homiq.of.Met.met) (λ κs a r q s t x y. unique.of-homiq (a .0 .now) r q x y) (λ κs a r s p. p)
-    (λ κs a no c. meant-stated c)
-
-pub homiq-of-open : AcceptsAll homiq-of
-homiq-of-open = λ κs a. tt
-
-abbrev pub nest-of : Row
-nest-of =
-    refusing (ascii "messages::nest::of") messages.nest.of.Kinds.ps messages.nest.of.Kinds.r messages.nest.of.Reads.Pre messages.nest.of.Reads.Post
-    messages.nest.of.Statement.statement (5 ∷ []) (λ κs a. MeantCause (NestWith (a .0) (a .1 .0) (a .1 .1 .0 .now))) meantNumber meantValue noneMeant (λ κs r. r)
-
-pub nest-of-kept : Kept nest-of
-nest-of-kept =
-    refusing-kept (λ M. messages.nest.of.Met.met) (λ κs a r q s t x y. unique.of-content (nestWith (a .0) (a .1 .0) (a .1 .1 .0 .now)) r q x y) (λ κs a r s p. p)
-    (λ κs a no c. meant-stated c)
-
-pub nest-of-open : AcceptsAll nest-of
-nest-of-open = λ κs a. tt
-
-abbrev pub nibe-of : Row
-nibe-of =
-    refusing (ascii "messages::nibe::of") messages.nibe.of.Kinds.ps messages.nibe.of.Kinds.r messages.nibe.of.Reads.Pre messages.nibe.of.Reads.Post
-    messages.nibe.of.Statement.statement (5 ∷ []) (λ κs a. MeantCause (NibeWith (a .0) (a .1 .0 .now))) meantNumber meantValue noneMeant (λ κs r. r)
-
-pub nibe-of-kept : Kept nibe-of
-nibe-of-kept =
-    refusing-kept (λ M. messages.nibe.of.Met.met) (λ κs a r q s t x y. unique.of-content (nibe (a .0) (a .1 .0 .now)) r q x y) (λ κs a r s p. p)
-    (λ κs a no c. meant-stated c)
-
-pub nibe-of-open : AcceptsAll nibe-of
-nibe-of-open = λ κs a. tt
-
-abbrev pub nikobus-of-link : Row
-nikobus-of-link =
-    refusing (ascii "messages::nikobus::of_link") messages.nikobus.of_link.Kinds.ps messages.nikobus.of_link.Kinds.r messages.nikobus.of_link.Reads.Pre messages.nikobus.of_link.Reads.Post
-    messages.nikobus.of_link.Statement.statement (5 ∷ []) (λ κs a. MeantCause (LinkWith (a .0 .now))) meantNumber meantValue noneMeant (λ κs r. r)
-
-pub nikobus-of-link-kept : Kept nikobus-of-link
-nikobus-of-link-kept =
-    refusing-kept (λ M. messages.nikobus.of_link.Met.met) (λ κs a r q s t x y. unique.of-link (a .0 .now) r q x y) (λ κs a r s p. p)
-    (λ κs a no c. meant-stated c)
-
-pub nikobus-of-link-open : AcceptsAll nikobus-of-link
-nikobus-of-link-open = λ κs a. tt
-
-abbrev pub nikobus-of-press : Row
-nikobus-of-press =
-    refusing (ascii "messages::nikobus::of_press") messages.nikobus.of_press.Kinds.ps messages.nikobus.of_press.Kinds.r messages.nikobus.of_press.Reads.Pre messages.nikobus.of_press.Reads.Post
-    messages.nikobus.of_press.Statement.statement (5 ∷ []) (λ κs a. MeantCause (PressWith (a .0 .now))) meantNumber meantValue noneMeant (λ κs r. r)
-
-pub nikobus-of-press-kept : Kept nikobus-of-press
-nikobus-of-press-kept =
-    refusing-kept (λ M. messages.nikobus.of_press.Met.met) (λ κs a r q s t x y. unique.of-content (press (a .0 .now)) r q x y) (λ κs a r s p. p)
-    (λ κs a no c. meant-stated c)
-
-pub nikobus-of-press-open : AcceptsAll nikobus-of-press
-nikobus-of-press-open = λ κs a. tt
+pub of-open : AcceptsAll of
+of-open = λ κs a. tt
 
 -- ---- whether a message is one of the table
 
@@ -214,19 +163,14 @@ allowed-open = λ κs a. tt
 -- ---- all of them
 
 abbrev pub rows : List Row
-rows = decode ∷ find ∷ content ∷ allowed ∷ homiq-field ∷ homiq-of ∷ nest-for-panel ∷ nest-voltages ∷ nest-of ∷ nibe-of ∷ nikobus-of-link ∷ nikobus-of-press ∷ []
+rows = decode ∷ find ∷ content ∷ of ∷ allowed ∷ homiq-field ∷ nest-for-panel ∷ nest-voltages ∷ []
 
 pub rows-kept : Every Proper rows
 rows-kept =
     also decode-kept decode-open
     (also find-kept find-open
     (also content-kept content-open
+    (also of-kept of-open
     (also allowed-kept allowed-open
     (also homiq-field-kept homiq-field-open
-    (also homiq-of-kept homiq-of-open
-    (also nest-for-panel-kept nest-for-panel-open
-    (also nest-voltages-kept nest-voltages-open
-    (also nest-of-kept nest-of-open
-    (also nibe-of-kept nibe-of-open
-    (also nikobus-of-link-kept nikobus-of-link-open
-    (also nikobus-of-press-kept nikobus-of-press-open none)))))))))))
+    (also nest-for-panel-kept nest-for-panel-open (also nest-voltages-kept nest-voltages-open none)))))))

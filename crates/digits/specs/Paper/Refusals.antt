@@ -3,7 +3,8 @@
 use Prim.Native.Nat.{ℕ, _<_}
 use mathlib.Core.List.{List, [], _∷_}
 use Rattle.digits.specs.declared.refusal.Refusal.{Refusal}
-use Rattle.digits.specs.declared.refusal.Refusal.the-variants.{NoFrame, Kind, Place, Room, Limits, Above, Form, Book}
+use Rattle.digits.specs.declared.refusal.Refusal.the-variants.{NoFrame, Kind, Place, Room}
+use Rattle.digits.specs.declared.refusal.Refusal.the-variants.{Limits, Above, Form, Book}
 
 -- "no frame from that place on"; "kind not 1 to 5"; "place beyond the buffer's length; entry number not below the count"; "lent
 -- room too short for the answer"; "a field, frame or book outside its limits; a raw number out of range, or not held by its width

@@ -50,4 +50,5 @@ bitOrder Homiq = lowFirst
 -- the frame f of kind k carries a value of the check, over the bytes
 pub record Carries (k : ℕ) (f : List ℕ) (c : Check) (bytes : List ℕ) (value : ℕ) : Type 0 where
   pub frame : Frame k f
-  pub carries : checkedIn (frame .kind) (frame .frame .form .fields) ≡ some (record { check = c; bytes = bytes; value = value })
+  pub carries : checkedIn (frame .kind) (frame .frame .form .fields)
+      ≡ some (record { check = c; bytes = bytes; value = value })

@@ -4,17 +4,17 @@ use mathlib.Core.Bool.{Bool, true, false, _||_, not, or-false}
 use mathlib.Core.List.{List, [], _∷_, _++_}
 use mathlib.Core.Path.{_≡_, refl, sym, _∙_, ap, ap₂}
 use Prim.Native.Nat.{ℕ, zero, suc, _+_, _*_, _/_, _%_, _^_, _≤_, _<_}
-use native.Mathlib.Nat.{pow-le-pow-right, zero-lt-suc}
+use native.Mathlib.Nat.{pow-suc, pow-le-pow-right, zero-lt-suc}
+use native.Mathlib.Numerals.{add-one}
 use native.Mathlib.Omega.{arith}
 use lib.Dec.{T, eqb, leb, ltb, eqb→eq, leb→le, ltb→lt}
 use lib.ListN.{length, getD, take, drop, length-append}
-use lib.Seq.{length-take-le, take-append-seam, getD-append-seam, getD-at, split-at, append-snoc}
+use lib.Seq.{length-take-le, take-take, take-append-seam, getD-append-seam, getD-at, split-at, append-snoc}
 use borrow.Author.Tests.{eq-eqb, ne-eqb, le-leb, lt-ltb, eqb-true}
-use Rattle.digits.proofs.Laws.Decimal.{decimal-small, length-more, chars-digits, length-decimal, guess-decimal, Guessing, guessing-next}
-use Rattle.digits.proofs.Laws.Parts.{part-front}
+use Rattle.digits.proofs.Laws.Decimal.{decimal-small, length-more, chars-digits, length-decimal, guess-decimal}
+use Rattle.digits.proofs.Laws.Parts.{next}
 use Rattle.digits.proofs.Laws.Tests.{T-and}
 use Rattle.digits.specs.Paper.Ascii.{ascii}
-use Rattle.digits.specs.Paper.Bytes.{part}
 use Rattle.digits.specs.Paper.Decimal.{decimal}
 use Rattle.digits.specs.Work.Decimal.{guess}
 use Rattle.layouts.specs.Paper.Chars.{oneOf, all}
@@ -22,7 +22,7 @@ use Rattle.layouts.specs.Paper.Homiq.{fieldChar, Field}
 use Rattle.layouts.specs.Work.Heads.{onlyIf, starts, wordLen, leading}
 use Rattle.layouts.specs.Work.Homiq.{fieldLen, isFigure, numberIn, numberLen, typeLen}
 use Rattle.layouts.proofs.Laws.Heads.{Head, Right, Or, left, right, only-test, only-eq, only-yes, word-right, or-right, same-right, front-of}
-use Rattle.layouts.proofs.Laws.Runs.{leading-most, leading-front, leading-word, all-by, all-at}
+use Rattle.layouts.proofs.Laws.Runs.{leading-step, leading-most, leading-front, leading-word, all-by}
 
 -- ---- `;` behind a word
 
@@ -180,19 +180,49 @@ figures-decimal : (u : List ℕ) → T (all isFigure u) → length u ≡ length 
 figures-decimal u a l =
     figures-one u (decimal (guess 0 u)) 0 0 l a (decimal-figures (guess 0 u)) (sym (guess-decimal (guess 0 u))) .1
 
--- the loop that makes the number, of four figures at most: a figure's character ends in its value
-module _ {s : List ℕ} {v i : ℕ} (g : Guessing s v i) (h : i < length s) (most : length s ≤ 4) (a : T (all isFigure s)) where
-  pub value-small : (v < 1000) × (getD s i 0 < 58)
-  value-small =
+-- the figures at the head of a list
+abbrev front : List ℕ → List ℕ
+front s = take (leading isFigure s) s
+
+-- the loop that counts the figures and makes their number: i of them have made v, and what is left completes both
+pub record Figuring (s : List ℕ) (v i : ℕ) : Type 0 where
+  pub within : i ≤ length s
+  pub small : v < 10 ^ i
+  pub count : i + leading isFigure (drop i s) ≡ leading isFigure s
+  pub rest : guess v (front (drop i s)) ≡ guess 0 (front s)
+
+pub figuring-start : (s : List ℕ) → Figuring s 0 0
+figuring-start s = record { within = omega arith; small = omega arith; count = omega arith; rest = refl }
+
+module _ {s : List ℕ} {v i : ℕ} (g : Figuring s v i) where
+  -- of at most four figures, the last adds to a number of three
+  pub figuring-small : i < length s → length s ≤ 4 → v < 1000
+  figuring-small h most =
       let k : i ≤ 3 = omega arith in
       let p : 10 ^ i ≤ 10 ^ 3 = pow-le-pow-right (zero-lt-suc 9) k in
-      (omega (arith, g .small), omega (arith, figure-bounds _ (all-at isFigure s i a h) .1))
+      omega (arith, g .small)
 
-  pub value-next : Guessing s (v * 10 + getD s i 0 % 16) (i + 1)
-  value-next =
-      let b = figure-bounds _ (all-at isFigure s i a h) in
+  -- a figure's character ends in its value
+  pub figuring-next : i < length s → isFigure (getD s i 0) ≡ true → Figuring s (v * 10 + getD s i 0 % 16) (i + 1)
+  unfolding guess leading
+  figuring-next h f =
+      let b = figure-bounds (getD s i 0) (rw f tt) in
       let e : getD s i 0 % 16 ≡ (getD s i 0 + 2) % 10 = omega arith in
-      rw e (guessing-next g h)
+      let p : 10 ^ (i + 1) ≡ 10 ^ i * 10 = ap (λ (k : ℕ). 10 ^ k) (add-one i) ∙ pow-suc 10 i in
+      let t : guess v (front (drop i s)) ≡ guess (v * 10 + (getD s i 0 + 2) % 10) (front (drop (i + 1) s)) = rw (next s i h, f) in
+      record {
+        within = omega arith;
+        small = omega (arith, g .small, p);
+        count = leading-step isFigure s i h f ∙ g .count;
+        rest = rw e (sym t ∙ g .rest);
+      }
+
+  pub figuring-end : i ≡ i + leading isFigure (drop i s) → (i ≡ leading isFigure s) × (v ≡ guess 0 (take i s))
+  unfolding guess
+  figuring-end e =
+      let z : leading isFigure (drop i s) ≡ 0 = omega arith in
+      let n : i ≡ leading isFigure s = e ∙ g .count in
+      (n, sym (ap (λ (k : ℕ). guess v (take k (drop i s))) z) ∙ g .rest ∙ ap (λ (k : ℕ). guess 0 (take k s)) (sym n))
 
 -- how many digits a number has
 pub width-two : (v : ℕ) → 10 ≤ v → v < 100 → 2 ≡ length (decimal v)
@@ -255,49 +285,45 @@ pub record NumberAt (low high : ℕ) (s : List ℕ) (n v : ℕ) : Type 0 where
   pub digits : n ≡ length (decimal v)
   pub end : getD s n 0 ≡ 59
 
-module _ (s : List ℕ) (n : ℕ) (is : n ≡ leading isFigure (take 4 s)) where
-  pub figures-inside : n ≤ length s
-  figures-inside = rw is (leading-most isFigure 4 s .1)
-
-  pub figures-part : (length (part 0 n s) ≤ 4) × T (all isFigure (part 0 n s))
-  figures-part =
-      let l : length (take n s) ≡ n = length-take-le n s figures-inside in
-      let m : n ≤ 4 = rw is (leading-most isFigure 4 s .0) in
-      let f : T (all isFigure (take n s)) = rw is (leading-front isFigure 4 s) in
-      rw (part-front n s) (omega arith, f)
-
-module _ (low high : ℕ) (small : high < 1000) (s : List ℕ) (n v : ℕ) (is : n ≡ leading isFigure (take 4 s)) (reads : v ≡ guess 0 (part 0 n s)) where
+module _ (s : List ℕ) (n v : ℕ) (is : n ≡ leading isFigure (take 4 s)) (reads : v ≡ guess 0 (take n (take 4 s))) where
   made-of : v ≡ guess 0 (take n s)
-  made-of = reads ∙ ap (guess 0) (part-front n s)
+  made-of =
+      let m : n ≤ 4 = rw is (leading-most isFigure 4 s .0) in
+      reads ∙ ap (guess 0) (take-take n 4 s m)
 
-  number-at : 0 < numberLen low high s → NumberAt low high s n v
-  number-at p =
-      let h = number-right low high small .sound s p in
-      let x = h .is .value in
-      let most = h .is .most in
-      let e : s ≡ decimal x ++ 59 ∷ h .rest = h .splits ∙ ap (λ (l : List ℕ). l ++ h .rest) (h .is .ends) ∙ append-snoc (decimal x) 59 (h .rest) in
-      let d : n ≡ length (decimal x) = is ∙ ap (λ (l : List ℕ). leading isFigure (take 4 l)) e ∙ number-run x (omega arith) (h .rest) in
-      let r : v ≡ x = made-of ∙ ap (guess 0) (front-of s (decimal x) (59 ∷ h .rest) n e d) ∙ guess-decimal x in
-      record {
-        least = omega (arith, h .is .least);
-        most = omega arith;
-        digits = d ∙ ap (λ (k : ℕ). length (decimal k)) (sym r);
-        end = ap (λ (l : List ℕ). getD l n 0) e ∙ getD-at (decimal x) 59 (h .rest) 0 n (sym d);
-      }
+  pub number-value : v ≡ numberIn s
+  unfolding numberIn
+  number-value = made-of ∙ ap (λ (k : ℕ). guess 0 (take k s)) is
 
-  pub number-no : (NumberAt low high s n v → ⊥) → 0 ≡ numberLen low high s
-  number-no f = none-of _ (λ h. f (number-at h))
+  module _ (low high : ℕ) (small : high < 1000) where
+    number-at : 0 < numberLen low high s → NumberAt low high s n v
+    number-at p =
+        let h = number-right low high small .sound s p in
+        let x = h .is .value in
+        let most = h .is .most in
+        let e : s ≡ decimal x ++ 59 ∷ h .rest = h .splits ∙ ap (λ (l : List ℕ). l ++ h .rest) (h .is .ends) ∙ append-snoc (decimal x) 59 (h .rest) in
+        let d : n ≡ length (decimal x) = is ∙ ap (λ (l : List ℕ). leading isFigure (take 4 l)) e ∙ number-run x (omega arith) (h .rest) in
+        let r : v ≡ x = made-of ∙ ap (guess 0) (front-of s (decimal x) (59 ∷ h .rest) n e d) ∙ guess-decimal x in
+        record {
+          least = omega (arith, h .is .least);
+          most = omega arith;
+          digits = d ∙ ap (λ (k : ℕ). length (decimal k)) (sym r);
+          end = ap (λ (l : List ℕ). getD l n 0) e ∙ getD-at (decimal x) 59 (h .rest) 0 n (sym d);
+        }
 
-  pub number-whole : low ≤ v → v ≤ high → n ≡ length (decimal v) → getD s n 0 ≡ 59 → n + 1 ≡ numberLen low high s
-  number-whole a b d e =
-      let u = take n s in
-      let l : length u ≡ n = length-take-le n s (figures-inside s n is) in
-      let f : T (all isFigure u) = rw is (leading-front isFigure 4 s) in
-      let g : u ≡ decimal v = figures-decimal u f (l ∙ d ∙ ap (λ (k : ℕ). length (decimal k)) made-of) ∙ ap decimal (sym made-of) in
-      sym
-      (ap (numberLen low high) (closed-splits s n e)
-      ∙ number-right low high small .complete (record { value = v; least = a; most = b; ends = ap (λ (w : List ℕ). w ++ ascii ";") g }) (drop (suc n) s)
-      ∙ sym (closed-length u) ∙ ap (λ (k : ℕ). k + 1) l)
+    pub number-no : (NumberAt low high s n v → ⊥) → 0 ≡ numberLen low high s
+    number-no f = none-of _ (λ h. f (number-at h))
+
+    pub number-whole : low ≤ v → v ≤ high → n ≡ length (decimal v) → getD s n 0 ≡ 59 → n + 1 ≡ numberLen low high s
+    number-whole a b d e =
+        let u = take n s in
+        let l : length u ≡ n = length-take-le n s (rw is (leading-most isFigure 4 s .1)) in
+        let f : T (all isFigure u) = rw is (leading-front isFigure 4 s) in
+        let g : u ≡ decimal v = figures-decimal u f (l ∙ d ∙ ap (λ (k : ℕ). length (decimal k)) made-of) ∙ ap decimal (sym made-of) in
+        sym
+        (ap (numberLen low high) (closed-splits s n e)
+        ∙ number-right low high small .complete (record { value = v; least = a; most = b; ends = ap (λ (w : List ℕ). w ++ ascii ";") g }) (drop (suc n) s)
+        ∙ sym (closed-length u) ∙ ap (λ (k : ℕ). k + 1) l)
 
 -- ---- TYPE
 

@@ -5,26 +5,23 @@ use mathlib.Core.List.{List, _++_, append-assoc}
 use mathlib.Core.Path.{_≡_, refl, sym, _∙_, ap, ap₂, subst}
 use Prim.Native.Nat.{ℕ, _+_, _-_, _≤_, _<_}
 use native.Mathlib.Omega.{arith}
-use lib.Dec.{T, eqb}
+use lib.Dec.{eqb}
 use lib.ListN.{length, take, drop, take-append-drop}
-use lib.Seq.{take-append-seam}
+use lib.Seq.{append-snoc}
 use borrow.Author.Tests.{eq-eqb, ne-eqb}
-use Rattle.digits.proofs.Laws.Decimal.{length-decimal, guess-decimal}
 use Rattle.digits.specs.Paper.Ascii.{ascii}
 use Rattle.digits.specs.Paper.Bytes.{part}
 use Rattle.digits.specs.Paper.Decimal.{decimal}
-use Rattle.digits.specs.Work.Decimal.{guess}
 use Rattle.checks.specs.Paper.Buses.{homiqCrc}
 use Rattle.checks.specs.Paper.Check.{check}
-use Rattle.layouts.specs.Paper.Chars.{all}
 use Rattle.layouts.specs.Paper.Homiq.{joined, homiq, kept}
 use Rattle.layouts.specs.Paper.Layout.{Form, Leads}
 use Rattle.layouts.specs.Work.Heads.{onlyIf, wordLen, on, onward, passing}
-use Rattle.layouts.specs.Work.Homiq.{fieldLen, isFigure, numberLen, typeLen, headLen, homiqFormLen, homiqPasses, homiqTo}
+use Rattle.layouts.specs.Work.Homiq.{fieldLen, numberIn, numberLen, typeLen, headLen, homiqFormLen, homiqPasses, homiqTo}
 use Rattle.layouts.proofs.Laws.Buses.{leads-at, leads-none}
 use Rattle.layouts.proofs.Laws.Heads.{taken, inside, only-yes, only-no, only-zero, back-of, on-both, ends-inside}
 use Rattle.layouts.proofs.Laws.Homiq.{frontOf, closing, form-right, form-laid, form-head, form-passes, front-length, front-covered, homiq-bus}
-use Rattle.layouts.proofs.Laws.HomiqFields.{number-right, closed-length, decimal-figures}
+use Rattle.layouts.proofs.Laws.HomiqFields.{number-right, number-read, closed-length}
 
 -- the head, one part behind the other
 pub head-whole : (s : List ℕ) (a b c d e f r : ℕ) → a ≡ wordLen (ascii "<;") s → b ≡ onward (fieldLen 8) s a → c ≡ onward (fieldLen 16) s b
@@ -41,7 +38,7 @@ pub record Found (s : List ℕ) (before behind n : ℕ) : Type 0 where
   pub two : 2 ≤ before
   pub crosses : before < behind
   pub inner : behind ≤ length s
-  pub digits : part before (behind - 1) s ≡ decimal (form .fields .crc)
+  pub claims : numberIn (drop before s) ≡ form .fields .crc
   pub covered : kept (part 2 before s) ≡ joined (form .fields)
 
 module _ (s : List ℕ) (before behind n : ℕ) (eb : before ≡ headLen s) (en : behind ≡ onward (numberLen 0 255) s before) (ee : n ≡ onward (wordLen closing) s behind) where
@@ -79,9 +76,7 @@ module _ (s : List ℕ) (before behind n : ℕ) (eb : before ≡ headLen s) (en 
         two = omega arith;
         crosses = omega (arith, closed-length (decimal (m .crc)));
         inner = ends-inside (numberLen 0 255) (inside (number-right 0 255 (omega arith))) s before behind en;
-        digits =
-            let q : behind - 1 - before ≡ length (decimal (m .crc)) = omega (arith, closed-length (decimal (m .crc))) in
-            ap₂ (λ (i : ℕ) (u : List ℕ). take i u) q (k ∙ append-assoc (decimal (m .crc)) (ascii ";") t) ∙ take-append-seam (decimal (m .crc)) (ascii ";" ++ t);
+        claims = ap numberIn (k ∙ append-snoc (decimal (m .crc)) 59 t) ∙ number-read (m .crc) (omega (arith, l .crc)) t;
         covered = ap (λ (i : ℕ). kept (part 2 i s)) eb ∙ front-covered m l s t laid;
       }
     where
@@ -93,30 +88,23 @@ module _ (s : List ℕ) (before behind n : ℕ) (eb : before ≡ headLen s) (en 
       let p : 0 < homiqFormLen s = omega (arith, size) in
       made (omega (arith, size)) (subst (λ (k : ℕ). Form homiq (take k s)) (sym size) (taken form-right s p))
 
-module _ {s : List ℕ} {before behind n : ℕ} (f : Found s before behind n) where
-  -- the CRC is a number of at most four figures
-  pub frame-figures : (length (part before (behind - 1) s) ≤ 4) × T (all isFigure (part before (behind - 1) s))
-  frame-figures =
-      let c = f .form .fields .crc in
-      let l : length (decimal c) ≤ 3 = length-decimal 2 c (omega (arith, f .form .limits .crc)) in
-      rw (f .digits) (omega arith, decimal-figures c)
+module _ {s : List ℕ} {before behind n : ℕ} (f : Found s before behind n)
+    (x v : ℕ) (ex : x ≡ check homiqCrc (kept (part 2 before s))) (ev : v ≡ numberIn (drop before s)) where
+  -- the test of the code is the definition's
+  tested : homiqPasses (take n s) ≡ eqb v x
+  tested =
+      form-passes (take n s) (f .form)
+      ∙ sym (ap₂ (λ (a b : ℕ). eqb a b) (ev ∙ f .claims) (ex ∙ ap (check homiqCrc) (f .covered)))
 
-  module _ (x v : ℕ) (ex : x ≡ check homiqCrc (kept (part 2 before s))) (ev : v ≡ guess 0 (part before (behind - 1) s)) where
-    -- the test of the code is the definition's
-    tested : homiqPasses (take n s) ≡ eqb v x
-    tested =
-        form-passes (take n s) (f .form)
-        ∙ sym (ap₂ (λ (a b : ℕ). eqb a b) (ev ∙ ap (guess 0) (f .digits) ∙ guess-decimal (f .form .fields .crc)) (ex ∙ ap (check homiqCrc) (f .covered)))
+  passed : (b : Bool) → eqb v x ≡ b → onlyIf b n ≡ passing homiqFormLen homiqPasses s
+  passed b e =
+      ap₂ (λ (c : Bool) (k : ℕ). onlyIf c k) (sym (tested ∙ e) ∙ ap (λ (k : ℕ). homiqPasses (take k s)) (f .size)) (f .size)
 
-    passed : (b : Bool) → eqb v x ≡ b → onlyIf b n ≡ passing homiqFormLen homiqPasses s
-    passed b e =
-        ap₂ (λ (c : Bool) (k : ℕ). onlyIf c k) (sym (tested ∙ e) ∙ ap (λ (k : ℕ). homiqPasses (take k s)) (f .size)) (f .size)
+  pub frame-other : (x ≡ v → ⊥) → Leads homiq s 0 0 0
+  frame-other h = leads-none homiq-bus s (sym (only-no _ n refl) ∙ passed false (ne-eqb v x (λ e. h (sym e))))
 
-    pub frame-other : (x ≡ v → ⊥) → Leads homiq s 0 0 0
-    frame-other h = leads-none homiq-bus s (sym (only-no _ n refl) ∙ passed false (ne-eqb v x (λ e. h (sym e))))
-
-    pub frame-same : x ≡ v → Leads homiq s n 2 (before - 1)
-    unfolding homiqTo
-    frame-same e =
-        leads-at homiq-bus s n 2 (before - 1) (sym (only-yes _ n refl) ∙ passed true (eq-eqb v x (sym e)))
-        (λ z. omega (arith, f .some)) refl (ap (λ (k : ℕ). k - 1) (sym (f .head)))
+  pub frame-same : x ≡ v → Leads homiq s n 2 (before - 1)
+  unfolding homiqTo
+  frame-same e =
+      leads-at homiq-bus s n 2 (before - 1) (sym (only-yes _ n refl) ∙ passed true (eq-eqb v x (sym e)))
+      (λ z. omega (arith, f .some)) refl (ap (λ (k : ℕ). k - 1) (sym (f .head)))

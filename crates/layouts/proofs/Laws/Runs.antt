@@ -1,15 +1,16 @@
 -- One step of each loop over a list, at an index; and the run of elements at the head of a list.
 -- Assumes nothing.
-use mathlib.Core.Bool.{Bool, true, false, and-false, cond}
+use mathlib.Core.Bool.{Bool, true, false, _&&_, and-true, and-false, and-assoc, cond}
 use mathlib.Core.List.{List, [], _∷_, _++_}
-use mathlib.Core.Path.{_≡_, refl}
+use mathlib.Core.Path.{_≡_, refl, sym, ap, _∙_}
 use Prim.Native.Nat.{ℕ, zero, suc, _+_, _≤_, _<_}
-use native.Mathlib.Nat.{le-of-suc-le-suc}
+use native.Mathlib.Nat.{le-of-suc-le-suc, add-sub-cancel-left}
 use native.Mathlib.Omega.{arith}
 use lib.Dec.{T, eqb}
 use lib.ListN.{length, getD, drop, take, drop-of-length-le, length-take}
-use lib.Seq.{take-take}
+use lib.Seq.{take-take, drop-drop}
 use borrow.Author.Tests.{eq-eqb, ne-eqb}
+use Rattle.digits.specs.Paper.Bytes.{part}
 use Rattle.digits.proofs.Laws.Parts.{next}
 use Rattle.digits.proofs.Laws.Tests.{T-and, T-true}
 use Rattle.layouts.specs.Paper.Chars.{oneOf, all}
@@ -48,19 +49,39 @@ module _ (f : ℕ → Bool) (s : List ℕ) (i : ℕ) where
   unfolding leading
   leading-end h = rw (drop-of-length-le s h) (omega arith)
 
--- all elements, and one of them
-module _ (f : ℕ → Bool) (s : List ℕ) (i : ℕ) where
-  pub all-stop : i < length s → f (getD s i 0) ≡ false → false ≡ all f (drop i s)
-  unfolding all
-  all-stop h e = rw (next s i, e)
+-- all elements: those up to one of them, and those from there on
+all-parts : (f : ℕ → Bool) (k : ℕ) (s : List ℕ) → all f s ≡ (all f (take k s) && all f (drop k s))
+unfolding all
+all-parts f zero s = refl
+all-parts f (suc k) [] = refl
+all-parts f (suc k) (x ∷ s) = rw (all-parts f k s) (sym (and-assoc (f x) _ _))
 
-  pub all-step : i < length s → f (getD s i 0) ≡ true → all f (drop (i + 1) s) ≡ all f (drop i s)
-  unfolding all
-  all-step h e = rw (next s i, e)
+-- the first of them is not one
+pub first-stop : (f : ℕ → Bool) (s : List ℕ) → 0 < length s → f (getD s 0 0) ≡ false → false ≡ all f s
+unfolding all
+first-stop f [] h e = absurd (omega arith)
+first-stop f (x ∷ s) h e = rw e
 
-  pub all-end : length s ≤ i → true ≡ all f (drop i s)
+-- all elements behind the first i, and a block of k of them
+module _ (f : ℕ → Bool) (s : List ℕ) (i k : ℕ) where
+  all-blocks : all f (drop i s) ≡ (all f (part i (i + k) s) && all f (drop (i + k) s))
+  all-blocks = rw (add-sub-cancel-left i k, sym (drop-drop k i s)) (all-parts f k (drop i s))
+
+  pub block-stop : all f (part i (i + k) s) ≡ false → false ≡ all f (drop i s)
+  block-stop e = rw (all-blocks, e)
+
+  pub block-step : all f (part i (i + k) s) ≡ true → all f (drop (i + k) s) ≡ all f (drop i s)
+  block-step e = rw (all-blocks, e)
+
+-- all elements, where b tells of the first i
+module _ (f : ℕ → Bool) (s : List ℕ) (i : ℕ) (b : Bool) where
+  pub all-step : {x : Bool} → i < length s → x ≡ f (getD s i 0) → (b && x && all f (drop (i + 1) s)) ≡ (b && all f (drop i s))
   unfolding all
-  all-end h = rw (drop-of-length-le s h)
+  all-step h e = rw (next s i h, e) (and-assoc b _ _)
+
+  pub all-end : length s ≤ i → b ≡ (b && all f (drop i s))
+  unfolding all
+  all-end h = rw (drop-of-length-le s h) (sym (and-true b))
 
 module _ (x : ℕ) (s : List ℕ) (i : ℕ) where
   pub one-hit : i < length s → x ≡ getD s i 0 → true ≡ oneOf (drop i s) x

@@ -57,7 +57,8 @@ before m = ascii "<;"
 -- "CMD;VAL;SRC;DST;ID;TYPE", where ID is "decimal without leading zeros"; 01, Search: "Homiq's CMD to TYPE"
 abbrev pub payload : Homiq → List ℕ
 payload m =
-    m .cmd ++ ascii ";" ++ m .val ++ ascii ";" ++ m .src ++ ascii ";" ++ m .dst ++ ascii ";" ++ decimal (m .id) ++ ascii ";" ++ (m .type ∷ [])
+    m .cmd ++ ascii ";" ++ m .val ++ ascii ";" ++ m .src ++ ascii ";" ++ m .dst ++ ascii ";"
+    ++ decimal (m .id) ++ ascii ";" ++ (m .type ∷ [])
 
 -- ";CRC;>` CR LF", where CRC is "decimal without leading zeros"
 abbrev pub behind : Homiq → List ℕ

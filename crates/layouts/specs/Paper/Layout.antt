@@ -38,5 +38,6 @@ pub record Frame (l : Layout) (f : List ℕ) : Type 0 where
 
 -- A frame of n bytes stands at the head of s, and its payload goes from one place in it to another; zeros where none stands there.
 pub data Leads (l : Layout) (s : List ℕ) : (n from to : ℕ) → Type 0 where
-  leads : {n : ℕ} → n ≤ length s → (f : Frame l (take n s)) → Leads l s n (payloadFrom l (f .form .fields)) (payloadTo l (f .form .fields))
+  leads : {n : ℕ} → n ≤ length s → (f : Frame l (take n s))
+      → Leads l s n (payloadFrom l (f .form .fields)) (payloadTo l (f .form .fields))
   none : ((n : ℕ) → n ≤ length s → Frame l (take n s) → ⊥) → Leads l s 0 0 0

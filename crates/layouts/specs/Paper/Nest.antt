@@ -51,7 +51,8 @@ abbrev pub Passes : Nest → Type 0
 Passes m = m .crc ≡ check nestCrc (covered (m .id) (m .payload))
 
 abbrev pub nestWith : List ℕ → Layout
-nestWith mark = record { Fields = Nest; Limits = Limits; before = before mark; payload = payload; behind = behind; Passes = Passes }
+nestWith mark =
+    record { Fields = Nest; Limits = Limits; before = before mark; payload = payload; behind = behind; Passes = Passes }
 
 abbrev pub nest : Direction → Layout
 nest d = nestWith (preamble d)

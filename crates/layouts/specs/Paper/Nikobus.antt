@@ -39,7 +39,8 @@ behind tail = []
 
 -- "LL is even, 0x0C to 0xFE, so the payload is 1 to 122 bytes"; "six digits"
 pub data Limits : Nikobus → Type 0 where
-  link-limits : {p : List ℕ} {crc16 crc8 : ℕ} → 1 ≤ length p → length p ≤ 122 → Bytes p → crc16 < 65536 → crc8 < 256 → Limits (link p crc16 crc8)
+  link-limits : {p : List ℕ} {crc16 crc8 : ℕ} → 1 ≤ length p → length p ≤ 122 → Bytes p → crc16 < 65536 → crc8 < 256
+      → Limits (link p crc16 crc8)
   press-limits : {d : List ℕ} → length d ≡ 6 → T (all isHex d) → Limits (press d)
   tail-limits : Limits tail
 
@@ -50,9 +51,11 @@ linkChecked p crc16 = ascii "$" ++ hexByte (length p * 2 + 10) ++ hexBytes p ++ 
 -- "CRC16 covers the payload's bytes"; "CRC8 covers the characters from `$` to the end of the CRC16"; "Here both Nikobus checks are
 -- required"
 pub data Passes : Nikobus → Type 0 where
-  link-passes : {p : List ℕ} {crc16 crc8 : ℕ} → crc16 ≡ check nikobusCrc16 p → crc8 ≡ check nikobusCrc8 (linkChecked p crc16) → Passes (link p crc16 crc8)
+  link-passes : {p : List ℕ} {crc16 crc8 : ℕ} → crc16 ≡ check nikobusCrc16 p
+      → crc8 ≡ check nikobusCrc8 (linkChecked p crc16) → Passes (link p crc16 crc8)
   press-passes : {d : List ℕ} → Passes (press d)
   tail-passes : Passes tail
 
 abbrev pub nikobus : Layout
-nikobus = record { Fields = Nikobus; Limits = Limits; before = before; payload = payload; behind = behind; Passes = Passes }
+nikobus =
+    record { Fields = Nikobus; Limits = Limits; before = before; payload = payload; behind = behind; Passes = Passes }

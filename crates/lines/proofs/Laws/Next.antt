@@ -31,8 +31,8 @@ use Rattle.lines.specs.declared.Listed.the-variants.{At, Refused}
 use Rattle.lines.proofs.Laws.Said.{put-said}
 
 -- what the code puts of a message that is said is the message's line
-pub line-of-message : {e : Coded} {s : List ℕ} {at len : ℕ} {m : Message} → Good m → Says e s m → LineSaid e s at len (put e s at len)
-line-of-message {e} {s} {at} {len} {m} g x = record { message = m; good = g; says = x; is = put-said e s at len m (g .limits) x }
+pub line-of-message : (e : Coded) (s : List ℕ) {at len : ℕ} {m : Message} → Good m → Says e s m → LineSaid (Says e s) at len (put e s at len)
+line-of-message e s {at} {len} {m} g x = record { message = m; good = g; said = x; is = put-said e s at len m (g .limits) x }
 
 -- what stands beside the message of a frame says it
 pub beside-says : {k : ℕ} {f : List ℕ} {e : Coded} {from to : ℕ} {c : List ℕ} (x : Said k f e from to) → c ≡ part from to f → Says e c (x .message)

@@ -13,51 +13,72 @@ use Rattle.digits.specs.declared.refusal.Refusal.{Refusal}
 use Rattle.digits.specs.declared.refusal.Refusal.the-variants.{Limits as OutsideLimits}
 use Rattle.digits.proofs.Laws.Refusals.{answered, cause-at, cause-of, some-number}
 use Rattle.messages.specs.Paper.Allowed.{StandingCause, outside, taken, Allows}
+use Rattle.messages.specs.Paper.Meant.{ContentWith, MeantCause, MessageWith, Means}
+use Rattle.messages.specs.Paper.Meant as meants
 use Rattle.messages.specs.Paper.Message.{Message}
 use Rattle.messages.specs.Paper.Says.{Says}
 use Rattle.messages.specs.Paper.Table.{Above, Good}
+use Rattle.messages.specs.declared.Meant.{Meant}
+use Rattle.messages.specs.declared.Meant.the-variants.{Is, Refused as Unmeant}
 use Rattle.messages.specs.declared.Message.{Message as Coded}
 use Rattle.messages.specs.declared.Standing.{Standing}
 use Rattle.messages.specs.declared.Standing.the-variants.{Good as InTable, Refused}
+use Rattle.messages.specs.declared.Tag.{Tag}
+use Rattle.messages.proofs.Laws.Meant.{one-content-with, says-with, meant-in}
 use Rattle.messages.proofs.Laws.Says.{one-said}
+use Rattle.messages.proofs.Laws.Table.{one-message}
+use Rattle.puts.specs.Paper.Put.{last}
 use Rattle.puts.specs.declared.Written.{Written}
 use Rattle.puts.specs.declared.Written.the-variants.{Refused as Unwritten}
 use Rattle.puts.proofs.Laws.Right.{ours, first-5, first-4, no-cause}
-use Rattle.lines.specs.Paper.Answers.{LineSaid, SaidCause, no-message, short, PutSaid, WritesSaid}
+use Rattle.lines.specs.Paper.Answers.{LineSaid, SaidCause, no-message, short, PutSaid, WritesSaid, HasContent}
 use Rattle.lines.specs.Paper.Line.{line}
-use Rattle.lines.specs.Work.Put.{put, AllOrNone, all, none}
+use Rattle.lines.specs.Work.Put.{put, Bounded, AllOrNone, all, none}
 use Rattle.lines.proofs.Laws.Next.{line-of-message}
+use Rattle.lines.proofs.Laws.Said.{put-said}
+use Rattle.lines.proofs.Laws.Sizes.{line-bounded}
 
 -- ---- one line is said
 
-pub one-line-said : {e : Coded} {s : List ℕ} {at len : ℕ} (t u : List ℕ) → LineSaid e s at len t → LineSaid e s at len u → t ≡ u
-one-line-said {e} {s} {at} {len} t u a b = a .is ∙ ap (line at len) (one-said e s (a .message) (b .message) (a .says) (b .says)) ∙ sym (b .is)
+-- no two messages of the table are said
+abbrev pub OneSaid : (Message → Type 0) → Type 0
+OneSaid IsSaid = (m n : Message) → Good m → Good n → IsSaid m → IsSaid n → m ≡ n
 
--- and so one room has it
-pub one-put-said : {e : Coded} {s : List ℕ} {at len : ℕ} {room : List ℕ} {to : ℕ} (u v : ℕ × List ℕ) → PutSaid e s at len room to (u .0) (u .1)
-    → PutSaid e s at len room to (v .0) (v .1) → u ≡ v
-one-put-said {room = room} {to = to} u v a b =
-    let t : a .text ≡ b .text = one-line-said (a .text) (b .text) (a .line) (b .line) in
-    ap₂ (λ (n : ℕ) (x : List ℕ). (n, x)) (a .size-is ∙ ap length t ∙ sym (b .size-is)) (a .room-is ∙ ap (sets room to) t ∙ sym (b .room-is))
+pub one-says : (e : Coded) (s : List ℕ) → OneSaid (Says e s)
+one-says e s m n a b x y = one-said e s m n x y
+
+pub one-has : (t : Tag) (p : List ℕ) → OneSaid (HasContent t p)
+one-has t p m n a b x y = one-message m n a b (one-content-with t p m n a b x y)
+
+module _ {IsSaid : Message → Type 0} (one : OneSaid IsSaid) {at len : ℕ} where
+  pub one-line-said : (t u : List ℕ) → LineSaid IsSaid at len t → LineSaid IsSaid at len u → t ≡ u
+  one-line-said t u a b = a .is ∙ ap (line at len) (one (a .message) (b .message) (a .good) (b .good) (a .said) (b .said)) ∙ sym (b .is)
+
+  -- and so one room has it
+  pub one-put-said : {room : List ℕ} {to : ℕ} (u v : ℕ × List ℕ) → PutSaid IsSaid at len room to (u .0) (u .1)
+      → PutSaid IsSaid at len room to (v .0) (v .1) → u ≡ v
+  one-put-said {room = room} {to = to} u v a b =
+      let t : a .text ≡ b .text = one-line-said (a .text) (b .text) (a .line) (b .line) in
+      ap₂ (λ (n : ℕ) (x : List ℕ). (n, x)) (a .size-is ∙ ap length t ∙ sym (b .size-is)) (a .room-is ∙ ap (sets room to) t ∙ sym (b .room-is))
 
 -- ---- the causes
 
-module _ {e : Coded} {s : List ℕ} {at len left : ℕ} where
-  only : (i : ℕ) → ours i ≡ false → SaidCause e s at len left i → ⊥
+module _ {IsSaid : Message → Type 0} {at len left : ℕ} where
+  only : (i : ℕ) → ours i ≡ false → SaidCause IsSaid at len left i → ⊥
   only i h (no-message f) = true≢false h
   only i h (short l g) = true≢false h
 
-  module _ {t : List ℕ} (l : LineSaid e s at len t) where
-    message-there : SaidCause e s at len left 5 → ⊥
-    message-there (no-message f) = f (l .message) (l .good) (l .says)
+  module _ {t : List ℕ} (l : LineSaid IsSaid at len t) where
+    message-there : SaidCause IsSaid at len left 5 → ⊥
+    message-there (no-message f) = f (l .message) (l .good) (l .said)
 
-    enough : length t ≤ left → First (SaidCause e s at len left) order 0
-    enough h = no-cause only message-there fits
+    enough : OneSaid IsSaid → length t ≤ left → First (SaidCause IsSaid at len left) order 0
+    enough one h = no-cause only message-there fits
       where
-        fits : SaidCause e s at len left 4 → ⊥
-        fits (short {t = u} o g) = let n : length u ≡ length t = ap length (one-line-said u t o l) in omega arith
+        fits : SaidCause IsSaid at len left 4 → ⊥
+        fits (short {t = u} o g) = let n : length u ≡ length t = ap length (one-line-said one u t o l) in omega arith
 
-    too-few : left < length t → First (SaidCause e s at len left) order 4
+    too-few : left < length t → First (SaidCause IsSaid at len left) order 4
     too-few h = first-4 only message-there (short l h)
 
 -- a message that is refused is none of the table
@@ -67,15 +88,44 @@ none-said e s (taken {m = q} y a) m g x = g .free (subst Above (one-said e s q m
 
 -- ---- the answers
 
-module _ {e : Coded} {s : List ℕ} (r : Standing) (a : Allows e s r) {at len : ℕ} where
-  pub allowed-line : r ≡ InTable → LineSaid e s at len (put e s at len)
-  allowed-line q = let x = answered (subst (Allows e s) q a) refl in line-of-message (x .2) (x .1)
+pub said-placed : {IsSaid : Message → Type 0} (one : OneSaid IsSaid) {at len : ℕ} {t room later : List ℕ} {to : ℕ} {w : Written} → LineSaid IsSaid at len t
+    → AllOrNone t room to w later → WritesSaid IsSaid at len room to w later
+said-placed one {t = t} {room = room} {to = to} l (all h) =
+    answers {v = (length t, sets room to t)} (enough l one h) (record { text = t; line = l; size-is = refl; room-is = refl })
+said-placed one l (none h) = refuses (lit< tt) (too-few l h)
 
-  pub not-allowed : {why : Refusal} {room : List ℕ} {to : ℕ} → r ≡ Refused why → WritesSaid e s at len room to (Unwritten OutsideLimits) room
+-- of a message
+module _ (e : Coded) (s : List ℕ) (r : Standing) (a : Allows e s r) {at len : ℕ} where
+  pub allowed-line : r ≡ InTable → LineSaid (Says e s) at len (put e s at len)
+  allowed-line q = let x = answered (subst (Allows e s) q a) refl in line-of-message e s (x .2) (x .1)
+
+  pub not-allowed : {why : Refusal} {room : List ℕ} {to : ℕ} → r ≡ Refused why → WritesSaid (Says e s) at len room to (Unwritten OutsideLimits) room
   not-allowed {why} q =
       refuses (lit< tt) (first-5 only (no-message (none-said e s (cause-at (cause-of (subst (Allows e s) q a)) (some-number why)))))
 
-pub said-placed : {e : Coded} {s : List ℕ} {at len : ℕ} {t room later : List ℕ} {to : ℕ} {w : Written} → LineSaid e s at len t → AllOrNone t room to w later
-    → WritesSaid e s at len room to w later
-said-placed {t = t} {room = room} {to = to} l (all h) = answers {v = (length t, sets room to t)} (enough l h) (record { text = t; line = l; size-is = refl; room-is = refl })
-said-placed l (none h) = refuses (lit< tt) (too-few l h)
+-- of a content
+module _ (t : Tag) (p : List ℕ) (r : Meant) (a : Means (ContentWith t p) r) where
+  module _ {e : Coded} (q : r ≡ Is e) where
+    meant : MessageWith (ContentWith t p) e
+    meant = meant-in (subst (Means (ContentWith t p)) q a)
+
+    -- its message is said with the payload beside it, and so its line is the one that is put
+    beside : Says e p (meant .message)
+    beside = says-with p e (meant .message) (meant .says) t (meant .good) (meant .content)
+
+    meant-line : (at len : ℕ) → LineSaid (HasContent t p) at len (put e p at len)
+    meant-line at len =
+        record { message = meant .message; good = meant .good; said = meant .content; is = put-said e p at len (meant .message) (meant .good .limits) beside }
+
+    pub meant-bounded : (at len : ℕ) → at ≤ last → len ≤ last → Bounded (put e p at len) (length p)
+    meant-bounded at len h k = line-bounded e p h k (line-of-message e p (meant .good) beside)
+
+    pub meant-placed : {at len : ℕ} {room later : List ℕ} {to : ℕ} {w : Written} → AllOrNone (put e p at len) room to w later
+        → WritesSaid (HasContent t p) at len room to w later
+    meant-placed {at} {len} x = said-placed (one-has t p) (meant-line at len) x
+
+  pub not-meant : {at len : ℕ} {why : Refusal} {room : List ℕ} {to : ℕ} → r ≡ Unmeant why → WritesSaid (HasContent t p) at len room to (Unwritten why) room
+  not-meant {at} {len} {why} q = refuses (some-number why) (go (cause-at (cause-of (subst (Means (ContentWith t p)) q a)) (some-number why)))
+    where
+      go : {left no : ℕ} → MeantCause (ContentWith t p) no → First (SaidCause (HasContent t p) at len left) order no
+      go (meants.no-message f) = first-5 only (no-message f)

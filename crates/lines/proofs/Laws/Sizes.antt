@@ -360,10 +360,10 @@ beside-taken (OnNibe e) s m x = rw x (nibe-taken e s)
 beside-taken (OnHomiq e) s m x = let h : length (taken m) ≡ length s = ap (λ (n : Message). length (taken n)) (x .is) ∙ ap length (homiq-taken e (x .wire) ∙ sym (x .payload .laid)) in omega arith
 
 -- A LINE IS SHORT FOR WHAT STANDS BESIDE ITS MESSAGE, whatever place and length of 20 digits it says
-pub line-bounded : {e : Coded} {s : List ℕ} {at len : ℕ} {t : List ℕ} → at ≤ last → len ≤ last → LineSaid e s at len t → Bounded t (length s)
-line-bounded {e} {s} {at} {len} h k l =
+pub line-bounded : (e : Coded) (s : List ℕ) {at len : ℕ} {t : List ℕ} → at ≤ last → len ≤ last → LineSaid (Says e s) at len t → Bounded t (length s)
+line-bounded e s {at} {len} h k l =
     let m = l .message in
     let r = rows m (l .good .limits) in
     let n : length (line at len m) ≤ 8 * length (bytes m) + 112 =
     omega (arith, length-line at len m, length-decimal 19 at (omega arith), length-decimal 19 len (omega arith), r .room) in
-    rw (l .is) (record { most = omega (arith, n, r .beside, beside-taken e s m (l .says)); short = omega (arith, n, r .short) })
+    rw (l .is) (record { most = omega (arith, n, r .beside, beside-taken e s m (l .said)); short = omega (arith, n, r .short) })

@@ -107,7 +107,7 @@ module _ {k : ℕ} {f : List ℕ} (r : Decoded) (a : Decodes k f r) where
     the-line place = line-of-said place (part from to f) (said-in decoded) refl
 
     pub put-bounded : (place : ℕ) → place ≤ last → length f ≤ last → Bounded (put e (part from to f) place (length f)) (length (part from to f))
-    put-bounded place h k = let x = said-in decoded in line-bounded h k (line-of-message (x .stands .good) (beside-says x refl))
+    put-bounded place h k = let x = said-in decoded in line-bounded e (part from to f) h k (line-of-message e (part from to f) (x .stands .good) (beside-says x refl))
 
     pub written : (place : ℕ) (room later : List ℕ) (w : Written)
         → AllOrNone (put e (part from to f) place (length f)) room 0 w later → WritesLine k f place room w later

@@ -1,4 +1,4 @@
--- The promises: the line of a frame, the line of a message, and the next line of a capture.
+-- The promises: the line of a frame, the line of a message or of a content, and the next line of a capture.
 -- Assumes nothing.
 use mathlib.Core.Bool.{false}
 use mathlib.Core.List.{List}
@@ -15,9 +15,9 @@ use Rattle.frames.specs.Paper.Kinds.{known, Frame}
 use Rattle.frames.specs.Paper.Search.{Leftmost, SearchCause}
 use Rattle.messages.specs.Paper.Message.{Message}
 use Rattle.messages.specs.Paper.Answers.{Stands}
-use Rattle.messages.specs.Paper.Says.{Says}
-use Rattle.messages.specs.Paper.Table.{Good}
-use Rattle.messages.specs.declared.Message.{Message as Coded}
+use Rattle.messages.specs.Paper.Meant.{ContentWith}
+use Rattle.messages.specs.Paper.Table.{contentOf, Good}
+use Rattle.messages.specs.declared.Tag.{Tag}
 use Rattle.lines.specs.Paper.Line.{line}
 use Rattle.lines.specs.declared.Listed.{Listed}
 use Rattle.lines.specs.declared.Listed.the-variants.{At, Refused}
@@ -40,31 +40,37 @@ pub data LineCause (k : ℕ) (f : List ℕ) (at room : ℕ) : ℕ → Type 0 whe
 abbrev pub WritesLine : ℕ → List ℕ → ℕ → List ℕ → Written → List ℕ → Type 0
 WritesLine k f at room r later = WritesRight (LineCause k f at (length room)) (LineOf k f at) room r later
 
--- ---- of
+-- ---- of, of_content
 
--- t is the line of the message of the table that e says with s beside it; its place and its length are as they are given
-pub record LineSaid (e : Coded) (s : List ℕ) (at len : ℕ) (t : List ℕ) : Type 0 where
+-- t is the line of the message of the table that is said; its place and its length are as they are given
+pub record LineSaid (IsSaid : Message → Type 0) (at len : ℕ) (t : List ℕ) : Type 0 where
   pub message : Message
   pub good : Good message
-  pub says : Says e s message
+  pub said : IsSaid message
   pub is : t ≡ line at len message
 
 -- 5 "a field .. outside its limits": no message of the table is said; 4 "lent room too short for the answer", where so much of it is left
-pub data SaidCause (e : Coded) (s : List ℕ) (at len left : ℕ) : ℕ → Type 0 where
-  no-message : ((m : Message) → Good m → Says e s m → ⊥) → SaidCause e s at len left 5
-  short : {t : List ℕ} → LineSaid e s at len t → left < length t → SaidCause e s at len left 4
+pub data SaidCause (IsSaid : Message → Type 0) (at len left : ℕ) : ℕ → Type 0 where
+  no-message : ((m : Message) → Good m → IsSaid m → ⊥) → SaidCause IsSaid at len left 5
+  short : {t : List ℕ} → LineSaid IsSaid at len t → left < length t → SaidCause IsSaid at len left 4
 
 -- the right size, and the right room afterwards: the line stands at the place `to`, and every other byte is as it was
-pub record PutSaid (e : Coded) (s : List ℕ) (at len : ℕ) (room : List ℕ) (to size : ℕ) (later : List ℕ) : Type 0 where
+pub record PutSaid (IsSaid : Message → Type 0) (at len : ℕ) (room : List ℕ) (to size : ℕ) (later : List ℕ)
+    : Type 0 where
   pub text : List ℕ
-  pub line : LineSaid e s at len text
+  pub line : LineSaid IsSaid at len text
   pub size-is : size ≡ length text
   pub room-is : later ≡ sets room to text
 
 -- r is the right answer, and `later` the right room afterwards; of a place beyond the room nothing is left
-abbrev pub WritesSaid : Coded → List ℕ → ℕ → ℕ → List ℕ → ℕ → Written → List ℕ → Type 0
-WritesSaid e s at len room to r later =
-    Answers {A = ℕ × List ℕ} (0, room) (SaidCause e s at len (length room - to)) (λ v. PutSaid e s at len room to (v .0) (v .1)) (writtenRefusal r) (writtenCount r, later)
+abbrev pub WritesSaid : (Message → Type 0) → ℕ → ℕ → List ℕ → ℕ → Written → List ℕ → Type 0
+WritesSaid IsSaid at len room to r later =
+    Answers {A = ℕ × List ℕ} (0, room) (SaidCause IsSaid at len (length room - to))
+    (λ v. PutSaid IsSaid at len room to (v .0) (v .1)) (writtenRefusal r) (writtenCount r, later)
+
+-- the message whose content has this tag and payload
+abbrev pub HasContent : Tag → List ℕ → Message → Type 0
+HasContent tag p m = ContentWith tag p (contentOf m)
 
 -- ---- next
 
@@ -91,7 +97,8 @@ listedPlaced (Refused why) = zeroPlaced
 
 -- the right values, and the right room afterwards: the search finds such a frame in the capture s, from a place on, and its line is put at the
 -- place `to` of the room
-pub record NextLine (k : ℕ) (s : List ℕ) (place : ℕ) (room : List ℕ) (to : ℕ) (v : Placed) (later : List ℕ) : Type 0 where
+pub record NextLine (k : ℕ) (s : List ℕ) (place : ℕ) (room : List ℕ) (to : ℕ) (v : Placed) (later : List ℕ)
+    : Type 0 where
   pub from : ℕ
   pub end : ℕ
   pub found : Leftmost k s place (record { start = v .start; len = v .len; from = from; to = end })
@@ -100,4 +107,5 @@ pub record NextLine (k : ℕ) (s : List ℕ) (place : ℕ) (room : List ℕ) (to
 -- r is the right answer, and `later` the right room afterwards; refused as the search is, and then the room is as it was
 abbrev pub PutsNext : ℕ → List ℕ → ℕ → List ℕ → ℕ → Listed → List ℕ → Type 0
 PutsNext k s place room to r later =
-    Answers {A = Placed × List ℕ} (zeroPlaced, room) (SearchCause k s place) (λ v. NextLine k s place room to (v .0) (v .1)) (listedNumber r) (listedPlaced r, later)
+    Answers {A = Placed × List ℕ} (zeroPlaced, room) (SearchCause k s place)
+    (λ v. NextLine k s place room to (v .0) (v .1)) (listedNumber r) (listedPlaced r, later)

@@ -31,7 +31,8 @@ wired w =
 unfoldable pub members : Message → List Member
 members (read g a) = ascii "group" ∶ number g ∷ ascii "addr" ∶ hex (highFirst a) ∷ []
 members (set g a out) = ascii "group" ∶ number g ∷ ascii "addr" ∶ hex (highFirst a) ∷ ascii "out" ∶ hex out ∷ []
-members (answer a third out) = ascii "addr" ∶ hex (highFirst a) ∷ ascii "third" ∶ number third ∷ ascii "out" ∶ hex out ∷ []
+members (answer a third out) =
+    ascii "addr" ∶ hex (highFirst a) ∷ ascii "third" ∶ number third ∷ ascii "out" ∶ hex out ∷ []
 members (press d) = ascii "addr" ∶ chars d ∷ []
 members tail = []
 members (link p) = ascii "data" ∶ hex p ∷ []

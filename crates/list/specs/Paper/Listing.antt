@@ -15,7 +15,8 @@ use Rattle.lines.specs.Paper.Answers.{LineOf}
 -- "It prints a line a frame": t is the lines of these frames of the capture s; "`at` counts from the capture's start"
 pub data Lines (k : ℕ) (s : List ℕ) : List Hit → List ℕ → Type 0 where
   none : Lines k s [] []
-  line : {v : Hit} {later : List Hit} {t rest : List ℕ} → LineOf k (framePart s v) (v .start) t → Lines k s later rest → Lines k s (v ∷ later) (t ++ rest)
+  line : {v : Hit} {later : List Hit} {t rest : List ℕ} → LineOf k (framePart s v) (v .start) t → Lines k s later rest
+      → Lines k s (v ∷ later) (t ++ rest)
 
 -- how many bytes the frames have
 unfoldable pub inside : List Hit → ℕ

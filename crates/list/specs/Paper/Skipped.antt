@@ -9,4 +9,5 @@ use Rattle.frames.specs.Paper.Search.{Hit}
 pub data InNone (hits : List Hit) : (from to count : ℕ) → Type 0 where
   all : {to : ℕ} → InNone hits to to 0
   taken : {from to count : ℕ} → TakenUp from hits → InNone hits (suc from) to count → InNone hits from to count
-  skipped : {from to count : ℕ} → (TakenUp from hits → ⊥) → InNone hits (suc from) to count → InNone hits from to (suc count)
+  skipped : {from to count : ℕ} → (TakenUp from hits → ⊥) → InNone hits (suc from) to count
+      → InNone hits from to (suc count)

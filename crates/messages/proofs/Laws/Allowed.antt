@@ -9,6 +9,7 @@ use native.Mathlib.Omega.{arith}
 use lib.Dec.{eqb, lit<}
 use Rattle.digits.proofs.Laws.Refusals.{one-first, one-refusal, some-number, cause-of, pass-over}
 use Rattle.digits.specs.Paper.Hex.{hexBytes}
+use Rattle.digits.specs.Paper.Read.{Tells, holds, fails}
 use Rattle.digits.specs.Paper.Refusals.{order, First, Answers, clear, here, after, answers, refuses}
 use Rattle.digits.specs.declared.refusal.Refusal.the-variants.{Limits as OutsideLimits, Above as TakenAbove}
 use Rattle.layouts.specs.Paper.Made.{Wire, Payload}
@@ -18,7 +19,7 @@ use Rattle.messages.specs.Paper.Homiq.{fieldAt}
 use Rattle.messages.specs.Paper.Message.{Message, link, homiq, row}
 use Rattle.messages.specs.Paper.Says.{ofNikobus, ofResponse, ofNibe, ofHomiq, SaysNikobus, digits, fixed, SaysHomiq}
 use Rattle.messages.specs.Paper.Table.{contentOf, Limits, Above}
-use Rattle.messages.specs.Work.Answers.{Only}
+use Rattle.messages.specs.Work.Answers.{Only, standingOf}
 use Rattle.messages.specs.Work.Homiq.{whichOf, caseNumber}
 use Rattle.messages.specs.Work.Look.{lookHomiq, look}
 use Rattle.messages.specs.Work.Nikobus.{LinkDigits}
@@ -95,6 +96,12 @@ module _ (m : Message) where
 
     pub only-same : {q : Message} → q ≡ look (contentOf m) → (row q < row m → ⊥) → StandsSo (Only m) InTable
     only-same = found-same m refl the-only l
+
+  -- its limits hold exactly where what is tested does, and no message above has its content
+  module _ {P : Type 0} (within : P → Limits m) (back : Limits m → P) (own : Limits m → look (contentOf m) ≡ m) where
+    pub only-if : {hold : Bool} {r : Standing} → Tells P hold → r ≡ standingOf hold → StandsSo (Only m) r
+    only-if (holds p) e = subst (StandsSo (Only m)) (sym e) (only-good (within p) (own (within p)))
+    only-if (fails f) e = subst (StandsSo (Only m)) (sym e) (only-outside (λ l. f (back l)))
 
 -- ---- the same message, meant in other words
 

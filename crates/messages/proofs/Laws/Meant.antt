@@ -19,14 +19,12 @@ use Rattle.layouts.specs.Paper.Chars.{all, isHex, oneOf}
 use Rattle.layouts.specs.Paper.Made.{linkOf, nibeOf, Wire, Payload}
 use Rattle.layouts.specs.Paper.Nibe as nibes
 use Rattle.layouts.specs.Paper.Nibe.{commands}
-use Rattle.layouts.specs.declared.nest.Direction.{Direction}
-use Rattle.layouts.specs.declared.nest.Direction.the-variants.{Command, Response}
 use Rattle.layouts.specs.Paper.Nikobus as nikobuses
 use Rattle.messages.specs.Paper.Content.{Content, payloadIn}
 use Rattle.messages.specs.Paper.Content as content
-use Rattle.messages.specs.Paper.Meant.{LinkWith, PressWith, nestWith, NestWith, NibeWith, HomiqWith, MeantCause, no-message, MessageWith, Means}
+use Rattle.messages.specs.Paper.Meant.{LinkWith, PressWith, CommandWith, ResponseWith, NibeWith, HomiqWith, ContentWith, MeantCause, no-message, MessageWith, Means}
 use Rattle.messages.specs.Paper.Homiq.{fieldAt}
-use Rattle.messages.specs.Paper.Message.{Message, press}
+use Rattle.messages.specs.Paper.Message.{Message, press, tail}
 use Rattle.messages.specs.Paper.Says.{six, ofResponse, ofNibe, fixed, SaysHomiq, Says}
 use Rattle.messages.specs.Paper.Table.{contentOf, Good}
 use Rattle.messages.specs.Work.Content.{Fit}
@@ -37,11 +35,13 @@ use Rattle.messages.specs.declared.Meant.{Meant}
 use Rattle.messages.specs.declared.Meant.the-variants.{Is, Refused}
 use Rattle.messages.specs.declared.Message.{Message as Coded}
 use Rattle.messages.specs.declared.Message.the-variants.{Nikobus as OnNikobus, Command as OfCommand, Response as OfResponse, Nibe as OnNibe, Homiq as OnHomiq}
+use Rattle.messages.specs.declared.Tag.{Tag}
+use Rattle.messages.specs.declared.Tag.the-variants as tag
 use Rattle.messages.specs.declared.homiq.Homiq.{Homiq}
 use Rattle.messages.specs.declared.nest.Response.{Response as Responded}
 use Rattle.messages.specs.declared.nibe.Nibe.{Nibe}
 use Rattle.messages.specs.declared.nikobus.Nikobus.{Nikobus}
-use Rattle.messages.specs.declared.nikobus.Nikobus.the-variants.{Press}
+use Rattle.messages.specs.declared.nikobus.Nikobus.the-variants.{Press, Tail}
 use Rattle.messages.specs.declared.nikobus.Six.{Six}
 use Rattle.messages.proofs.Laws.Buses.{homiq-says}
 use Rattle.messages.proofs.Laws.HomiqFields.{one-wire}
@@ -111,7 +111,21 @@ one-homiq m n a b x y = x .is ∙ ap content.homiq (one-wire (x .payload) (y .pa
 pub one-equal : {c : Content} (m n : Message) → Good m → Good n → contentOf m ≡ c → contentOf n ≡ c → contentOf m ≡ contentOf n
 one-equal m n a b x y = x ∙ sym y
 
+pub one-content-with : (t : Tag) (p : List ℕ) (m n : Message) → Good m → Good n → ContentWith t p (contentOf m) → ContentWith t p (contentOf n)
+    → contentOf m ≡ contentOf n
+one-content-with tag.Link p = one-link
+one-content-with tag.Press p = one-equal
+one-content-with tag.Tail p = one-equal
+one-content-with (tag.Command i) p = one-equal
+one-content-with (tag.Response i) p = one-equal
+one-content-with (tag.Nibe command) p = one-equal
+one-content-with tag.Homiq p = one-homiq
+
 -- ---- each of them
+
+pub tail-meant : Means (λ c. c ≡ content.tail) (Is (OnNikobus Tail))
+unfolding look
+tail-meant = is-meant content.tail nikobuses.tail-limits refl {e = OnNikobus Tail} (fixed (no-link Tail refl) refl)
 
 module _ {d : List ℕ} where
   digits-of : {c : Content} → (x : LinkWith d c) → Fit c → LinkDigits d
@@ -138,26 +152,27 @@ module _ {d : List ℕ} where
   unfolding look
   press-meant l o e = is-meant (content.press d) (nikobuses.press-limits (l .0) (l .1)) refl {e = OnNikobus (Press o)} (fixed (no-link (Press o) refl) (ap press (sym e)))
 
-module _ (i : ℕ) (p : List ℕ) where
-  nest-short : (d : Direction) → Fit (nestWith d i p) → length p ≤ 1024
-  nest-short Command f = f .short
-  nest-short Response f = f .short
+module _ {i : ℕ} {p : List ℕ} where
+  pub command-not-meant : (length p ≤ 1024 → ⊥) → Means (CommandWith i p) (Refused OutsideLimits)
+  command-not-meant n = not-meant (λ c x f. n (nest-short (subst Fit x f)))
+    where
+      nest-short : Fit (content.command i p) → length p ≤ 1024
+      nest-short f = f .short
 
-  pub nest-not-meant : (d : Direction) → (length p ≤ 1024 → ⊥) → Means (NestWith d i p) (Refused OutsideLimits)
-  nest-not-meant d n = not-meant (λ c x f. n (nest-short d (subst Fit x f)))
+  pub response-not-meant : (length p ≤ 1024 → ⊥) → Means (ResponseWith i p) (Refused OutsideLimits)
+  response-not-meant n = not-meant (λ c x f. n (nest-short (subst Fit x f)))
+    where
+      nest-short : Fit (content.response i p) → length p ≤ 1024
+      nest-short f = f .short
 
-  module _ (direction : Direction) (id : i < 65536) (short : length p ≤ 1024) (bytes : Bytes p) where
-    pub command-meant : direction ≡ Command → Means (NestWith direction i p) (Is (OfCommand i))
+  module _ (id : i < 65536) (short : length p ≤ 1024) (bytes : Bytes p) where
+    pub command-meant : Means (CommandWith i p) (Is (OfCommand i))
     unfolding look
-    command-meant h =
-        subst (λ (d : Direction). Means (NestWith d i p) (Is (OfCommand i))) (sym h)
-        (is-meant (content.command i p) (nest-fit i p id short bytes) refl {e = OfCommand i} refl)
+    command-meant = is-meant (content.command i p) (nest-fit i p id short bytes) refl {e = OfCommand i} refl
 
-    pub response-meant : direction ≡ Response → {e : Responded} → ofResponse e p ≡ lookResponse i p → Means (NestWith direction i p) (Is (OfResponse e))
+    pub response-meant : {e : Responded} → ofResponse e p ≡ lookResponse i p → Means (ResponseWith i p) (Is (OfResponse e))
     unfolding look
-    response-meant h {e} s =
-        subst (λ (d : Direction). Means (NestWith d i p) (Is (OfResponse e))) (sym h)
-        (is-meant (content.response i p) (nest-fit i p id short bytes) refl {e = OfResponse e} (sym s))
+    response-meant {e} s = is-meant (content.response i p) (nest-fit i p id short bytes) refl {e = OfResponse e} (sym s)
 
 module _ {k : ℕ} {d : List ℕ} where
   pub nibe-not-meant : ((T (oneOf commands k)) × (length d ≤ 255) → ⊥) → Means (NibeWith k d) (Refused OutsideLimits)
@@ -180,3 +195,28 @@ module _ {p : List ℕ} where
       let w = x .0 in
       is-meant (content.homiq w) (x .1 .limits) (record { wire = w; is = refl; payload = x .1 }) {e = OnHomiq e}
       (subst (λ (q : List ℕ). SaysHomiq e q (lookHomiq w)) (x .1 .laid) (homiq-says (x .1) g))
+
+-- ---- what stands beside the message of a content is the content's payload
+
+module _ (p : List ℕ) (e : Coded) (m : Message) (s : Says e (payloadIn (contentOf m)) m) where
+  beside : p ≡ payloadIn (contentOf m) → Says e p m
+  beside q = subst (λ (x : List ℕ). Says e x m) (sym q) s
+
+  says-tail : m ≡ tail → Says e p m
+  says-tail q =
+      let same : e ≡ OnNikobus Tail = one-case e (OnNikobus Tail) (payloadIn (contentOf m)) p m s (fixed (no-link Tail refl) q) in
+      subst (λ (d : Coded). Says d p m) (sym same) (fixed (no-link Tail refl) q)
+
+  pub says-with : (t : Tag) → Good m → ContentWith t p (contentOf m) → Says e p m
+  unfolding look contentOf
+  says-with tag.Link g x = beside (x .digits ∙ ap payloadIn (sym (x .is)))
+  says-with tag.Press g x = beside (ap payloadIn (sym x))
+  says-with tag.Tail g x = says-tail (one-message m tail g (good content.tail nikobuses.tail-limits) x)
+  says-with (tag.Command i) g x = beside (ap payloadIn (sym x))
+  says-with (tag.Response i) g x = beside (ap payloadIn (sym x))
+  says-with (tag.Nibe command) g x = beside (ap payloadIn (sym x))
+  says-with tag.Homiq g x = beside (x .payload .laid ∙ ap payloadIn (sym (x .is)))
+
+-- the arm of a tag
+pub in-arm : (p : List ℕ) (r : Meant) {t it : Tag} → t ≡ it → Means (ContentWith it p) r → Means (ContentWith t p) r
+in-arm p r h = subst (λ (t : Tag). Means (ContentWith t p) r) (sym h)

@@ -1,7 +1,14 @@
 -- `messages::allowed` meets its contract, bus by bus.
 -- Assumes nothing.
+use mathlib.Core.Path.{refl}
+use native.Mathlib.Omega.{arith}
 use borrow.Author.Needs.{needs}
-use Rattle.messages.proofs.Laws.Allowed.{allows-as}
+use Rattle.digits.specs.Paper.Bytes.{Bytes}
+use Rattle.messages.proofs.Laws.Allowed.{allows-as, only-if}
+use Rattle.messages.proofs.Laws.Given.{sized}
+use Rattle.messages.specs.Paper.Message.{command}
+use Rattle.messages.specs.Paper.Table.{contentOf}
+use Rattle.messages.specs.Work.Look.{look}
 use Rattle.messages.specs.declared.Message.the-variants.{Nikobus, Command, Response, Nibe, Homiq}
 use Rattle.messages.proofs.allowed.Statement.{statement}
 use Rattle.messages.proofs.allowed.Tie as tie
@@ -10,7 +17,15 @@ returns : tie.Need-returns
 returns c = allows-as (Nikobus _) (c .before .before .before .before .before .args .content .now) (c .allowed .result) (c .before .before .message .given .1) (c .allowed .ensures)
 
 returns-2 : tie.Need-returns-2
-returns-2 c = allows-as (Command _) (c .before .before .before .before .before .args .content .now) (c .command-allowed .result) (c .before .before .message2 .given .1) (c .command-allowed .ensures)
+unfolding look contentOf
+returns-2 c =
+    let m = c .before .before .before in
+    let i = m .message2 .given .0 .0 in
+    let s = m .before .before .before .args .content .now in
+    let k = c .before .before .known-told2 .given in
+    let b : Bytes s = record { each = λ j. m .before .before .shared-slice-known .given j .fits } in
+    let stands = only-if (command i s) (λ p. (omega (arith, k), sized p b)) (λ l. l .1 .short) (λ l. refl) in
+    allows-as (Command i) s (c .standing .result) (m .message2 .given .1) (stands (c .before .is-short .ensures) (c .standing .ensures))
 
 returns-3 : tie.Need-returns-3
 returns-3 c = allows-as (Response _) (c .before .before .before .before .before .args .content .now) (c .allowed2 .result) (c .before .before .message3 .given .1) (c .allowed2 .ensures)
@@ -28,6 +43,7 @@ allowed-spec =
     (λ c. search needs)
     (λ c κs. search needs)
     (λ c. search needs)
+    (λ c κs. search needs)
     (λ c κs. search needs)
     (λ c. search needs)
     (λ c κs. search needs)

@@ -64,7 +64,8 @@ Decodes k f r = Answers zeroDecoded (DecodeCause k f) (DecodedTo k f) (decodedNu
 
 pub record Contents (k : ℕ) (f p : List ℕ) : Type 0 where
   pub number : ℕ
-  pub answer : Answers [] (DecodeCause k f) (λ q. (m : Message) × (Stands k f m) × (q ≡ payloadIn (contentOf m))) number p
+  pub answer : Answers [] (DecodeCause k f)
+      (λ q. (m : Message) × (Stands k f m) × (q ≡ payloadIn (contentOf m))) number p
 
 -- ---- find: the search and the decoder in one
 

@@ -1,4 +1,4 @@
--- The promises of the functions that answer the message of a content, from the content's parts.
+-- The promise of `of`: the message of a content, from the content's parts.
 -- Assumes nothing.
 use mathlib.Core.List.{List}
 use mathlib.Core.Option.{Option, none, some}
@@ -7,13 +7,13 @@ use Prim.Native.Nat.{ℕ}
 use Rattle.digits.specs.Paper.Hex.{hexBytes}
 use Rattle.digits.specs.Paper.Refusals.{refusalNumber, Answers}
 use Rattle.layouts.specs.Paper.Made.{Wire, Payload}
-use Rattle.layouts.specs.declared.nest.Direction.{Direction}
-use Rattle.layouts.specs.declared.nest.Direction.the-variants.{Command, Response}
 use Rattle.messages.specs.Paper.Content.{Content, payloadIn}
 use Rattle.messages.specs.Paper.Content as content
 use Rattle.messages.specs.Paper.Message.{Message}
 use Rattle.messages.specs.Paper.Says.{Says}
 use Rattle.messages.specs.Paper.Table.{contentOf, Good}
+use Rattle.messages.specs.declared.Tag.{Tag}
+use Rattle.messages.specs.declared.Tag.the-variants.{Link, Press, Tail, Command, Response, Nibe, Homiq}
 use Rattle.messages.specs.declared.Meant.{Meant}
 use Rattle.messages.specs.declared.Meant.the-variants.{Is, Refused}
 use Rattle.messages.specs.declared.Message.{Message as Coded}
@@ -30,13 +30,12 @@ pub record LinkWith (d : List ℕ) (c : Content) : Type 0 where
 abbrev pub PressWith : List ℕ → Content → Type 0
 PressWith d c = c ≡ content.press d
 
--- a Nest record of this direction, with this id and payload
-abbrev pub nestWith : Direction → ℕ → List ℕ → Content
-nestWith Command i p = content.command i p
-nestWith Response i p = content.response i p
+-- a command or a response with this id and payload
+abbrev pub CommandWith : ℕ → List ℕ → Content → Type 0
+CommandWith i p c = c ≡ content.command i p
 
-abbrev pub NestWith : Direction → ℕ → List ℕ → Content → Type 0
-NestWith direction i p c = c ≡ nestWith direction i p
+abbrev pub ResponseWith : ℕ → List ℕ → Content → Type 0
+ResponseWith i p c = c ≡ content.response i p
 
 -- Nibe's command with these data
 abbrev pub NibeWith : ℕ → List ℕ → Content → Type 0
@@ -47,6 +46,16 @@ pub record HomiqWith (p : List ℕ) (c : Content) : Type 0 where
   pub wire : Wire
   pub is : c ≡ content.homiq wire
   pub payload : Payload p wire
+
+-- the content with this tag and payload; a tail takes nothing from the payload
+abbrev pub ContentWith : Tag → List ℕ → Content → Type 0
+ContentWith Link p = LinkWith p
+ContentWith Press p = PressWith p
+ContentWith Tail p = λ c. c ≡ content.tail
+ContentWith (Command i) p = CommandWith i p
+ContentWith (Response i) p = ResponseWith i p
+ContentWith (Nibe command) p = NibeWith command p
+ContentWith Homiq p = HomiqWith p
 
 -- ---- its message
 
@@ -75,4 +84,5 @@ meantValue (Refused why) = noneMeant
 
 -- r is the right answer
 abbrev pub Means : (Content → Type 0) → Meant → Type 0
-Means With r = Answers noneMeant (MeantCause With) (λ v. (e : Coded) × (v ≡ some e) × MessageWith With e) (meantNumber r) (meantValue r)
+Means With r =
+    Answers noneMeant (MeantCause With) (λ v. (e : Coded) × (v ≡ some e) × MessageWith With e) (meantNumber r) (meantValue r)

@@ -60,7 +60,8 @@ ofHomiq Rest w = homiq w
 
 -- m is a Nikobus message with s beside it: a link's digits; the others take nothing from there
 pub data SaysNikobus : Nikobus → List ℕ → Message → Type 0 where
-  digits : {s p : List ℕ} {m : Message} {e : Nikobus} → e ≡ Link → Bytes p → s ≡ hexBytes p → m ≡ link p → SaysNikobus e s m
+  digits : {s p : List ℕ} {m : Message} {e : Nikobus} → e ≡ Link → Bytes p → s ≡ hexBytes p → m ≡ link p
+      → SaysNikobus e s m
   fixed : {s : List ℕ} {m : Message} {e : Nikobus} → (e ≡ Link → ⊥) → m ≡ ofNikobus e [] → SaysNikobus e s m
 
 -- m is a Homiq message with s beside it: CMD to TYPE

@@ -11,7 +11,8 @@ use Rattle.puts.specs.declared.Written.{Written}
 
 -- As `Wrote` of the writers, where the bytes are those of which `Right` holds.
 pub data WroteRight (Cause : ℕ → Type 0) (Right : List ℕ → Type 0) (room : List ℕ) : ℕ → ℕ → List ℕ → Type 0 where
-  wrote : {bs : List ℕ} → First Cause order 0 → Right bs → WroteRight Cause Right room 0 (length bs) (bs ++ drop (length bs) room)
+  wrote : {bs : List ℕ} → First Cause order 0 → Right bs
+      → WroteRight Cause Right room 0 (length bs) (bs ++ drop (length bs) room)
   refused : {no : ℕ} → 0 < no → First Cause order no → WroteRight Cause Right room no 0 room
 
 -- r is the right answer, and `later` the right room afterwards

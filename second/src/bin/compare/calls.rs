@@ -103,11 +103,24 @@ fn request(function: &Function, random: &mut Random) -> Vec<u8> {
     words.extend((function.make)(random));
     choose_room(&mut words, random);
     let request = words.join(" ").into_bytes();
-    if random.one_in(14) {
-        malformed::spoilt(&request, random)
-    } else {
-        request
+    if !random.one_in(14) {
+        return request;
     }
+    let spoilt = malformed::spoilt(&request, random);
+    if is_of_another_test(function, &request, &spoilt) {
+        request
+    } else {
+        spoilt
+    }
+}
+
+/// Whether a request, where there is a test for each tag or message, was spoilt to one with another: that one's answers are not listed here.
+fn is_of_another_test(function: &Function, request: &[u8], spoilt: &[u8]) -> bool {
+    let Some((_, part)) = function.test.split_once(", ") else {
+        return false;
+    };
+    let names_it = |line: &[u8]| line.split(|b| *b == b' ').nth(1) == Some(part.as_bytes());
+    names_it(request) && !names_it(spoilt) && sides::second_answer(spoilt) != NO_REQUEST.as_bytes()
 }
 
 /// Puts a length in the place of the room, and a number in that of its place: what is written just fits, or does not, or is far off.

@@ -25,7 +25,7 @@ number-at-requires : tie.Need-number-at-requires
 number-at-requires c κs = (ends-inside (fieldLen 4) (inside (field-right 4)) _ _ _ (c .field-at3 .ensures), omega arith)
 
 returns : tie.Need-returns
-returns c = five-whole _ _ _ _ _ _ (c .before .before .before .before .field .ensures) (c .before .before .before .field-at .ensures) (c .before .before .field-at2 .ensures) (c .before .field-at3 .ensures) (c .number-at .ensures)
+returns c = five-whole _ _ _ _ _ _ (c .before .before .before .before .field .ensures) (c .before .before .before .field-at .ensures) (c .before .before .field-at2 .ensures) (c .before .field-at3 .ensures) (c .number-at .ensures .0)
 
 pub five-spec : {M : Type 1} → statement M
 five-spec =

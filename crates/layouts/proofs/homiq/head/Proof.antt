@@ -31,10 +31,10 @@ number-at-requires : tie.Need-number-at-requires
 number-at-requires c κs = (ends-inside (fieldLen 4) (inside (field-right 4)) _ _ _ (c .field-at4 .ensures), omega arith)
 
 type-at-requires : tie.Need-type-at-requires
-type-at-requires c κs = ends-inside (numberLen 1 511) (inside (number-right 1 511 (omega arith))) _ _ _ (c .number-at .ensures)
+type-at-requires c κs = ends-inside (numberLen 1 511) (inside (number-right 1 511 (omega arith))) _ _ _ (c .number-at .ensures .0)
 
 returns : tie.Need-returns
-returns c = head-whole _ _ _ _ _ _ _ _ (c .before .before .before .before .before .before .word .ensures) (c .before .before .before .before .before .field-at .ensures) (c .before .before .before .before .field-at2 .ensures) (c .before .before .before .field-at3 .ensures) (c .before .before .field-at4 .ensures) (c .before .number-at .ensures) (c .type-at .ensures)
+returns c = head-whole _ _ _ _ _ _ _ _ (c .before .before .before .before .before .before .word .ensures) (c .before .before .before .before .before .field-at .ensures) (c .before .before .before .before .field-at2 .ensures) (c .before .before .before .field-at3 .ensures) (c .before .before .field-at4 .ensures) (c .before .number-at .ensures .0) (c .type-at .ensures)
 
 pub head-spec : {M : Type 1} → statement M
 head-spec =

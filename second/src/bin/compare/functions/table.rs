@@ -1,7 +1,7 @@
-//! The functions on the message table: the message of a content, and each row's messages, whether they are allowed, their lines and their
-//! frames.
+//! The functions on the message table: the message of a content and its line, and each row's messages, whether they are allowed, their
+//! lines and their frames.
 
-use super::framed::{direction, homiq_payload, nearly_press, one_frame};
+use super::framed::{homiq_payload, nearly_press, one_frame};
 use super::{at, function, number, room, words, Function};
 use crate::arguments::{self, hex};
 use crate::contents;
@@ -9,69 +9,104 @@ use crate::messages;
 use crate::random::Random;
 use crate::rows::{Row, ROWS};
 
-/// The messages of contents, without a frame around them.
-pub fn meant() -> Vec<Function> {
-    vec![
-        means(
-            "messages::nikobus::of_link",
-            10,
-            &["read", "set", "answer", "link"],
-            |r| words([hex(&messages::link_digits(r))]),
-        ),
-        means("messages::nikobus::of_press", 5, &["press"], |r| {
-            words([hex(&nearly_press(r))])
-        }),
-        means(
-            "messages::nest::of",
-            16,
-            &[
-                "command", "climate", "state", "break", "end", "text", "response",
-            ],
-            |r| {
-                let id = contents::nest_id(r);
-                let payload = messages::nest_payload(id, r);
-                words([direction(3, r), id.to_string(), hex(&payload)])
-            },
-        ),
-        means(
-            "messages::nibe::of",
-            14,
-            &["ask", "reply", "put", "done", "nibe"],
-            |r| {
-                let command = messages::nibe_command(r);
-                words([command.to_string(), hex(&messages::nibe_data(command, r))])
-            },
-        ),
-        means(
-            "messages::homiq::of",
-            14,
-            &["output", "input", "shutter", "beat", "homiq"],
-            |r| {
-                let name = r.pick(&["output", "input", "shutter", "beat", "homiq"]);
-                words([hex(&if r.one_in(3) {
-                    homiq_payload(r)
-                } else {
-                    messages::homiq_content(name, r)
-                })])
-            },
-        ),
-    ]
-}
-
-/// A function that answers each of these messages, or refuses.
-fn means(
+/// A content's tag, by its name; how many requests it gets beside the others, and the messages that it can mean.
+struct Tag {
     name: &'static str,
     weight: usize,
-    rows: &[&str],
-    make: impl Fn(&mut Random) -> Vec<String> + 'static,
-) -> Function {
-    let answers: Vec<String> = rows.iter().map(|row| format!("ok {row}")).collect();
-    let answers: Vec<&str> = answers
-        .iter()
-        .map(String::as_str)
-        .chain(["refused 5"])
-        .collect();
-    function(name, weight, &answers, make)
+    means: &'static [&'static str],
+}
+
+const TAGS: [Tag; 7] = [
+    tag("link", 10, &["read", "set", "answer", "link"]),
+    tag("press", 5, &["press"]),
+    tag("tail", 2, &["tail"]),
+    tag("command", 5, &["command"]),
+    tag(
+        "response",
+        16,
+        &["climate", "state", "break", "end", "text", "response"],
+    ),
+    tag("nibe", 14, &["ask", "reply", "put", "done", "nibe"]),
+    tag("homiq", 14, &HOMIQ),
+];
+
+const HOMIQ: [&str; 5] = ["output", "input", "shutter", "beat", "homiq"];
+
+const fn tag(name: &'static str, weight: usize, means: &'static [&'static str]) -> Tag {
+    Tag {
+        name,
+        weight,
+        means,
+    }
+}
+
+impl Tag {
+    /// A tail takes nothing from the payload, so no payload is refused.
+    fn refused(&self) -> Option<&'static str> {
+        (self.name != "tail").then_some("refused 5")
+    }
+
+    /// A test of its own for the tag.
+    fn named(&self, mut function: Function) -> Function {
+        function.test += &format!(", {}", self.name);
+        function
+    }
+}
+
+/// For each tag the messages of its contents, and their lines, without a frame around them.
+pub fn meant() -> Vec<Function> {
+    let message = |tag: &'static Tag| {
+        let means: Vec<String> = tag.means.iter().map(|row| format!("ok {row}")).collect();
+        let answers: Vec<&str> = means
+            .iter()
+            .map(String::as_str)
+            .chain(tag.refused())
+            .collect();
+        tag.named(function("messages::of", tag.weight, &answers, |r| {
+            content(tag.name, r)
+        }))
+    };
+    let line = |tag: &'static Tag| {
+        let answers: Vec<&str> = ["ok", "refused 4"]
+            .into_iter()
+            .chain(tag.refused())
+            .collect();
+        tag.named(function("lines::of_content", tag.weight, &answers, |r| {
+            let behind = words([number(64, r), number(64, r), room(), at()]);
+            [content(tag.name, r), behind].concat()
+        }))
+    };
+    TAGS.iter()
+        .map(message)
+        .chain(TAGS.iter().map(line))
+        .collect()
+}
+
+/// A tag of this name and a payload: good, nearly so, or not.
+fn content(tag: &str, random: &mut Random) -> Vec<String> {
+    let mut words = vec![tag.to_string()];
+    let payload = match tag {
+        "link" => messages::link_digits(random),
+        "press" => nearly_press(random),
+        "tail" => arguments::bytes(random),
+        "nibe" => {
+            let command = messages::nibe_command(random);
+            words.push(command.to_string());
+            messages::nibe_data(command, random)
+        }
+        "homiq" => match random.below(4) {
+            0 => homiq_payload(random),
+            1 => contents::homiq(random),
+            _ => messages::homiq_content(random.pick(&HOMIQ), random),
+        },
+        _ => {
+            let id = contents::nest_id(random);
+            words.push(id.to_string());
+            messages::nest_payload(id, random)
+        }
+    };
+    words.push(hex(&payload));
+    words
 }
 
 /// For each row of the table, whether it is allowed, and its line.
