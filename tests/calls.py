@@ -51,14 +51,15 @@ def answer(found):
     return "refused %d" % found if isinstance(found, int) else " ".join(["ok", *map(word, found)])
 
 
-def in_room(made, room, to=0):
-    """What is answered where these bytes are to be written from a place on, or with a refusal's number; and the whole room afterwards."""
+def in_room(made, room, to=0, values=()):
+    """What is answered where these bytes are to be written from a place on, or with a refusal's number; and the whole room afterwards. The
+    values are how many bytes they are, or others."""
     if isinstance(made, bytes) and to + len(made) > room:
         made = 4
     refused = isinstance(made, int)
     written = b"" if refused else FILLED * to + made
     front = written.ljust(room, FILLED).rstrip(FILLED)
-    return "%s room %s+%d" % (answer(made if refused else (len(made),)), word(front), room - len(front))
+    return "%s room %s+%d" % (answer(made if refused else values or (len(made),)), word(front), room - len(front))
 
 
 def build():

@@ -17,9 +17,9 @@ class Function(NamedTuple):
     last: int
 
 
-def functions_in(crate, path):
+def functions_in(crate, path, root=ROOT):
     """The functions of a file: one ends at the first brace that stands as far left as it begins."""
-    parts = path.relative_to(ROOT / "crates" / crate / "src").with_suffix("").parts
+    parts = path.relative_to(root / "crates" / crate / "src").with_suffix("").parts
     module = [crate, *(part for part in parts if part not in ("lib", "main"))]
     kind, begun = [], None
     for number, line in enumerate(path.read_text(encoding="utf-8").splitlines()):
@@ -35,9 +35,9 @@ def functions_in(crate, path):
             begun = None
 
 
-def libraries():
+def libraries(root=ROOT):
     """The crates that are libraries."""
-    return sorted(path.parent.parent.name for path in (ROOT / "crates").glob("*/src/lib.rt"))
+    return sorted(path.parent.parent.name for path in (root / "crates").glob("*/src/lib.rt"))
 
 
 def public_functions(crate):

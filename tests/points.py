@@ -14,6 +14,7 @@ import sys
 
 sys.dont_write_bytecode = True  # or Python leaves a folder beside those that are imported
 
+import lines
 import paper
 from calls import answer, in_room, request
 from paper import ASK, ASK_E, COMMAND_D, HOMIQ_G, HOMIQ_H, LINK_A, LINK_B, PREAMBLES, PRESSED, REPLY, REPLY_CLIMATE, RESET, TAILED
@@ -393,6 +394,39 @@ def test_cases():
     yield from (payload_case(s) for s in (b"", b";;;;;", b"I.3;1;0H;0;42", b"I.3;1;0H;0;42;s;", b";I.3;1;0H;0;42;s", b"I.3;1;0H;0;0;42;s", HOMIQ_G))
 
 
+# ---- the next line of a capture
+
+
+def next_line(kind, place, s):
+    """The next frame's start, its length and its line; or the refusal's number."""
+    found = paper.search(kind, s, place)
+    if isinstance(found, int):
+        return found
+    start, length = found[:2]
+    return start, length, lines.line(kind, start, s[start : start + length]).encode("ascii") + b"\n"
+
+
+def line_cases(kind, place, s):
+    """Measured; and put where it just fits, where a byte more or less is left, in no room, and beyond the room."""
+    found = next_line(kind, place, s)
+    refused = isinstance(found, int)
+    start, length, line = (0, 0, found) if refused else found
+    size = 0 if refused else len(line)
+    yield request("lines::measure", kind, s, place), answer(found if refused else (start, length, size))
+    for room, to in ((size, 0), (size + 1, 0), (size + 3, 3), (size + 2, 3), (max(size - 1, 0), 0), (0, 0), (size, size + 1), (9, 2**64 - 1)):
+        yield request("lines::next", kind, s, place, room, to), in_room(line, room, to, (start, length, to + size))
+
+
+def next_cases():
+    """Frames back to back: from the front, from one byte into the first, and from the end; the search's refusals before the room's."""
+    captures = [(1, LINK_A + PRESSED + TAILED), (2, RESET + COMMAND_D), (3, REPLY + REPLY_CLIMATE), (4, ASK + ASK_E), (5, HOMIQ_G + HOMIQ_H)]
+    for kind, s in captures:
+        for place in (0, 1, len(s) - 1, len(s), len(s) + 1):
+            yield from line_cases(kind, place, s)
+    for kind, place in ((0, 0), (6, 0), (255, 7), (4, 2**64 - 1)):
+        yield from line_cases(kind, place, ASK)
+
+
 # ---- the requests themselves
 
 
@@ -466,6 +500,8 @@ NO_REQUESTS = [
     # a message without what stands beside it
     "messages::allowed tail",
     "lines::of tail 0 4 40 0",
+    # a room for what writes nothing
+    "lines::measure 4 C06902640066 0 80 0",
     # a content without its payload; a tag that is none, or without what it has, or with more than its type holds
     "messages::of tail",
     "lines::of_content tail 0 4 40 0",
@@ -510,6 +546,7 @@ SUBJECTS = [
     kind_cases,
     begin_cases,
     test_cases,
+    next_cases,
     no_request_cases,
 ]
 

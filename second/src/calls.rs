@@ -481,14 +481,21 @@ fn in_lines(function: &str, words: &mut Words) -> Option<Answer> {
             let next = lines::next(words.number()?, &words.bytes()?, words.number()?);
             let mut room = words.room()?;
             let to = words.number()?;
-            let result = next.map(|(found, line)| {
-                let behind = room.put(to, &line);
-                format!("{} {} {behind}", found.start, found.length)
+            let result = next.and_then(|(found, line)| {
+                let behind = to + room.write_at(to, &line)? as u64;
+                Ok(format!("{} {} {behind}", found.start, found.length))
             });
             Some(Answer {
                 result,
                 room: Some(room),
             })
+        }
+        "measure" => {
+            let next = lines::next(words.number()?, &words.bytes()?, words.number()?);
+            tries(next.map(|(found, line)| {
+                let size = line.len();
+                format!("{} {} {size}", found.start, found.length)
+            }))
         }
         "of" => {
             let (message, content) = (words.message()?, words.bytes()?);
@@ -576,6 +583,7 @@ mod tests {
             "commands::encode",
             "lines::write",
             "lines::next",
+            "lines::measure",
             "lines::of",
             "lines::of_content",
             "messages::allowed",

@@ -391,6 +391,10 @@ fn refusals_in_order() {
         ("lines::next 0 - 1 0 0", "refused 2 room -+0"),
         ("lines::next 1 - 1 0 0", "refused 3 room -+0"),
         ("lines::next 1 - 0 0 0", "refused 1 room -+0"),
+        ("lines::next 1 2345310D 0 29 0", "refused 4 room -+29"),
+        ("lines::measure 0 - 1", "refused 2"),
+        ("lines::measure 1 - 1", "refused 3"),
+        ("lines::measure 1 - 0", "refused 1"),
         ("list::write - 13", "refused 4 room -+13"),
         (
             "list::write - 14",
@@ -656,7 +660,15 @@ fn each_function_answers() {
             "refused 5 room -+0",
         ),
         ("lines::of_content tail 7 4 30 1", "request?"),
-        ("lines::next 1 002345310D 0 3 1", "ok 1 4 31 room EE7B22+0"),
+        (
+            "lines::next 1 002345310D 0 31 1",
+            "ok 1 4 31 room EE7B226174223A312C226C656E223A342C226D7367223A227461696C227D0A+0",
+        ),
+        ("lines::next 1 002345310D 0 30 1", "refused 4 room -+30"),
+        ("lines::next 1 002345310D 0 30 31", "refused 4 room -+30"),
+        ("lines::measure 1 002345310D 0", "ok 1 4 30"),
+        ("lines::measure 1 002345310D 2", "refused 1"),
+        ("lines::measure 1 002345310D 0 31", "request?"),
     ];
     for (request, expected) in cases {
         assert_eq!(asked(request), expected, "{request}");

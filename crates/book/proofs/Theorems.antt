@@ -1,19 +1,21 @@
 -- What the definition of a book comes to, for a reader.
 -- Assumes nothing.
 use mathlib.Core.List.{List, [], _∷_, _++_, append-assoc}
-use mathlib.Core.Path.{_≡_, refl, sym, ap, _∙_, subst}
+use mathlib.Core.Path.{_≡_, refl, ap, _∙_, subst}
 use Prim.Native.Nat.{ℕ, _+_, _*_, _≤_, _<_}
 use native.Mathlib.Omega.{arith}
+use denote.Ref.{RefT, now}
 use lib.ListN.{length, take, drop, length-append}
-use lib.Seq.{take-append-seam}
 use Rattle.digits.specs.Paper.Bytes.{part}
+use Rattle.digits.specs.Paper.Part.{Ends, IsPart}
 use Rattle.digits.specs.Paper.Refusals as refusals
-use Rattle.digits.proofs.Laws.Refusals.{cause-at}
+use Rattle.digits.proofs.Laws.Refusals.{answered, cause-at, cause-of, one-first}
 use Rattle.lines.proofs.Theorems.{has-line}
 use Rattle.puts.specs.Paper.Right.{WroteRight, wrote, refused}
 use Rattle.puts.specs.Paper.Wrote.{writtenRefusal, writtenCount}
 use Rattle.puts.specs.declared.Written.{Written}
-use Rattle.book.specs.Paper.Answers.{Counts, Opens, EntryOf, TellsEntry, HandsFrame, EntryLine, BookLines, ListCause, no-book, short, WritesBookLines, Adds, WritesAdded}
+use Rattle.puts.proofs.Laws.Right.{written-right, rest-kept}
+use Rattle.book.specs.Paper.Answers.{Counts, Opens, EntryOf, TellsEntry, toldEnds, HandsFrame, EntryLine, WritesEntryLine, BookLines, ListCause, no-book, short, WritesBookLines, Adds, WritesAdded}
 use Rattle.book.specs.Paper.Book.{Entry, head, entryBytes, entries, book, counted, trailer, Within, Book, Numbered}
 use Rattle.book.specs.declared.Kept.{Kept}
 use Rattle.book.specs.declared.Kept.the-variants.{Is}
@@ -88,9 +90,14 @@ module _ {s : List ℕ} {es : List Entry} {number : ℕ} {e : Entry} {at : ℕ} 
   pub entry-back : (r : Kept) → TellsEntry s number r → r ≡ Is (e .kind) at (at + length (head e)) (at + length (entryBytes e))
   entry-back r a = unique.entry-one r (Is (e .kind) at (at + length (head e)) (at + length (entryBytes e))) a there
 
-  -- with the frame that it was added with
-  pub frame-back : (p : List ℕ) → HandsFrame s number p → p ≡ e .frame
-  frame-back p a = unique.frame-one p _ a (its.hands-frame there refl) ∙ frame-inside
+-- with the frame that it was added with, as that part of the book
+pub frame-back : {s : RefT (List ℕ)} {es : List Entry} {number : ℕ} {e : Entry} {at : ℕ} → Book (now s) es → Numbered es number e at
+    → (r : RefT (List ℕ)) → HandsFrame s number r → IsPart s (record { from = at + length (head e); to = at + length (entryBytes e) }) r × (now r ≡ e .frame)
+frame-back {s} {e = e} {at = at} b n r a =
+    let x = answered (a .answer) (one-first (cause-of (a .answer)) (its.entry-0 b (omega (arith, its.numbered-below b n)))) in
+    let q : a .ends ≡ record { from = at + length (head e); to = at + length (entryBytes e) } = x .2 ∙ ap toldEnds (unique.told-one (x .0) _ (x .1) (told b n)) in
+    let i = subst (λ (i : Ends). IsPart s i r) q (a .is) in
+    (i, i .bytes ∙ frame-inside b n)
 
 -- ---- WHAT ADDING WRITES OPENS
 
@@ -108,16 +115,11 @@ old-entry {e = e} new n =
 pub new-entry : (es : List Entry) (e : Entry) → Numbered (es ++ e ∷ []) (length es) e (length (entries es))
 new-entry es e = record { before = es; behind = []; is = refl; number-is = refl; offset-is = refl }
 
--- the bytes that were written stand in the room's front
-written : {Cause : ℕ → Type 0} {Right : List ℕ → Type 0} {room later : List ℕ} {number n : ℕ} → WroteRight Cause Right room number n later → number ≡ 0 → Right (take n later)
-written {Right = Right} {room = room} (wrote {bs = bs} f x) z = subst Right (sym (take-append-seam bs (drop (length bs) room))) x
-written (refused p f) z = absurd (omega arith)
-
 module _ {s room later : List ℕ} {es : List Entry} {e : Entry} (r : Written) (b : Book s es) (w : WritesAdded s e room r later) (z : writtenRefusal r ≡ 0) where
   -- the old entries and the new one
   pub added-book : Book (take (writtenCount r) later) (es ++ e ∷ [])
   added-book =
-      let a = written w z in
+      let a = written-right w z in
       subst (λ (us : List Entry). Book (take (writtenCount r) later) (us ++ e ∷ [])) (one.one-book (a .valid) b) (a .new)
 
   pub added-opens : (o : Opened) → Opens (take (writtenCount r) later) o → o ≡ Count (length es + 1)
@@ -141,6 +143,21 @@ entry-line {es = es} {e = e} {at = at} b n =
 -- and it stands in the lines of the book
 pub line-in : {s t l : List ℕ} {number : ℕ} → BookLines s t → EntryLine s number l → (x : List ℕ) × (y : List ℕ) × (t ≡ x ++ (l ++ y))
 line-in = lines.line-in
+
+-- WHAT IS WRITTEN ARE THE LINES: where nothing is refused, they stand in the room's front, and the rest is as it was
+pub written-lines : {s room later : List ℕ} (r : Written) → WritesBookLines s room r later → writtenRefusal r ≡ 0 → BookLines s (take (writtenCount r) later)
+written-lines r w z = written-right w z
+
+pub behind-lines : {s room later : List ℕ} (r : Written) → WritesBookLines s room r later → drop (writtenCount r) later ≡ drop (writtenCount r) room
+behind-lines r w = rest-kept w
+
+pub written-entry : {s room later : List ℕ} {number : ℕ} (r : Written) → WritesEntryLine s number room r later → writtenRefusal r ≡ 0
+    → EntryLine s number (take (writtenCount r) later)
+written-entry r w z = written-right w z
+
+pub behind-entry : {s room later : List ℕ} {number : ℕ} (r : Written) → WritesEntryLine s number room r later
+    → drop (writtenCount r) later ≡ drop (writtenCount r) room
+behind-entry r w = rest-kept w
 
 -- ROOM ENOUGH: no lines of a book are longer than this, so a room of that size is never refused
 pub enough : {s room later : List ℕ} {es : List Entry} (r : Written) → Book s es → WritesBookLines s room r later → 8 * length s + 40 * length es ≤ length room

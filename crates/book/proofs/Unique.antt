@@ -3,14 +3,15 @@
 use mathlib.Core.List.{List, [], _∷_, _++_}
 use mathlib.Core.Path.{_≡_, refl, sym, ap, ap₂, _∙_, subst}
 use Prim.Native.Nat.{ℕ, _+_}
+use denote.Ref.{RefT, ptr, now}
 use lib.ListN.{length}
-use Rattle.digits.specs.Paper.Bytes.{part}
 use Rattle.digits.specs.declared.refusal.Refusal.{Refusal}
+use Rattle.digits.proofs.Laws.Handed.{one-part}
 use Rattle.digits.proofs.Laws.Refusals.{same-answer, one-answer}
 use Rattle.lines.proofs.Theorems.{one-line}
 use Rattle.puts.specs.declared.Written.{Written}
 use Rattle.puts.proofs.Laws.Right.{one-wrote}
-use Rattle.book.specs.Paper.Answers.{Counts, openedNumber, openedCount, Opens, Told, EntryOf, keptNumber, keptTold, TellsEntry, HandsFrame, EntryLine, WritesEntryLine, WritesBookLines, Adds, WritesAdded}
+use Rattle.book.specs.Paper.Answers.{Counts, openedNumber, openedCount, Opens, Told, EntryOf, keptNumber, keptTold, TellsEntry, toldEnds, HandsFrame, EntryLine, WritesEntryLine, WritesBookLines, Adds, WritesAdded}
 use Rattle.book.specs.Paper.Book.{Entry, head, entryBytes, book, Numbered}
 use Rattle.book.specs.declared.Kept.{Kept}
 use Rattle.book.specs.declared.Kept.the-variants.{Is, Refused as Unkept}
@@ -65,9 +66,8 @@ entry-one r q a b = let e = one-answer told-one a b in kept-answer r q (e .0) (e
 
 -- ---- book::frame
 
-pub frame-one : {s : List ℕ} {number : ℕ} (p q : List ℕ) → HandsFrame s number p → HandsFrame s number q → p ≡ q
-frame-one {s} p q a b =
-    one-answer (λ u v x y. x .2 ∙ ap (λ (t : Told). part (t .from) (t .to) s) (told-one (x .0) (y .0) (x .1) (y .1)) ∙ sym (y .2)) (a .answer) (b .answer) .1
+pub frame-one : {s : RefT (List ℕ)} {number : ℕ} (p q : RefT (List ℕ)) → HandsFrame s number p → HandsFrame s number q → (ptr p ≡ ptr q) × (now p ≡ now q)
+frame-one p q = one-part (λ d e x y. x .2 ∙ ap toldEnds (told-one (x .0) (y .0) (x .1) (y .1)) ∙ sym (y .2))
 
 -- ---- book::line
 

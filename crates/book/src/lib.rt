@@ -52,7 +52,7 @@ pub fn entry(book: &[u8], number: usize) -> Kept
 
 // That entry's frame, as a part of the book; empty for a refusal.
 pub fn frame(book: &[u8], number: usize) -> &[u8]
-    ensures { λ r. ⌜ HandsFrame (now (book .entry)) number (now r) ⌝ }
+    ensures { λ r. ⌜ HandsFrame (book .entry) number r ⌝ }
 {
     match entry(book, number) {
         Kept::Is {
@@ -61,7 +61,7 @@ pub fn frame(book: &[u8], number: usize) -> &[u8]
             from,
             to,
         } => &book[from..to],
-        Kept::Refused(why) => &book[..0],
+        Kept::Refused(why) => &book[0..0],
     }
 }
 

@@ -9,6 +9,7 @@ use super::value;
 use book::Kept;
 use book::Opened;
 use lines::Listed;
+use lines::Measured;
 use puts::Written;
 
 pub(crate) fn read(line: &[u8], values: &mut [u64; 16], store: &mut [u8]) -> usize {
@@ -16,6 +17,7 @@ pub(crate) fn read(line: &[u8], values: &mut [u64; 16], store: &mut [u8]) -> usi
         b"\
         lines::write u8 bytes usize room\n\
         lines::next u8 bytes usize room usize\n\
+        lines::measure u8 bytes usize\n\
         lines::of Message bytes usize usize room usize\n\
         lines::of_content Tag bytes usize usize room usize\n\
         book::open bytes\n\
@@ -32,18 +34,18 @@ pub(crate) fn read(line: &[u8], values: &mut [u64; 16], store: &mut [u8]) -> usi
 }
 
 pub(crate) fn call(row: usize, values: &[u64; 16], store: &[u8], room: &mut [u8]) -> Answer {
-    if row < 5 {
+    if row < 6 {
         return of_line(row, values, store, room);
     }
     let s = value::bytes(store, values[0], values[1]);
     let number = value::place(values[2]);
     match row {
-        5 => opened(book::open(s)),
-        6 => kept(book::entry(s, number)),
-        7 => put(book::frame(s, number), room),
-        8 => written(book::line(s, number, room)),
-        9 => written(book::list(s, room)),
-        10 => written(book::add(
+        6 => opened(book::open(s)),
+        7 => kept(book::entry(s, number)),
+        8 => put(book::frame(s, number), room),
+        9 => written(book::line(s, number, room)),
+        10 => written(book::list(s, room)),
+        11 => written(book::add(
             s,
             value::small(values[2]),
             value::bytes(store, values[3], values[4]),
@@ -60,7 +62,8 @@ fn of_line(row: usize, values: &[u64; 16], store: &[u8], room: &mut [u8]) -> Ans
     match row {
         1 => written(lines::write(kind, s, at, room)),
         2 => listed(lines::next(kind, s, at, room, value::place(values[4]))),
-        3 => written(line_of(values, store, room)),
+        3 => measured(lines::measure(kind, s, at)),
+        4 => written(line_of(values, store, room)),
         _ => written(line_of_content(values, store, room)),
     }
 }
@@ -95,6 +98,13 @@ fn listed(r: Listed) -> Answer {
             answer::three(start as u64, len as u64, behind as u64)
         }
         Listed::Refused(why) => answer::refused(why),
+    }
+}
+
+fn measured(r: Measured) -> Answer {
+    match r {
+        Measured::At { start, len, size } => answer::three(start as u64, len as u64, size as u64),
+        Measured::Refused(why) => answer::refused(why),
     }
 }
 

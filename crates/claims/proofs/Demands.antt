@@ -1,37 +1,44 @@
 -- THE THREE DEMANDS. What is claimed stands in specs/Paper: Row (demand 1, of one function), Demands (2 and 3); here it is proved, by
--- what each crate has proved. The rows of the table, and what is proved of each function, are in Table.
+-- what each crate has proved. The rows, which tie the claims to the functions, are in Table.
 -- Assumes nothing.
 use mathlib.Core.Bool.{true, true≢false, false≢true}
 use mathlib.Core.List.{List, [], _∷_, _++_, map}
 use mathlib.Core.Path.{_≡_, refl, sym, _∙_, subst}
 use Prim.Native.Nat.{ℕ, _≤_}
 use native.Mathlib.Omega.{arith}
-use lib.ListN.{length}
-use Rattle.digits.proofs.Laws.Refusals.{one-refusal, some-number, cause-at, cause-of, keep}
-use Rattle.digits.specs.Paper.Ascii.{ascii}
+use lib.ListN.{length, take}
+use prog.Routine.{Name}
+use Rattle.digits.proofs.Laws.Refusals.{one-refusal, some-number, cause-at, cause-of, keep, answered}
 use Rattle.digits.specs.Paper.Refusals.{refusalNumber, order}
 use Rattle.digits.specs.declared.refusal.Refusal.{Refusal}
 use Rattle.digits.specs.declared.refusal.Refusal.the-variants.{NoFrame}
 use Rattle.numbers.proofs.Theorems.Text.{exact, written-then-read, read-then-written}
+use Rattle.puts.specs.Paper.Wrote.{writtenRefusal, writtenCount}
+use Rattle.puts.specs.declared.Written.{Written}
 use Rattle.layouts.specs.Paper.Chars.{oneOf}
 use Rattle.frames.specs.Paper.Kinds.{known, Frame}
 use Rattle.frames.specs.Paper.Search.{SearchCause, no-frame, no-kind, no-place, Searches}
 use Rattle.frames.specs.declared.Found.{Found}
 use Rattle.frames.specs.declared.Found.the-variants.{At, Refused}
 use Rattle.frames.proofs.Demand as frames-demand
+use Rattle.frames.proofs.Theorems.{one-length}
 use Rattle.frames.proofs.Laws.Kinds.{frame-known}
 use Rattle.frames.proofs.Laws.Runs as runs
 use Rattle.messages.specs.Paper.Answers.{DecodeCause, no-kind as unknown, no-message, Said, Decodes}
+use Rattle.messages.specs.Paper.Says.{Says}
 use Rattle.messages.specs.declared.Decoded.{Decoded}
 use Rattle.messages.specs.declared.Decoded.the-variants.{Is, Refused as NoMessage}
 use Rattle.messages.specs.declared.Message.{Message as Coded}
 use Rattle.messages.proofs.Laws.Cases.{said-in}
 use Rattle.messages.proofs.Laws.Decode.{is-frame}
 use Rattle.messages.proofs.Theorems.{has-message, one-message-of, stands-bytes}
-use Rattle.commands.proofs.Theorems.{same-bytes, same-message}
-use Rattle.lines.proofs.Theorems.{has-line, one-line, same-frame}
-use Rattle.claims.specs.Paper.Row.{Row, Proper, Every}
-use Rattle.claims.proofs.Laws.Kept.{joined}
+use Rattle.commands.specs.Paper.Answers.{Encodes}
+use Rattle.commands.proofs.Theorems.{same-bytes, encoded-decodes}
+use Rattle.lines.proofs.Theorems.{has-line, one-line, same-frame, written-line}
+use Rattle.book.proofs.Theorems.{written-entry, written-lines}
+use Rattle.list.proofs.Theorems.{written-listing, its-length, adds-up, in-no-frame}
+use Rattle.claims.specs.Paper.Functions.{functions}
+use Rattle.claims.specs.Paper.Row.{Row, Proper, Every, none, and, listed}
 use Rattle.claims.proofs.Table.Digits as digits
 use Rattle.claims.proofs.Table.Checks as checks
 use Rattle.claims.proofs.Table.Puts as puts
@@ -46,7 +53,7 @@ use Rattle.claims.proofs.Table.Lines as lines
 use Rattle.claims.proofs.Table.Book as book
 use Rattle.claims.proofs.Table.List as list
 use Rattle.claims.proofs.Table.Host as host
-use Rattle.claims.specs.Paper.Demands.{LeftmostOrNone, leftmost, none-exists, Demand2, Demand3}
+use Rattle.claims.specs.Paper.Demands.{LeftmostOrNone, leftmost, none-exists, DecodedAs, Demand2, Demand3}
 
 -- ---- DEMAND 1
 
@@ -68,136 +75,34 @@ table =
     ++ (list.rows
     ++ host.rows))))))))))))
 
+-- the functions of two lists
+joined : {Holds : Row → Type 3} {xs ys : List Row} → Every Holds xs → Every Holds ys → Every Holds (xs ++ ys)
+joined none k = k
+joined (and h later) k = and h (joined later k)
+
 pub demand-1 : Every Proper table
 demand-1 =
-    joined digits.rows-kept
-    (joined checks.rows-kept
-    (joined puts.rows-kept
-    (joined numbers.rows-kept
-    (joined json.rows-kept
-    (joined layouts.rows-kept
-    (joined builds.rows-kept
-    (joined frames.rows-kept
-    (joined messages.rows-kept
-    (joined commands.rows-kept
-    (joined lines.rows-kept
-    (joined book.rows-kept
-    (joined list.rows-kept
-    host.rows-kept))))))))))))
+    joined digits.rows-proper
+    (joined checks.rows-proper
+    (joined puts.rows-proper
+    (joined numbers.rows-proper
+    (joined json.rows-proper
+    (joined layouts.rows-proper
+    (joined builds.rows-proper
+    (joined frames.rows-proper
+    (joined messages.rows-proper
+    (joined commands.rows-proper
+    (joined lines.rows-proper
+    (joined book.rows-proper
+    (joined list.rows-proper
+    host.rows-proper))))))))))))
 
--- the same, written out: each function with the numbers that it refuses with, in the order in which they are tested
-pub the-table : map {B = List ℕ × List ℕ} (λ (f : Row). (f .name, f .refusals)) table ≡
-    (ascii "digits::decimal::digits", [])
-    ∷ (ascii "digits::decimal::number_of", 7 ∷ [])
-    ∷ (ascii "digits::hex::digit", [])
-    ∷ (ascii "digits::hex::value", 5 ∷ [])
-    ∷ (ascii "digits::hex::two_digits", [])
-    ∷ (ascii "digits::hex::byte_of", 5 ∷ [])
-    ∷ (ascii "digits::hex::four_digits", [])
-    ∷ (ascii "digits::hex::word_of", 5 ∷ [])
-    ∷ (ascii "digits::low_first::one", [])
-    ∷ (ascii "digits::low_first::two", [])
-    ∷ (ascii "digits::low_first::four", [])
-    ∷ (ascii "digits::low_first::number_of", 7 ∷ [])
-    ∷ (ascii "digits::refusal::number", [])
-    ∷ (ascii "digits::slices::same", [])
-    ∷ (ascii "checks::homiq::Crc::rule", [])
-    ∷ (ascii "checks::homiq::Crc::new", [])
-    ∷ (ascii "checks::homiq::Crc::byte", [])
-    ∷ (ascii "checks::homiq::Crc::bytes", [])
-    ∷ (ascii "checks::homiq::Crc::of", [])
-    ∷ (ascii "checks::nest::Crc::rule", [])
-    ∷ (ascii "checks::nest::Crc::new", [])
-    ∷ (ascii "checks::nest::Crc::byte", [])
-    ∷ (ascii "checks::nest::Crc::bytes", [])
-    ∷ (ascii "checks::nest::Crc::of", [])
-    ∷ (ascii "checks::nibe::Xor::rule", [])
-    ∷ (ascii "checks::nibe::Xor::new", [])
-    ∷ (ascii "checks::nibe::Xor::byte", [])
-    ∷ (ascii "checks::nibe::Xor::bytes", [])
-    ∷ (ascii "checks::nibe::Xor::of", [])
-    ∷ (ascii "checks::nikobus::Crc16::rule", [])
-    ∷ (ascii "checks::nikobus::Crc16::new", [])
-    ∷ (ascii "checks::nikobus::Crc16::byte", [])
-    ∷ (ascii "checks::nikobus::Crc16::bytes", [])
-    ∷ (ascii "checks::nikobus::Crc16::of", [])
-    ∷ (ascii "checks::nikobus::Crc8::rule", [])
-    ∷ (ascii "checks::nikobus::Crc8::new", [])
-    ∷ (ascii "checks::nikobus::Crc8::byte", [])
-    ∷ (ascii "checks::nikobus::Crc8::bytes", [])
-    ∷ (ascii "checks::nikobus::Crc8::of", [])
-    ∷ (ascii "puts::front", 4 ∷ [])
-    ∷ (ascii "puts::byte", [])
-    ∷ (ascii "puts::bytes", [])
-    ∷ (ascii "puts::whole", [])
-    ∷ (ascii "puts::hex", [])
-    ∷ (ascii "numbers::byte_values::write", 7 ∷ 5 ∷ 4 ∷ [])
-    ∷ (ascii "numbers::byte_values::read", 7 ∷ 5 ∷ [])
-    ∷ (ascii "numbers::panel::of", 5 ∷ [])
-    ∷ (ascii "numbers::panel::pair", [])
-    ∷ (ascii "numbers::single::fits", 5 ∷ [])
-    ∷ (ascii "numbers::text::write", 7 ∷ 5 ∷ 4 ∷ [])
-    ∷ (ascii "numbers::text::read", 7 ∷ [])
-    ∷ (ascii "json::hex", [])
-    ∷ (ascii "json::chars", [])
-    ∷ (ascii "json::truth", [])
-    ∷ (ascii "json::signed", [])
-    ∷ (ascii "json::unsigned", [])
-    ∷ (ascii "layouts::homiq::frame", [])
-    ∷ (ascii "layouts::homiq::crc", [])
-    ∷ (ascii "layouts::homiq::may_start", [])
-    ∷ (ascii "layouts::homiq::is_payload", [])
-    ∷ (ascii "layouts::nest::frame", [])
-    ∷ (ascii "layouts::nest::may_start", [])
-    ∷ (ascii "layouts::nibe::frame", [])
-    ∷ (ascii "layouts::nibe::may_start", [])
-    ∷ (ascii "layouts::nibe::is_command", [])
-    ∷ (ascii "layouts::nikobus::frame", [])
-    ∷ (ascii "layouts::nikobus::may_start", [])
-    ∷ (ascii "layouts::nikobus::all_digits", [])
-    ∷ (ascii "builds::homiq::frame", 5 ∷ 4 ∷ [])
-    ∷ (ascii "builds::nest::frame", 5 ∷ 4 ∷ [])
-    ∷ (ascii "builds::nibe::frame", 5 ∷ 4 ∷ [])
-    ∷ (ascii "builds::nikobus::link", 5 ∷ 4 ∷ [])
-    ∷ (ascii "builds::nikobus::press", 5 ∷ 4 ∷ [])
-    ∷ (ascii "builds::nikobus::tail", 4 ∷ [])
-    ∷ (ascii "frames::search", 2 ∷ 3 ∷ 1 ∷ [])
-    ∷ (ascii "frames::frame", 2 ∷ 3 ∷ 1 ∷ [])
-    ∷ (ascii "frames::payload", 2 ∷ 3 ∷ 1 ∷ [])
-    ∷ (ascii "frames::one_frame", 2 ∷ 5 ∷ [])
-    ∷ (ascii "frames::kinds::of", 2 ∷ [])
-    ∷ (ascii "frames::kinds::number", [])
-    ∷ (ascii "frames::kinds::known", [])
-    ∷ (ascii "messages::decode", 2 ∷ 5 ∷ [])
-    ∷ (ascii "messages::find", 2 ∷ 3 ∷ 1 ∷ [])
-    ∷ (ascii "messages::content", 2 ∷ 5 ∷ [])
-    ∷ (ascii "messages::of", 5 ∷ [])
-    ∷ (ascii "messages::allowed", 5 ∷ 6 ∷ [])
-    ∷ (ascii "messages::homiq::field", [])
-    ∷ (ascii "messages::nest::for_panel", 5 ∷ [])
-    ∷ (ascii "messages::nest::voltages", 5 ∷ [])
-    ∷ (ascii "commands::encode", 2 ∷ 7 ∷ 5 ∷ 6 ∷ 4 ∷ [])
-    ∷ (ascii "commands::acknowledge", 5 ∷ 4 ∷ [])
-    ∷ (ascii "lines::write", 2 ∷ 5 ∷ 4 ∷ [])
-    ∷ (ascii "lines::next", 2 ∷ 3 ∷ 1 ∷ [])
-    ∷ (ascii "lines::of", 5 ∷ 4 ∷ [])
-    ∷ (ascii "lines::of_content", 5 ∷ 4 ∷ [])
-    ∷ (ascii "book::open", 8 ∷ [])
-    ∷ (ascii "book::entry", 8 ∷ 3 ∷ [])
-    ∷ (ascii "book::frame", 8 ∷ 3 ∷ [])
-    ∷ (ascii "book::line", 8 ∷ 3 ∷ 4 ∷ [])
-    ∷ (ascii "book::list", 8 ∷ 4 ∷ [])
-    ∷ (ascii "book::add", 8 ∷ 2 ∷ 5 ∷ 4 ∷ [])
-    ∷ (ascii "list::write", 4 ∷ [])
-    ∷ (ascii "host::bolsterweft_search", 2 ∷ 3 ∷ 1 ∷ [])
-    ∷ (ascii "host::bolsterweft_one_frame", 2 ∷ 5 ∷ [])
-    ∷ (ascii "host::bolsterweft_text", 7 ∷ 5 ∷ 4 ∷ [])
-    ∷ (ascii "host::bolsterweft_number", 7 ∷ [])
-    ∷ []
+-- these are the functions that are listed, with the numbers that they refuse with
+pub the-table : map listed table ≡ functions
 the-table = refl
 
 -- that order is the paper's
-pub in-order : map (λ (f : Row). keep (λ n. oneOf (f .refusals) n) order) table ≡ map (λ (f : Row). f .refusals) table
+pub in-order : map (λ (f : Name × List ℕ). keep (λ n. oneOf (f .1) n) order) functions ≡ map (λ (f : Name × List ℕ). f .1) functions
 unfolding oneOf
 in-order = refl
 
@@ -214,18 +119,25 @@ searched {k} {place} {s} kind inside (Refused why) a = of (refusalNumber why) (c
     of n (no-place h) e = absurd (omega (arith, h, inside))
 
 -- a frame is never refused by the decoder
-decoded : {k : ℕ} {f : List ℕ} → Frame k f → (r : Decoded) → Decodes k f r → (e : Coded) × (from : ℕ) × (to : ℕ) × (r ≡ Is e from to) × Said k f e from to
-decoded h (Is e from to) a = (e, from, to, refl, said-in a)
+decoded : {k : ℕ} {f : List ℕ} → Frame k f → (r : Decoded) → Decodes k f r → (e : Coded) × DecodedAs k f e r
+decoded h (Is e from to) a = (e, record { from = from; to = to; answer = refl; said = said-in a })
 decoded {k} {f} h (NoMessage why) a = absurd (never (cause-at (cause-of a) (some-number why)))
   where
     never : {n : ℕ} → DecodeCause k f n → ⊥
     never (unknown e) = true≢false (sym (frame-known h) ∙ e)
-    never (no-message none) = let m = has-message h in none (m .0) (m .1)
+    never (no-message f) = let m = has-message h in f (m .0) (m .1)
+
+-- what the encoder has written is decoded to what was encoded
+same : {k : ℕ} (e : Coded) (s room later : List ℕ) (r : Written) → Encodes k e s room r later → writtenRefusal r ≡ 0 → (d : Decoded)
+    → Decodes k (take (writtenCount r) later) d → (a : DecodedAs k (take (writtenCount r) later) e d) × Says e s (a .said .message)
+same e s room later r w z d a =
+    let x = encoded-decodes e s room later r w z d a in (record { from = x .0; to = x .1; answer = x .2; said = x .3 }, x .4)
 
 pub demand-2 : Demand2
 demand-2 =
     record {
       search = searched;
+      one-length = one-length;
       a-message = has-message;
       one-message = one-message-of;
       a-frame = is-frame;
@@ -234,7 +146,15 @@ demand-2 =
       a-line = has-line;
       one-line = one-line;
       of-one-frame = same-frame;
-      same-message = same-message;
+      line-written = written-line;
+      next-line-put = λ r p z. answered p z;
+      entry-line-written = written-entry;
+      book-lines-written = written-lines;
+      listing-written = written-listing;
+      listed-length = its-length;
+      listed-all = adds-up;
+      skipped = in-no-frame;
+      same-message = same;
       same-bytes = same-bytes;
       exact = exact;
       reads-back = written-then-read;
@@ -244,4 +164,11 @@ demand-2 =
 -- ---- DEMAND 3
 
 pub demand-3 : Demand3
-demand-3 = record { found = frames-demand.demand-3 }
+demand-3 =
+    record {
+      each-carries = frames-demand.each-carries;
+      only-those = frames-demand.only-those;
+      what-carries = frames-demand.what-carries;
+      passes = frames-demand.passes;
+      found = frames-demand.demand-3;
+    }

@@ -1,2 +1,2 @@
-pub mod Kept
-pub mod Told
+pub mod Forms
+pub mod Keeps

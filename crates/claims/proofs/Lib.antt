@@ -1,4 +1,6 @@
 pub mod Demands
+pub mod Edges
 pub mod Known
 mod Laws
+mod Occur
 pub mod Table

@@ -1,5 +1,9 @@
 pub mod Causes
+pub mod Claim
 pub mod Demands
-pub mod Forms
+pub mod Edges
+pub mod Function
+pub mod Functions
 pub mod Points
 pub mod Row
+pub mod Table

@@ -2,16 +2,20 @@
 -- Assumes nothing.
 use mathlib.Core.Path.{_≡_, refl, sym, _∙_, ap, subst}
 use mathlib.Core.Bool.{true≢false}
-use mathlib.Core.List.{List, _++_}
-use Prim.Native.Nat.{ℕ, _≤_}
+use mathlib.Core.List.{List, _∷_, _++_}
+use Prim.Native.Nat.{ℕ, _≤_, _<_}
+use native.Mathlib.Decide.{ℕ-discrete}
 use native.Mathlib.Omega.{arith}
-use lib.ListN.{length, drop}
+use lib.Dec.{lit<}
+use lib.ListN.{length, take, drop}
 use Rattle.digits.specs.Paper.Bytes.{part}
 use Rattle.digits.specs.Paper.LowFirst.{Width}
+use Rattle.digits.specs.Paper.Refusals.{order, First, here, after}
 use Rattle.digits.proofs.Laws.Refusals.{cause-at, cause-of, some-number}
 use Rattle.puts.specs.declared.Written.{Written}
 use Rattle.puts.specs.Paper.Wrote.{writtenRefusal, writtenCount}
 use Rattle.puts.specs.Paper.Right.{WroteRight, wrote, refused}
+use Rattle.puts.proofs.Laws.Right.{first-of, written-right}
 use Rattle.layouts.specs.Paper.Chars.{oneOf}
 use Rattle.layouts.specs.Paper.Made.{Wire}
 use Rattle.layouts.proofs.Laws.Made.{homiq-fit}
@@ -21,7 +25,7 @@ use Rattle.messages.specs.Paper.Answers.{Stands, DecodeCause, Said, Decodes}
 use Rattle.messages.specs.Paper.Answers as decodes
 use Rattle.messages.specs.Paper.Content.{homiq, kindOf, payloadIn}
 use Rattle.messages.specs.Paper.Message.{Message}
-use Rattle.messages.specs.Paper.Says.{Says, ofHomiq}
+use Rattle.messages.specs.Paper.Says.{Says, ofHomiq, kindIn}
 use Rattle.messages.specs.Paper.Table.{contentOf, bytes, HasWidth, in-reply, in-put, Limits, Above, Good}
 use Rattle.messages.specs.Work.Homiq.{whichOf}
 use Rattle.messages.specs.Work.Look.{look}
@@ -95,6 +99,35 @@ same-message {k} e s m g kind says (Is d from to) a =
     } in
     (from, to, ap (λ (x : Coded). Is x from to) same, back, q)
 same-message e s m g kind says (Refused why) a = absurd (never-refused (bytes-stand g kind refl) (cause-at (cause-of a) (some-number why)))
+
+-- ---- the same of what a call to `encode` has written
+
+-- where 0 is answered, the causes in front do not apply
+none-first : {Cause : ℕ → Type 0} {no first : ℕ} {later : List ℕ} → 0 < no → first ≡ 0 → First Cause (no ∷ later) first → (Cause no → ⊥) × First Cause later first
+none-first p z (here c) = absurd (omega arith)
+none-first p z (after n f) = (n, f)
+
+-- a message that is not refused is of the kind asked
+of-the-kind : {k n first : ℕ} (e : Coded) (s : List ℕ) → First (EncodeCause k e s n) order first → first ≡ 0 → numberOf (kindIn e) ≡ k
+of-the-kind {k} {n} e s f z = go (ℕ-discrete (numberOf (kindIn e)) k)
+  where
+    not-5 : EncodeCause k e s n 5 → ⊥
+    not-5 = none-first (lit< tt) z (none-first (lit< tt) z (none-first (lit< tt) z (none-first (lit< tt) z (none-first (lit< tt) z f .1) .1) .1) .1) .0
+
+    go : Dec (numberOf (kindIn e) ≡ k) → numberOf (kindIn e) ≡ k
+    go (yes h) = h
+    go (no h) = absurd (not-5 (other-kind h))
+
+-- THE BYTES THAT `encode` WRITES DECODE TO WHAT WAS ENCODED: to the case itself, and the message is the one that it says with its content
+pub encoded-decodes : {k : ℕ} (e : Coded) (s room later : List ℕ) (r : Written) → Encodes k e s room r later → writtenRefusal r ≡ 0
+    → (d : Decoded) → Decodes k (take (writtenCount r) later) d
+    → (from : ℕ) × (to : ℕ) × (d ≡ Is e from to) × (said : Said k (take (writtenCount r) later) e from to) × Says e s (said .message)
+encoded-decodes {k} e s room later r w z d a =
+    let b = written-right w z in
+    let m = b .message in
+    let kind : numberOf (kindOf (contentOf m)) ≡ k = ap numberOf (said-kind e s m (b .meant)) ∙ of-the-kind e s (first-of w) z in
+    let q = same-message e s m (b .good) kind (b .meant) d (rw (b .is) at a) in
+    rw (b .is) (q .0, q .1, q .2, q .3, subst (Says e s) (sym (q .4)) (b .meant))
 
 -- ---- THE ACKNOWLEDGEMENT of a frame
 

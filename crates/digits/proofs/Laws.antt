@@ -5,6 +5,7 @@ pub mod Parts
 pub mod Stores
 pub mod Reads
 pub mod Refusals
+pub mod Handed
 pub mod Hex
 pub mod HexReads
 pub mod Decimal

@@ -6,4 +6,5 @@ pub mod Decimal
 pub mod LowFirst
 pub mod Read
 pub mod Refusals
+pub mod Part
 pub mod Answers

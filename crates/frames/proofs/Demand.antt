@@ -4,22 +4,21 @@ use mathlib.Core.List.{List, List·Memᴰ, List·Memᴰ·head, List·Memᴰ·tai
 use mathlib.Core.Option.{Option, none, some}
 use mathlib.Core.Path.{_≡_, refl, sym, _∙_, ap, subst}
 use Prim.Native.Nat.{ℕ}
-use native.Mathlib.Omega.{arith}
 use lib.ListN.{length}
-use Rattle.digits.proofs.Laws.Bytes.{bytes-cons}
 use Rattle.digits.specs.Paper.Bytes.{Bytes}
 use Rattle.checks.proofs.Theorems.{burst-found-on-the-buses}
 use Rattle.checks.specs.Paper.Bits.{highFirst, bitsOfBytes}
 use Rattle.checks.specs.Paper.Buses.{nikobusCrc16, nestCrc, nibeXor, homiqCrc, checks}
 use Rattle.checks.specs.Paper.Check.{Check, check}
 use Rattle.checks.specs.Paper.Stretch.{FitIn, Burst}
-use Rattle.frames.specs.Paper.Demand.{Checked, checkedIn, stretch, bitOrder, Carries}
-use Rattle.frames.specs.Paper.Kinds.{layoutOf}
+use Rattle.frames.specs.Paper.Demand.{Checked, checkedIn, Carrying, stretch, bitOrder, Carries}
+use Rattle.frames.specs.Paper.Kinds.{layoutOf, Frame}
 use Rattle.frames.specs.declared.kinds.Kind.{Kind}
 use Rattle.frames.specs.declared.kinds.Kind.the-variants.{Nikobus, NestCommand, NestResponse, Nibe, Homiq}
-use Rattle.frames.proofs.Laws.Kinds.{one-kind}
+use Rattle.frames.proofs.Laws.Kinds.{one-kind, one-reading}
 use Rattle.layouts.proofs.Laws.HomiqOne.{joined-bytes}
 use Rattle.layouts.proofs.Laws.Nest.{covered-bytes}
+use Rattle.layouts.proofs.Laws.Nibe as nibe-laws
 use Rattle.layouts.specs.Paper.Nest as nests
 use Rattle.layouts.specs.Paper.Nikobus as N
 
@@ -52,10 +51,9 @@ carried-in Nikobus N.tail l q = tt
 carried-in NestCommand m l q = nest-carried NestCommand m l q refl refl
 carried-in NestResponse m l q = nest-carried NestResponse m l q refl refl
 carried-in Nibe m l q =
-    let short = l .short in
     record {
-      value = q;
-      bytes = bytes-cons {b = length (m .content)} (omega arith) (l .bytes);
+      value = q ∙ sym (nibe-laws.covered-xor (m .content) (l .short) (l .bytes));
+      bytes = nibe-laws.covered-bytes (m .content) (l .short) (l .bytes);
       one-of = List·Memᴰ·tail (List·Memᴰ·tail (List·Memᴰ·tail (List·Memᴰ·head refl)));
       wide = refl;
       ordered = refl;
@@ -74,6 +72,57 @@ carried : {k : ℕ} {f : List ℕ} {c : Check} {x : List ℕ} {v : ℕ} (a : Car
 carried a =
     let r = a .frame .frame in
     subst (CarriedBy (a .frame .kind)) (a .carries) (carried-in (a .frame .kind) (r .form .fields) (r .form .limits) (r .passes))
+
+-- THE VALUE THAT STANDS IN THE FRAME IS THE CHECK'S VALUE of those bytes
+pub passes : {k : ℕ} {f : List ℕ} {c : Check} {x : List ℕ} {v : ℕ} → Carries k f c x v → v ≡ check c x
+passes a = carried a .value
+
+-- ---- which frames carry one, and that it is one
+
+-- `checkedIn` has a check value where `does` holds, and only there
+abbrev Exactly : Type 0 → Option Checked → Type 0
+Exactly does none = does → ⊥
+Exactly does (some v) = does
+
+exactly : (kind : Kind) (m : layoutOf kind .Fields) → Exactly (Carrying kind m) (checkedIn kind m)
+exactly Nikobus (N.link p crc16 crc8) = tt
+exactly Nikobus (N.press d) = λ h. h
+exactly Nikobus N.tail = λ h. h
+exactly NestCommand m = tt
+exactly NestResponse m = tt
+exactly Nibe m = tt
+exactly Homiq m = tt
+
+same : {u v : Checked} → some u ≡ some v → u ≡ v
+same e = cc
+
+module _ {k : ℕ} {f : List ℕ} where
+  -- EACH FRAME OF KINDS 2 TO 5, AND EACH LINK, CARRIES a check value
+  pub each-carries : (h : Frame k f) → Carrying (h .kind) (h .frame .form .fields)
+      → (c : Check) × (bytes : List ℕ) × (value : ℕ) × Carries k f c bytes value
+  each-carries h does = go (checkedIn (h .kind) (h .frame .form .fields)) refl (exactly (h .kind) (h .frame .form .fields))
+    where
+      go : (v : Option Checked) → checkedIn (h .kind) (h .frame .form .fields) ≡ v → Exactly (Carrying (h .kind) (h .frame .form .fields)) v
+          → (c : Check) × (bytes : List ℕ) × (value : ℕ) × Carries k f c bytes value
+      go none e not = absurd (not does)
+      go (some v) e does = (v .check, v .bytes, v .value, record { frame = h; carries = e })
+
+  module _ {c : Check} {x : List ℕ} {v : ℕ} (a : Carries k f c x v) where
+    -- WHAT CARRIES IS A FRAME
+    pub what-carries : Frame k f
+    what-carries = a .frame
+
+    -- and one of those: PRESSES AND TAILS CARRY NONE
+    pub only-those : (h : Frame k f) → Carrying (h .kind) (h .frame .form .fields)
+    only-those h =
+        subst (Exactly (Carrying (h .kind) (h .frame .form .fields))) (one-reading checkedIn h (a .frame) ∙ a .carries)
+        (exactly (h .kind) (h .frame .form .fields))
+
+    -- A FRAME CARRIES ONE check value
+    pub one-carried : {d : Check} {y : List ℕ} {w : ℕ} → Carries k f d y w → (c ≡ d) × (x ≡ y) × (v ≡ w)
+    one-carried b =
+        let e = same (sym (a .carries) ∙ one-reading checkedIn (a .frame) (b .frame) ∙ b .carries) in
+        (ap (λ (u : Checked). u .check) e, ap (λ (u : Checked). u .bytes) e, ap (λ (u : Checked). u .value) e)
 
 -- a kind has one such check
 abbrev checked-by : Kind → Check

@@ -1,16 +1,19 @@
 -- What the definitions of frames and of the search come to, for a reader.
 -- Assumes nothing.
 use mathlib.Core.List.{List}
-use mathlib.Core.Path.{_≡_, refl, _∙_, ap, subst}
+use mathlib.Core.Path.{_≡_, refl, sym, _∙_, ap, subst}
 use Prim.Native.Nat.{ℕ, _+_, _*_, _%_, _≤_, _<_}
 use native.Mathlib.Omega.{arith}
+use denote.Ref.{RefT, now}
 use lib.ListN.{length}
+use Rattle.digits.proofs.Laws.Handed.{bytes-of}
+use Rattle.digits.proofs.Laws.Refusals.{answered}
 use Rattle.digits.specs.Paper.Bytes.{part}
 use Rattle.digits.specs.Paper.Hex.{hexByte}
 use Rattle.digits.specs.Paper.LowFirst.{lowFirst}
 use Rattle.frames.specs.Paper.Kinds.{Frame}
 use Rattle.frames.specs.Paper.Runs.{Run, InOrder, TakenUp}
-use Rattle.frames.specs.Paper.Search.{FrameAt, Hit, Searches}
+use Rattle.frames.specs.Paper.Search.{FrameAt, Hit, Leftmost, Searches, frameEnds, payloadEnds, Hands, framePart}
 use Rattle.frames.specs.Work.Seek.{searched}
 use Rattle.frames.specs.declared.Found.{Found}
 use Rattle.layouts.specs.declared.nest.Direction.{Direction}
@@ -43,6 +46,19 @@ an-answer = seeks.search-right
 
 pub one-answer : {k : ℕ} {s : List ℕ} {place : ℕ} (r q : Found) → Searches k s place r → Searches k s place q → r ≡ q
 one-answer = unique.searched-one
+
+-- THE FRAME THAT IS HANDED BACK has the bytes of the frame that the search finds, which are a frame; and the payload those of its payload
+module _ {k place : ℕ} {s r : RefT (List ℕ)} where
+  pub handed-frame : (h : Hands k s place frameEnds r) → h .refusal ≡ 0
+      → (v : Hit) × (Leftmost k (now s) place v) × (now r ≡ framePart (now s) v) × Frame k (now r)
+  handed-frame h z =
+      let x = answered (h .answer) z in
+      let e = bytes-of (h .is) (x .2) in
+      (x .0, x .1, e, subst (Frame k) (sym e) (x .1 .stands .frame))
+
+  pub handed-payload : (h : Hands k s place payloadEnds r) → h .refusal ≡ 0
+      → (v : Hit) × (Leftmost k (now s) place v) × (now r ≡ part (v .from) (v .to) (now s))
+  handed-payload h z = let x = answered (h .answer) z in (x .0, x .1, bytes-of (h .is) (x .2))
 
 -- 01: "the next search begins at that frame's end". ONE SEARCH AFTER THE OTHER finds frames that stand in order, no two of them in one
 -- byte; every frame from the place on begins in a byte that they take up, so that none begins in between; and they are always the same

@@ -8,14 +8,17 @@ use Prim.Native.Nat.{ℕ, _+_, _≤_, _<_}
 use native.Mathlib.Decide.{decLe}
 use native.Mathlib.Nat.{eq-or-lt-of-le}
 use native.Mathlib.Omega.{arith}
+use denote.Ref.{RefT, ptr, now}
+use Rattle.digits.proofs.Laws.Handed.{same-ends, one-part}
 use Rattle.digits.proofs.Laws.Refusals.{some-number, same-answer, one-answer}
 use Rattle.digits.specs.Paper.Bytes.{part}
+use Rattle.digits.specs.Paper.Part.{Ends}
 use Rattle.digits.specs.Paper.Refusals.{refusalNumber}
 use Rattle.digits.specs.declared.refusal.Refusal.{Refusal}
 use Rattle.frames.specs.Paper.Kinds.{Resolves}
 use Rattle.frames.specs.Paper.Runs.{Run}
 use Rattle.frames.specs.Paper.Search.{FrameAt, Hit, Leftmost, foundNumber, foundHit, Searches, Hands}
-use Rattle.frames.specs.Paper.Whole.{Ends, OneFrame, wholeNumber, wholeEnds, TestsWhole}
+use Rattle.frames.specs.Paper.Whole.{OneFrame, wholeNumber, wholeEnds, TestsWhole}
 use Rattle.frames.specs.declared.Found.{Found}
 use Rattle.frames.specs.declared.Found.the-variants.{At, Refused}
 use Rattle.frames.specs.declared.Whole.{Whole}
@@ -74,8 +77,9 @@ hit-or-none {why = why} e = let h : 0 ≡ refusalNumber why = ap foundNumber e i
 
 -- ---- frames::frame and frames::payload
 
-pub handed-one : {k : ℕ} {s : List ℕ} {place : ℕ} (cut : Hit → List ℕ) (p q : List ℕ) → Hands k s place cut p → Hands k s place cut q → p ≡ q
-handed-one cut p q a b = one-answer (λ u v x y. x .2 ∙ ap cut (leftmost-one (x .0) (y .0) (x .1) (y .1)) ∙ sym (y .2)) (a .answer) (b .answer) .1
+pub handed-one : {k : ℕ} {s : RefT (List ℕ)} {place : ℕ} (ends : Hit → Ends) (p q : RefT (List ℕ)) → Hands k s place ends p → Hands k s place ends q
+    → (ptr p ≡ ptr q) × (now p ≡ now q)
+handed-one ends p q = one-part (λ d e x y. x .2 ∙ ap ends (leftmost-one (x .0) (y .0) (x .1) (y .1)) ∙ sym (y .2))
 
 -- ---- frames::one_frame
 
@@ -83,12 +87,7 @@ module _ {k : ℕ} {s : List ℕ} where
   pub ends-one : (u v : Ends) → OneFrame k s u → OneFrame k s v → u ≡ v
   ends-one u v a b =
       let q = one-payload refl (a .frame) (b .frame) in
-      let x : u .from ≡ v .from = a .from-is ∙ q .0 ∙ sym (b .from-is) in
-      let y : u .to ≡ v .to = a .to-is ∙ q .1 ∙ sym (b .to-is) in
-      same (u .from) (v .from) (u .to) (v .to) x y
-    where
-      same : (x x′ y y′ : ℕ) → x ≡ x′ → y ≡ y′ → _≡_ {A = Ends} (record { from = x; to = y }) (record { from = x′; to = y′ })
-      same x x′ y y′ p q = rw (p, q)
+      same-ends (a .from-is ∙ q .0 ∙ sym (b .from-is)) (a .to-is ∙ q .1 ∙ sym (b .to-is))
 
   pub whole-one : (r q : Whole) → TestsWhole k s r → TestsWhole k s q → r ≡ q
   whole-one r q a b = let e = one-answer ends-one a b in whole-answer r q (e .0) (e .1)

@@ -5,8 +5,9 @@ mod seek;
 use digits::refusal::Refusal;
 use kinds::Kind;
 use kinds::Resolved;
+ghost use Rattle.digits.specs.Paper.Part.{zeroEnds, IsPart};
 ghost use Rattle.frames.specs.Paper.Kinds.{numberOf};
-ghost use Rattle.frames.specs.Paper.Search.{Searches, Hands, framePart, payloadPart};
+ghost use Rattle.frames.specs.Paper.Search.{Searches, Hands, frameEnds, payloadEnds};
 ghost use Rattle.frames.specs.Paper.Whole.{TestsWhole};
 
 // What a search finds: the frame's start and length, and the places where its payload begins and ends.
@@ -44,7 +45,7 @@ pub fn search(kind: u8, buffer: &[u8], place: usize) -> Found
 
 // That frame, as a part of the buffer; empty for a refusal.
 pub fn frame(kind: u8, buffer: &[u8], place: usize) -> &[u8]
-    ensures { λ r. ⌜ Hands kind (now (buffer .entry)) place (framePart (now (buffer .entry))) (now r) ⌝ }
+    ensures { λ r. ⌜ Hands kind (buffer .entry) place frameEnds r ⌝ }
 {
     match search(kind, buffer, place) {
         Found::At {
@@ -53,13 +54,13 @@ pub fn frame(kind: u8, buffer: &[u8], place: usize) -> &[u8]
             from,
             to,
         } => &buffer[start..start + len],
-        Found::Refused(why) => &buffer[..0],
+        Found::Refused(why) => nothing(buffer),
     }
 }
 
 // Its payload, as a part of the buffer; empty for a refusal.
 pub fn payload(kind: u8, buffer: &[u8], place: usize) -> &[u8]
-    ensures { λ r. ⌜ Hands kind (now (buffer .entry)) place (payloadPart (now (buffer .entry))) (now r) ⌝ }
+    ensures { λ r. ⌜ Hands kind (buffer .entry) place payloadEnds r ⌝ }
 {
     match search(kind, buffer, place) {
         Found::At {
@@ -68,8 +69,15 @@ pub fn payload(kind: u8, buffer: &[u8], place: usize) -> &[u8]
             from,
             to,
         } => &buffer[from..to],
-        Found::Refused(why) => &buffer[..0],
+        Found::Refused(why) => nothing(buffer),
     }
+}
+
+// A refused part: it is empty, and stands at the buffer's front.
+fn nothing(buffer: &[u8]) -> &[u8]
+    ensures { λ r. ⌜ IsPart (buffer .entry) zeroEnds r ⌝ }
+{
+    &buffer[0..0]
 }
 
 // Whether s is one frame and no byte more. Refusals: 2 for a kind that is not known, 5 for anything else than one frame.

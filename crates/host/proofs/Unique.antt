@@ -6,6 +6,7 @@ use Prim.Native.Nat.{ℕ}
 use native.Mathlib.Omega.{arith}
 use lib.IntN.{ℤ}
 use lib.ListN.{length}
+use Rattle.digits.specs.Paper.Part.{Ends, zeroEnds}
 use Rattle.digits.specs.Paper.Read.{Reads}
 use Rattle.digits.specs.Paper.Refusals.{Answers}
 use Rattle.digits.proofs.Laws.Reads.{one-reading}
@@ -16,7 +17,7 @@ use Rattle.numbers.specs.Paper.Text.{text, Number, InLimits}
 use Rattle.numbers.specs.Paper.Answers.{TextCause, zeroNumber}
 use Rattle.numbers.proofs.Unique.{same-number}
 use Rattle.frames.specs.Paper.Search.{Hit, Leftmost, SearchCause, zeroHit}
-use Rattle.frames.specs.Paper.Whole.{Ends, OneFrame, WholeCause, zeroEnds}
+use Rattle.frames.specs.Paper.Whole.{OneFrame, WholeCause}
 use Rattle.frames.proofs.Unique.{leftmost-one, ends-one}
 
 -- bolsterweft_search

@@ -9,6 +9,7 @@ use numbers::text::Reading;
 use puts::Written;
 ghost use mathlib.Core.Path.{_≡_};
 ghost use lib.ListN.{length};
+ghost use Rattle.digits.specs.Paper.Part.{zeroEnds};
 ghost use Rattle.digits.specs.Paper.Read.{Reads};
 ghost use Rattle.digits.specs.Paper.Refusals.{refusalNumber, Answers};
 ghost use Rattle.puts.specs.Paper.Wrote.{writtenRefusal, writtenCount, Wrote};
@@ -16,7 +17,7 @@ ghost use Rattle.numbers.specs.Paper.Text as T;
 ghost use Rattle.numbers.specs.Paper.Text.{InLimits};
 ghost use Rattle.numbers.specs.Paper.Answers.{TextCause, zeroNumber};
 ghost use Rattle.frames.specs.Paper.Search.{zeroHit, SearchCause, Leftmost};
-ghost use Rattle.frames.specs.Paper.Whole.{zeroEnds, WholeCause, OneFrame};
+ghost use Rattle.frames.specs.Paper.Whole.{WholeCause, OneFrame};
 
 // A frame found: its place in the buffer and its length, and the places where its payload begins and ends.
 #[repr(C)]

@@ -1,11 +1,14 @@
 -- What the definition of a line comes to, for a reader.
 -- Assumes nothing.
 use mathlib.Core.List.{List}
-use mathlib.Core.Path.{_≡_, refl, ap, _∙_, subst}
-use Prim.Native.Nat.{ℕ, _+_, _*_, _^_, _≤_, _<_}
+use mathlib.Core.Path.{_≡_, refl, sym, ap, _∙_, subst}
+use Prim.Native.Nat.{ℕ, _+_, _-_, _*_, _^_, _≤_, _<_}
 use native.Mathlib.Omega.{arith}
-use lib.ListN.{length}
+use lib.ListN.{length, take, drop}
+use Rattle.digits.specs.declared.refusal.Refusal.the-variants.{Room}
+use Rattle.digits.proofs.Laws.Refusals.{answered}
 use Rattle.frames.specs.Paper.Kinds.{Frame}
+use Rattle.frames.specs.Paper.Search.{no-frame, no-kind, no-place}
 use Rattle.messages.specs.Paper.Answers.{Stands}
 use Rattle.messages.specs.Paper.Content.{contentAt}
 use Rattle.messages.specs.Paper.Meant.{ContentWith}
@@ -18,19 +21,37 @@ use Rattle.messages.proofs.Laws.Frames.{one-content}
 use Rattle.messages.proofs.Laws.Says.{one-said}
 use Rattle.messages.proofs.Theorems.{has-message}
 use Rattle.puts.specs.Paper.Put.{last}
-use Rattle.lines.specs.Paper.Answers.{LineOf, LineCause, short, LineSaid, SaidCause, HasContent}
+use Rattle.puts.specs.Paper.Wrote.{writtenRefusal, writtenCount}
+use Rattle.puts.specs.declared.Written.{Written}
+use Rattle.puts.proofs.Laws.Right.{written-right, rest-kept}
+use Rattle.lines.specs.Paper.Answers.{LineOf, LineCause, short, WritesLine, LineSaid, SaidCause, HasContent}
+use Rattle.lines.specs.Paper.Answers.{NextCause, searched, PutsNext, NextSize, Measures}
 use Rattle.lines.specs.Paper.Line.{line, lineRoom}
+use Rattle.lines.specs.Work.Put.{all, none}
+use Rattle.lines.specs.declared.Listed.{Listed}
+use Rattle.lines.specs.declared.Listed.the-variants.{At, Refused}
+use Rattle.lines.specs.declared.Measured.the-variants.{At as SizedAt}
+use Rattle.lines.proofs.Laws.Next as nexts
 use Rattle.lines.proofs.Laws.Of as of
 use Rattle.lines.proofs.Laws.Same as same
 use Rattle.lines.proofs.Laws.Sizes as sizes
-use Rattle.lines.proofs.Laws.Write as writes
+use Rattle.lines.proofs.Unique as unique
 
 -- EVERY FRAME HAS A LINE at every place, and one only
 pub has-line : {k : ℕ} {f : List ℕ} (at : ℕ) → Frame k f → (t : List ℕ) × LineOf k f at t
 has-line {f = f} at r = let m = has-message r in (line at (length f) (m .0), record { message = m .0; stands = m .1; is = refl })
 
 pub one-line : {k : ℕ} {f : List ℕ} {at : ℕ} (s t : List ℕ) → LineOf k f at s → LineOf k f at t → s ≡ t
-one-line = writes.one-line
+one-line = nexts.one-line
+
+-- WHAT IS WRITTEN IS THE LINE: where nothing is refused, the line of the frame stands in the room's front, and the rest is as it was
+pub written-line : {k : ℕ} {f : List ℕ} {at : ℕ} {room later : List ℕ} (r : Written) → WritesLine k f at room r later → writtenRefusal r ≡ 0
+    → LineOf k f at (take (writtenCount r) later)
+written-line r w z = written-right w z
+
+pub behind-line : {k : ℕ} {f : List ℕ} {at : ℕ} {room later : List ℕ} (r : Written) → WritesLine k f at room r later
+    → drop (writtenCount r) later ≡ drop (writtenCount r) room
+behind-line r w = rest-kept w
 
 -- A LINE SAYS ITS FRAME: two frames with the same line are the same frame, of one kind, at one place
 pub same-frame : {k j at there : ℕ} {f g t : List ℕ} → LineOf k f at t → LineOf j g there t → (at ≡ there) × (k ≡ j) × (f ≡ g)
@@ -80,3 +101,30 @@ content-of-frame {k} {f} x tag p {at} w l =
 pub never-short-said : (e : Coded) (s : List ℕ) {at len left : ℕ} → at ≤ last → len ≤ last → 8 * length s + 352 ≤ left
     → SaidCause (Says e s) at len left 4 → ⊥
 never-short-said e s h k r (short l g) = omega (arith, sizes.line-bounded e s h k l .most)
+
+-- ---- THE NEXT LINE OF A CAPTURE
+
+-- no line of a frame is longer than 8,368 bytes, so where so many are left of the room it is not refused with 4
+pub never-short-next : {k : ℕ} {s : List ℕ} {place left : ℕ} → length s ≤ last → 8368 ≤ left → NextCause k s place left 4 → ⊥
+never-short-next {k} {s} {place} {left} h r c = go 4 c refl
+  where
+    go : (n : ℕ) → NextCause k s place left n → n ≡ 4 → ⊥
+    go n (searched (no-frame f)) e = omega arith
+    go n (searched (no-kind f)) e = omega arith
+    go n (searched (no-place f)) e = omega arith
+    go n (short {v = v} l o g) e = let few : v .start < 10 ^ 20 = omega (arith, l .stands .inside) in omega (arith, line-most few o)
+
+-- WHAT IS MEASURED IS WHAT IS PUT: the line stands in the room where so many bytes are left of it, and else it is refused with 4
+module _ {k : ℕ} {s : List ℕ} {place : ℕ} {room : List ℕ} {to start len size : ℕ} (m : Measures k s place (SizedAt start len size)) (r : Listed)
+    {later : List ℕ} (p : PutsNext k s place room to r later) where
+  size-at : NextSize k s place (record { start = start; len = len; size = size })
+  size-at = answered m refl
+
+  pub measured-put : size ≤ length room - to → r ≡ At start len (to + size)
+  measured-put h =
+      let n = size-at .size-is in
+      let q = nexts.next-placed {room = room} {to = to} (size-at .found) (size-at .line) (all (omega (arith, n))) in
+      unique.next k s place room to r (At start len (to + length (size-at .text))) p q .0 ∙ ap (λ (i : ℕ). At start len (to + i)) (sym n)
+
+  pub measured-refused : length room - to < size → r ≡ Refused Room
+  measured-refused h = unique.next k s place room to r (Refused Room) p (nexts.next-placed (size-at .found) (size-at .line) (none (omega (arith, size-at .size-is)))) .0

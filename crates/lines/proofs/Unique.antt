@@ -1,26 +1,24 @@
 -- For each public function: two answers that meet its promise are the same, and so are the rooms afterwards.
 -- Assumes nothing.
-use mathlib.Core.Path.{_≡_, sym, ap, _∙_, subst}
+use mathlib.Core.Path.{_≡_, refl, ap}
 use mathlib.Core.List.{List}
-use Prim.Native.Nat.{ℕ, _+_}
-use Rattle.digits.specs.Paper.Bytes.{part}
-use Rattle.digits.proofs.Laws.Refusals.{one-answer}
-use Rattle.frames.specs.declared.Found.{Found}
-use Rattle.frames.specs.declared.Found.the-variants.{At as Hit, Refused as NoHit}
-use Rattle.frames.proofs.Unique.{searched-one, hit-or-none}
+use Prim.Native.Nat.{ℕ}
+use Rattle.digits.specs.declared.refusal.Refusal.{Refusal}
+use Rattle.digits.proofs.Laws.Refusals.{same-answer, one-answer}
 use Rattle.messages.specs.Paper.Message.{Message}
 use Rattle.messages.specs.Paper.Says.{Says}
 use Rattle.messages.specs.declared.Message.{Message as Coded}
 use Rattle.messages.specs.declared.Tag.{Tag}
 use Rattle.puts.specs.declared.Written.{Written}
-use Rattle.puts.proofs.Laws.Right.{one-wrote, one-puts}
+use Rattle.puts.proofs.Laws.Right.{one-wrote}
 use Rattle.puts.proofs.Unique.{written-answer}
-use Rattle.lines.specs.Paper.Answers.{WritesLine, WritesSaid, HasContent, PutsLine, PutsNext}
+use Rattle.lines.specs.Paper.Answers.{WritesLine, WritesSaid, HasContent, Placed, listedNumber, listedPlaced, PutsNext, Size, measuredNumber, measuredSize, Measures}
 use Rattle.lines.specs.declared.Listed.{Listed}
 use Rattle.lines.specs.declared.Listed.the-variants.{At, Refused}
-use Rattle.lines.proofs.Laws.Next.{next-hit, next-found, line-put, none-found, room-kept}
+use Rattle.lines.specs.declared.Measured.{Measured}
+use Rattle.lines.specs.declared.Measured.the-variants.{At as SizedAt, Refused as Unmeasured}
+use Rattle.lines.proofs.Laws.Next.{one-line, one-next-line, one-next-size}
 use Rattle.lines.proofs.Laws.Of.{OneSaid, one-says, one-has, one-put-said}
-use Rattle.lines.proofs.Laws.Write.{one-line}
 
 -- write
 pub write : (k : ℕ) (f : List ℕ) (at : ℕ) (room : List ℕ) {r q : Written} {s t : List ℕ} → WritesLine k f at room r s → WritesLine k f at room q t → (r ≡ q) × (s ≡ t)
@@ -41,22 +39,27 @@ pub of-content : (t : Tag) (p : List ℕ) {at len : ℕ} {room : List ℕ} {to :
     → WritesSaid (HasContent t p) at len room to q y → (r ≡ q) × (x ≡ y)
 of-content t p = one-written (one-has t p)
 
--- next: what the search finds is the same, and then its line, and then what is put
-abbrev with : ℕ → Found → Listed
-with behind (Hit start len from to) = At start len behind
-with behind (NoHit why) = Refused why
+-- next, measure: what the search finds is one, and so is its line
+listed-cases : (P : Listed → Type 0) → ((v : Placed) → P (At (v .start) (v .len) (v .behind))) → ((why : Refusal) → P (Refused why)) → (r : Listed) → P r
+listed-cases P f g (At start len behind) = f (record { start = start; len = len; behind = behind })
+listed-cases P f g (Refused why) = g why
 
-abbrev Puts : ℕ → List ℕ → List ℕ → ℕ → List ℕ → ℕ → Found → Type 0
-Puts k s room to later behind (Hit start len from end) = PutsLine k (part start (start + len) s) start room later to behind
-Puts k s room to later behind (NoHit why) = Unit
+listed-answer : (r q : Listed) → listedNumber r ≡ listedNumber q → listedPlaced r ≡ listedPlaced q → r ≡ q
+listed-answer = same-answer (λ (v : Placed). At (v .start) (v .len) (v .behind)) Refused listedNumber listedPlaced (λ v. refl) (λ why. refl) (λ v. refl) listed-cases
 
-module _ (k : ℕ) (s : List ℕ) (place : ℕ) (room : List ℕ) (to : ℕ) where
-  pub next : (r q : Listed) {x y : List ℕ} → PutsNext k s place room to r x → PutsNext k s place room to q y → (r ≡ q) × (x ≡ y)
-  next (At a b m) (At v w n) {x} {y} f g =
-      let one : next-hit f ≡ next-hit g = searched-one (next-hit f) (next-hit g) (next-found f) (next-found g) in
-      let puts : (m ≡ n) × (x ≡ y) = one-puts one-line (subst (Puts k s room to x m) one (line-put f)) (line-put g) in
-      (ap (with m) one ∙ ap (λ (i : ℕ). At v w i) (puts .0), puts .1)
-  next (At a b m) (Refused why) f g = absurd (hit-or-none (searched-one (next-hit f) (NoHit why) (next-found f) (none-found why g)))
-  next (Refused why) (At a b m) f g = absurd (hit-or-none (searched-one (next-hit g) (NoHit why) (next-found g) (none-found why f)))
-  next (Refused why) (Refused other) f g =
-      (ap (with 0) (searched-one (NoHit why) (NoHit other) (none-found why f) (none-found other g)), room-kept why f ∙ sym (room-kept other g))
+measured-cases : (P : Measured → Type 0) → ((v : Size) → P (SizedAt (v .start) (v .len) (v .size))) → ((why : Refusal) → P (Unmeasured why)) → (r : Measured) → P r
+measured-cases P f g (SizedAt start len size) = f (record { start = start; len = len; size = size })
+measured-cases P f g (Unmeasured why) = g why
+
+measured-answer : (r q : Measured) → measuredNumber r ≡ measuredNumber q → measuredSize r ≡ measuredSize q → r ≡ q
+measured-answer =
+    same-answer (λ (v : Size). SizedAt (v .start) (v .len) (v .size)) Unmeasured measuredNumber measuredSize (λ v. refl) (λ why. refl) (λ v. refl) measured-cases
+
+module _ (k : ℕ) (s : List ℕ) (place : ℕ) where
+  pub next : (room : List ℕ) (to : ℕ) (r q : Listed) {x y : List ℕ} → PutsNext k s place room to r x → PutsNext k s place room to q y → (r ≡ q) × (x ≡ y)
+  next room to r q a b =
+      let e = one-answer one-next-line a b in
+      (listed-answer r q (e .0) (ap (λ v. v .0) (e .1)), ap (λ v. v .1) (e .1))
+
+  pub measure : (r q : Measured) → Measures k s place r → Measures k s place q → r ≡ q
+  measure r q a b = let e = one-answer one-next-size a b in measured-answer r q (e .0) (e .1)

@@ -19,8 +19,9 @@ ghost use lib.Dec.{leb};
 ghost use lib.ListN.{length};
 ghost use Rattle.puts.specs.Paper.Put.{Put};
 ghost use Rattle.messages.specs.Paper.Says.{Says};
-ghost use Rattle.lines.specs.Paper.Answers.{WritesLine, WritesSaid, HasContent, PutsNext};
+ghost use Rattle.lines.specs.Paper.Answers.{WritesLine, WritesSaid, HasContent, PutsNext, Measures};
 ghost use Rattle.lines.specs.Work.Put.{restOf, put, Bounded, AllOrNone};
+ghost use Rattle.lines.specs.Work.Tried.{Tries, Surely};
 
 // No line is longer than so many bytes, and so many more for each byte that stands beside its message.
 const MOST: usize = 352;
@@ -34,6 +35,28 @@ pub enum Listed {
         len: usize,
         behind: usize,
     },
+    Refused(Refusal),
+}
+
+// What stands next in a capture: a frame's start and length, and the size of its line.
+pub enum Measured {
+    At {
+        start: usize,
+        len: usize,
+        size: usize,
+    },
+    Refused(Refusal),
+}
+
+// What comes of trying to put the next line: where it ends; or the start of its frame, where it might not fit and is not
+// put.
+pub(crate) enum Tried {
+    At {
+        start: usize,
+        len: usize,
+        behind: usize,
+    },
+    Unsure(usize),
     Refused(Refusal),
 }
 
@@ -86,10 +109,66 @@ pub fn of_content(
     }
 }
 
-// Puts the line of the frame with the smallest start at or after a place of the capture, at a place of the room and as far as the room
-// goes. So a capture is listed line by line, each frame tested once. Refusals: those of the search.
+// Puts the line of the frame with the smallest start at or after a place of the capture, at a place of the room: all of
+// it, or none where too little of the room is left behind that place. So a capture is listed line by line, each frame
+// tested once. Refusals: those of the search, 4 for a room that is too short.
 pub fn next(kind: u8, capture: &[u8], place: usize, room: &mut [u8], to: usize) -> Listed
     ensures { λ r. ⌜ PutsNext kind (now (capture .entry)) place (now (room .entry)) to r (now (room .exit)) ⌝ }
+{
+    match attempt(kind, capture, place, false, room, to) {
+        Tried::At { start, len, behind } => Listed::At {
+            start: start,
+            len: len,
+            behind: behind,
+        },
+        Tried::Unsure(start) => after_measuring(kind, capture, start, room, to),
+        Tried::Refused(why) => Listed::Refused(why),
+    }
+}
+
+// How long the line is that `next` puts, with the start and the length of its frame: a caller can lend a room of the
+// right length. Refusals: those of the search.
+pub fn measure(kind: u8, capture: &[u8], place: usize) -> Measured
+    ensures { λ r. ⌜ Measures kind (now (capture .entry)) place r ⌝ }
+{
+    let mut none = [0u8; 1];
+    match attempt(kind, capture, place, true, &mut none, 0) {
+        Tried::At { start, len, behind } => Measured::At {
+            start: start,
+            len: len,
+            size: behind,
+        },
+        // never: a line that is put whatever the room is leaves no doubt
+        Tried::Unsure(start) => Measured::Refused(Refusal::Room),
+        Tried::Refused(why) => Measured::Refused(why),
+    }
+}
+
+// Puts the next line as `next` does, and measures it first.
+fn after_measuring(kind: u8, capture: &[u8], place: usize, room: &mut [u8], to: usize) -> Listed
+    ensures { λ r. ⌜ PutsNext kind (now (capture .entry)) place (now (room .entry)) to r (now (room .exit)) ⌝ }
+{
+    match measure(kind, capture, place) {
+        Measured::At { start, len, size } => {
+            if left(room.len(), to) < size {
+                return Listed::Refused(Refusal::Room);
+            }
+            attempt(kind, capture, place, true, room, to);
+            Listed::At {
+                start: start,
+                len: len,
+                behind: to + size,
+            }
+        }
+        Measured::Refused(why) => Listed::Refused(why),
+    }
+}
+
+// Puts the next line as far as the room goes, where that is wanted whatever the room is, or where no line with such a
+// content is longer than what is left of it. There is one call of the search and one of the writer for `next` and
+// `measure` together, and so the compiler makes one function of all three.
+fn attempt(kind: u8, capture: &[u8], place: usize, sure: bool, room: &mut [u8], to: usize) -> Tried
+    ensures { λ r. ⌜ Tries kind (now (capture .entry)) place sure (now (room .entry)) to r (now (room .exit)) ⌝ }
 {
     match messages::find(kind, capture, place) {
         Seen::At {
@@ -98,13 +177,31 @@ pub fn next(kind: u8, capture: &[u8], place: usize, room: &mut [u8], to: usize) 
             from,
             to: end,
             message,
-        } => Listed::At {
-            start: start,
-            len: len,
-            behind: line(message, &capture[from..end], start, len, room, to),
-        },
-        Seen::Refused(why) => Listed::Refused(why),
+        } => {
+            if !surely(sure, end - from, left(room.len(), to)) {
+                return Tried::Unsure(start);
+            }
+            Tried::At {
+                start: start,
+                len: len,
+                behind: line(message, &capture[from..end], start, len, room, to),
+            }
+        }
+        Seen::Refused(why) => Tried::Refused(why),
     }
+}
+
+// Whether a line is put where so many bytes stand beside its message, and so many are left of the room.
+fn surely(sure: bool, beside: usize, bytes: usize) -> bool
+    ensures { λ r. ⌜ Surely sure beside bytes r ⌝ }
+{
+    if sure {
+        return true;
+    }
+    if bytes < MOST {
+        return false;
+    }
+    beside <= (bytes - MOST) / MOST_A_BYTE
 }
 
 // Puts a line at a place of the room: all of it, or none where too little of the room is left.
@@ -140,10 +237,8 @@ fn fits(message: Message, content: &[u8], at: usize, len: usize, bytes: usize) -
     requires { ⌜ Bounded (put message (now content) at len) (length (now content)) ⌝ }
     ensures { λ r. ⌜ r ≡ leb (length (put message (now (content .entry)) at len)) bytes ⌝ }
 {
-    if MOST <= bytes {
-        if content.len() <= (bytes - MOST) / MOST_A_BYTE {
-            return true;
-        }
+    if surely(false, content.len(), bytes) {
+        return true;
     }
     size(message, content, at, len) <= bytes
 }

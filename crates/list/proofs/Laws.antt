@@ -4,4 +4,5 @@ pub mod One
 pub mod Sizes
 pub mod Skipped
 pub mod Some
+pub mod Turns
 pub mod Written

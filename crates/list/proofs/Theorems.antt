@@ -1,14 +1,19 @@
 -- What the definition of a listing comes to, for a reader.
 -- Assumes nothing.
-use mathlib.Core.List.{List}
-use mathlib.Core.Path.{_≡_, refl}
+use mathlib.Core.List.{List, List·Memᴰ, List·Memᴰ·head, List·Memᴰ·tail}
+use mathlib.Core.Path.{_≡_, refl, sym, subst}
 use Prim.Native.Nat.{ℕ, _+_, _-_, _*_, _≤_}
 use native.Mathlib.Omega.{arith}
-use lib.ListN.{length}
+use lib.ListN.{length, take, drop}
 use Rattle.digits.proofs.Laws.Refusals.{cause-at}
-use Rattle.puts.specs.Paper.Wrote.{Wrote, wrote, refused, RoomCause, short, writtenRefusal}
+use Rattle.puts.specs.Paper.Wrote.{Wrote, wrote, refused, RoomCause, short, writtenRefusal, writtenCount}
 use Rattle.puts.specs.declared.Written.{Written}
+use Rattle.puts.proofs.Laws.Right.{written-right, rest-kept, as-right}
 use Rattle.puts.proofs.Laws.Wrote.{has-room}
+use Rattle.frames.specs.Paper.Runs.{Run, InOrder, next}
+use Rattle.frames.specs.Paper.Search.{Hit, framePart}
+use Rattle.frames.proofs.Laws.Places.{size-at}
+use Rattle.frames.proofs.Theorems.{in-order}
 use Rattle.list.specs.Paper.Answers.{WroteListing, WritesListing}
 use Rattle.list.specs.Paper.Listing.{inside, Lists, Listing, listingRoom}
 use Rattle.list.specs.Paper.Skipped.{InNone}
@@ -34,6 +39,14 @@ adds-up l = let h = sizes.inside-most (l .run) in omega arith
 pub in-no-frame : {k : ℕ} {s t : List ℕ} (l : Lists k s t) → InNone (l .frames) 0 (length s) (length s - inside (l .frames))
 in-no-frame l = skips.skipped-count (l .run)
 
+-- the frame of each line is as long as the line says it is
+pub its-length : {k place : ℕ} {s : List ℕ} {hits : List Hit} {v : Hit} → Run k s place hits → List·Memᴰ v hits → length (framePart s v) ≡ v .len
+its-length {k} {s = s} {v = v} r m = of (in-order r) m
+  where
+    of : {place : ℕ} {hits : List Hit} → InOrder k s place hits → List·Memᴰ v hits → length (framePart s v) ≡ v .len
+    of (next {v = u} b q later) (List·Memᴰ·head e) = subst (λ (x : Hit). length (framePart s x) ≡ x .len) (sym e) (size-at q)
+    of (next b q later) (List·Memᴰ·tail n) = of later n
+
 -- a frame has four bytes at least, so there are not many
 pub few-frames : {k : ℕ} {s t : List ℕ} (l : Lists k s t) → 4 * length (l .frames) ≤ length s
 few-frames l = let h = sizes.inside-most (l .run) in omega (arith, sizes.few-found (l .run))
@@ -58,6 +71,13 @@ enough r w h = answered (omega (arith, size-most (w .lists))) (w .written)
 
 pub always-enough : {s room later : List ℕ} (r : Written) → WritesListing s room r later → 2097202 ≤ length room → writtenRefusal r ≡ 0
 always-enough r w h = answered (omega (arith, size-always (w .lists))) (w .written)
+
+-- WHAT IS WRITTEN IS THE LISTING: where nothing is refused, it stands in the room's front, and the rest is as it was
+pub written-listing : {s room later : List ℕ} (r : Written) → WritesListing s room r later → writtenRefusal r ≡ 0 → Listing s (take (writtenCount r) later)
+written-listing {s} r w z = written-right {Right = Listing s} (as-right (w .lists) (w .written)) z
+
+pub behind-listing : {s room later : List ℕ} (r : Written) → WritesListing s room r later → drop (writtenCount r) later ≡ drop (writtenCount r) room
+behind-listing {s} r w = rest-kept {Right = Listing s} (as-right (w .lists) (w .written))
 
 -- WHAT IS WRITTEN LIES IN THE ROOM
 fitting : {room : ℕ} {t before later : List ℕ} {number n : ℕ} → Wrote (RoomCause room (length t)) t before number n later → n ≤ room

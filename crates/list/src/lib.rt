@@ -2,55 +2,33 @@
 use digits::refusal::Refusal;
 use frames::kinds;
 use lines::Listed;
+use lines::Measured;
 use puts::Written;
 ghost use mathlib.Core.Path.{_≡_};
-ghost use mathlib.Core.Bool.{true};
+ghost use Prim.Native.Nat.{_+_, min};
+ghost use lib.ListN.{length};
 ghost use Rattle.digits.specs.Paper.Read.{Tells};
-ghost use Rattle.puts.specs.Paper.Put.{Put};
-ghost use Rattle.frames.specs.Paper.Kinds.{known};
+ghost use Rattle.puts.specs.Paper.Put.{Put, last};
 ghost use Rattle.list.specs.Paper.Answers.{WritesListing};
 ghost use Rattle.list.specs.Paper.Listing.{Input, lastLine};
-ghost use Rattle.list.specs.Work.Rest.{Fits, PutsListing, PutsLists, Sized};
+ghost use Rattle.list.specs.Work.Rest.{Listable, WritesLists, Fits, Sized, Roomy, PutsLists};
+
+// No capture's listing is longer than so many bytes, and so many more for each byte of the capture.
+const MOST: usize = 50;
+
+const MOST_A_BYTE: usize = 32;
 
 // Writes the listing of an input from the front of the room. Refusals: 4 for a room that is too short; one of 2,097,202 bytes never is.
 pub fn write(input: &[u8], room: &mut [u8]) -> Written
     ensures { λ r. ⌜ WritesListing (now (input .entry)) (now (room .entry)) r (now (room .exit)) ⌝ }
 {
-    if !fits(input, room.len()) {
-        return Written::Refused(Refusal::Room);
-    }
-    Written::Bytes(listing(input, room, 0))
-}
-
-// Whether a room of so many bytes has room for the listing. Only where it might not is the listing measured.
-fn fits(input: &[u8], room: usize) -> bool
-    ensures { λ r. ⌜ Fits (now (input .entry)) room r ⌝ }
-{
-    if 2097202 <= room {
-        return true;
-    }
-    size(input) <= room
-}
-
-// How long the listing is: the writer in a room too short.
-fn size(input: &[u8]) -> usize
-    ensures { λ r. ⌜ Sized (now (input .entry)) r ⌝ }
-{
-    let mut none = [0u8; 1];
-    listing(input, &mut none, 0)
-}
-
-// Puts the listing of an input.
-fn listing(input: &[u8], room: &mut [u8], at: usize) -> usize
-    ensures { λ r. ⌜ PutsListing (now (input .entry)) (now (room .entry)) (now (room .exit)) at r ⌝ }
-{
     if !begins(input) {
-        return puts::bytes(b"{\"refused\":2}\n", room, at);
+        return puts::front(b"{\"refused\":2}\n", room);
     }
     if 65536 < input.len() {
-        return puts::bytes(b"{\"refused\":5}\n", room, at);
+        return puts::front(b"{\"refused\":5}\n", room);
     }
-    capture(input[0] - b'0', &input[2..], room, at)
+    capture(input[0] - b'0', &input[2..], room)
 }
 
 // Whether an input begins with a kind's digit and LF.
@@ -66,15 +44,64 @@ fn begins(input: &[u8]) -> bool
     kinds::known(input[0] - b'0') && input[1] == b'\n'
 }
 
-// Puts a line a frame of the capture, and the last line.
-fn capture(kind: u8, s: &[u8], room: &mut [u8], at: usize) -> usize
-    requires { ⌜ known kind ≡ true ⌝ }
-    ensures { λ r. ⌜ PutsLists kind (now (s .entry)) (now (room .entry)) (now (room .exit)) at r ⌝ }
+// Writes the listing of a capture: all of it, or nothing where the room is too short.
+fn capture(kind: u8, s: &[u8], room: &mut [u8]) -> Written
+    requires { ⌜ Listable kind (now s) ⌝ }
+    ensures { λ r. ⌜ WritesLists kind (now (s .entry)) (now (room .entry)) r (now (room .exit)) ⌝ }
+{
+    if !fits(kind, s, room.len()) {
+        return Written::Refused(Refusal::Room);
+    }
+    Written::Bytes(put(kind, s, room))
+}
+
+// Whether a room of so many bytes has room for the listing. Only where it might not is the listing measured.
+fn fits(kind: u8, s: &[u8], room: usize) -> bool
+    requires { ⌜ Listable kind (now s) ⌝ }
+    ensures { λ r. ⌜ Fits kind (now (s .entry)) room r ⌝ }
+{
+    if MOST <= room {
+        if s.len() <= (room - MOST) / MOST_A_BYTE {
+            return true;
+        }
+    }
+    size(kind, s) <= room
+}
+
+// How long the listing is, line by line.
+fn size(kind: u8, s: &[u8]) -> usize
+    requires { ⌜ Listable kind (now s) ⌝ }
+    ensures { λ r. ⌜ Sized kind (now (s .entry)) r ⌝ }
 {
     let mut place = 0;
     let mut frames = 0;
     let mut inside = 0;
-    let mut next = at;
+    let mut sum = 0;
+    loop {
+        match lines::measure(kind, s, place) {
+            Measured::At { start, len, size } => {
+                place = start + len;
+                sum += size;
+                frames += 1;
+                inside += len;
+            }
+            Measured::Refused(why) => {
+                return behind(frames, s.len() - inside, sum);
+            }
+        }
+    }
+}
+
+// Puts a line a frame of the capture, and the last line, in a room that has room for them.
+fn put(kind: u8, s: &[u8], room: &mut [u8]) -> usize
+    requires { ⌜ Listable kind (now s) ⌝ }
+    requires { ⌜ Roomy kind (now s) (length (now room)) ⌝ }
+    ensures { λ r. ⌜ PutsLists kind (now (s .entry)) (now (room .entry)) (now (room .exit)) r ⌝ }
+{
+    let mut place = 0;
+    let mut frames = 0;
+    let mut inside = 0;
+    let mut next = 0;
     loop {
         match lines::next(kind, s, place, room, next) {
             Listed::At { start, len, behind } => {
@@ -88,6 +115,14 @@ fn capture(kind: u8, s: &[u8], room: &mut [u8], at: usize) -> usize
             }
         }
     }
+}
+
+// The place behind the last line, where it is put at a place.
+fn behind(frames: usize, skipped: usize, at: usize) -> usize
+    ensures { λ r. ⌜ r ≡ min (at + length (lastLine frames skipped)) last ⌝ }
+{
+    let mut none = [0u8; 1];
+    ending(frames, skipped, &mut none, at)
 }
 
 // Puts the last line: the frames, and the bytes in no frame.

@@ -12,6 +12,7 @@ use Rattle.digits.specs.Paper.LowFirst.{lowFirst}
 use Rattle.digits.proofs.Laws.Bytes.{bytes-nil, bytes-cons}
 use Rattle.checks.specs.Paper.Bits.{bits, ofLows, number, bitsOfBytes}
 use Rattle.checks.specs.Paper.Check.{polyBits, feed}
+use Rattle.checks.specs.Paper.Xor.{xorFrom}
 use Rattle.layouts.specs.Paper.Chars.{CR}
 use Rattle.messages.specs.Paper.Answers.{Stands}
 use Rattle.messages.specs.Paper.Message.{read, link, command, ask}
@@ -47,5 +48,5 @@ c =
 
 -- (e) "`C0 69 02 44 9C DA` asks 40004"
 pub e : Stands 4 (0xC0 ∷ 0x69 ∷ 0x02 ∷ 0x44 ∷ 0x9C ∷ 0xDA ∷ []) (ask 40004)
-unfolding contentOf look lookNibe isAsk lowFirst feed polyBits bits lows number ofLows bitsOfBytes
+unfolding contentOf look lookNibe isAsk lowFirst xorFrom
 e = bytes-stand (record { limits = lit< tt; free = free (ask 40004) refl }) refl refl

@@ -4,10 +4,13 @@ use mathlib.Core.List.{List, [], _∷_}
 use mathlib.Core.Path.{_≡_, refl, sym, _∙_, ap, subst}
 use Prim.Native.Nat.{ℕ}
 use lib.Dec.{T}
+use denote.Ref.{RefT, now}
 use Rattle.digits.specs.Paper.Bytes.{part}
+use Rattle.digits.proofs.Laws.Handed.{bytes-of}
+use Rattle.digits.proofs.Laws.Refusals.{answered}
 use Rattle.frames.specs.Paper.Kinds.{numberOf, Frame}
-use Rattle.messages.specs.Paper.Answers.{Stands, Said}
-use Rattle.messages.specs.Paper.Content.{Content, kindOf, laid, payloadIn, payloadFrom, payloadTo}
+use Rattle.messages.specs.Paper.Answers.{Stands, Said, contentEnds, Contents}
+use Rattle.messages.specs.Paper.Content.{Content, kindOf, laid, payloadIn, payloadFrom}
 use Rattle.messages.specs.Paper.Message.{Message, read, set, answer, press, tail, link, command, climate, state, break, end, text, response, ask, reply, put, done, nibe, output, input, shutter, beat, homiq, row}
 use Rattle.layouts.specs.Paper.Chars.{oneOf}
 use Rattle.messages.specs.Paper.Table.{contentOf, bytes, Limits, Above, Good}
@@ -49,12 +52,23 @@ pub bytes-stand : {k : ℕ} {f : List ℕ} {m : Message} → Good m → numberOf
 bytes-stand {k} {f} {m} g e b =
     subst (λ (j : ℕ). Stands j f m) e (subst (λ (s : List ℕ). Stands (numberOf (kindOf (contentOf m))) s m) b (own-bytes m g))
 
+-- the payload of a message's frame is what stands beside the message
+pub payload-beside : {k : ℕ} {f : List ℕ} {m : Message} → Stands k f m → part (contentEnds m .from) (contentEnds m .to) f ≡ payloadIn (contentOf m)
+payload-beside {m = m} s = ap (part (contentEnds m .from) (contentEnds m .to)) (stands-bytes s) ∙ decoding.payload-part (contentOf m)
+
+-- so that part is what `content` hands back
+pub handed-payload : {k : ℕ} {s r : RefT (List ℕ)} (h : Contents k s r) → h .refusal ≡ 0
+    → (m : Message) × (Stands k (now s) m) × (now r ≡ payloadIn (contentOf m))
+handed-payload h z =
+    let x = answered (h .answer) z in
+    (x .0, x .1, bytes-of (h .is) (x .2) ∙ payload-beside (x .1))
+
 -- and what a frame is decoded to has the frame's payload beside it
 pub beside : {k : ℕ} {f : List ℕ} {e : Coded} {from to : ℕ} (said : Said k f e from to) → part from to f ≡ payloadIn (contentOf (said .message))
 beside {f = f} {from = from} {to = to} said =
     let x = contentOf (said .message) in
     ap (λ (i : ℕ). part i to f) (said .from-is) ∙ ap (λ (i : ℕ). part (payloadFrom x) i f) (said .to-is)
-    ∙ ap (part (payloadFrom x) (payloadTo x)) (stands-bytes (said .stands)) ∙ decoding.payload-part x
+    ∙ payload-beside (said .stands)
 
 -- "Link, text, response, nibe and homiq": of the messages within their limits only these, the rows
 -- 6, 12, 13, 18 and 23, can have the content of one above

@@ -1,15 +1,18 @@
 -- For each public function: two answers that meet its promise are the same.
 -- Assumes nothing.
-use mathlib.Core.Path.{_≡_, sym, _∙_, ap, subst}
+use mathlib.Core.Path.{_≡_, refl, sym, _∙_, ap, subst}
 use mathlib.Core.List.{List}
 use Prim.Native.Nat.{ℕ, _+_, _-_}
 use native.Mathlib.Omega.{arith}
+use denote.Ref.{RefT, ptr, now}
 use Rattle.digits.specs.Paper.Bytes.{part}
-use Rattle.digits.proofs.Laws.Refusals.{one-refusal, some-number, one-first, cause-of, one-answer}
+use Rattle.digits.specs.Paper.Part.{Ends, IsPart}
+use Rattle.digits.proofs.Laws.Handed.{same-part, one-part}
+use Rattle.digits.proofs.Laws.Refusals.{one-refusal, some-number, one-first, cause-of}
 use Rattle.frames.specs.declared.Found.{Found}
 use Rattle.frames.specs.declared.Found.the-variants.{At as Hit, Refused as NoHit}
 use Rattle.frames.proofs.Unique.{searched-one, hit-or-none}
-use Rattle.messages.specs.Paper.Answers.{Stands, Said, Decodes, Contents, Finds}
+use Rattle.messages.specs.Paper.Answers.{Said, Decodes, contentEnds, Contents, Finds}
 use Rattle.messages.specs.Paper.Allowed.{Allows}
 use Rattle.messages.specs.Paper.Content.{payloadIn, payloadFrom, payloadTo}
 use Rattle.messages.specs.Paper.Meant.{ContentWith, Means}
@@ -22,7 +25,6 @@ use Rattle.messages.specs.declared.Decoded.the-variants.{Is, Refused}
 use Rattle.messages.specs.declared.Message.the-variants.{Command}
 use Rattle.messages.specs.declared.Seen.{Seen}
 use Rattle.messages.specs.declared.Seen.the-variants.{At, Refused as Unseen}
-use Rattle.messages.specs.Paper.Homiq.{fieldAt}
 use Rattle.messages.specs.Paper.Panel.{ShowsPair, ReadsVolts}
 use Rattle.messages.specs.declared.nest.Pair.{Pair}
 use Rattle.messages.specs.declared.nest.Response.{Response}
@@ -75,15 +77,12 @@ find k s place (Unseen why) (At a b c d e) f g = absurd (hit-or-none (searched-o
 find k s place (Unseen why) (Unseen other) f g = ap (with (Command 0)) (searched-one (NoHit why) (NoHit other) (search-refused why f) (search-refused other g))
 
 -- content
-one-part : {k : ℕ} {f : List ℕ} (p q : List ℕ) → ((m : Message) × (Stands k f m) × (p ≡ payloadIn (contentOf m))) → ((m : Message) × (Stands k f m) × (q ≡ payloadIn (contentOf m))) → p ≡ q
-one-part p q s t = s .2 ∙ ap (λ (n : Message). payloadIn (contentOf n)) (one-message-of (s .0) (t .0) (s .1) (t .1)) ∙ sym (t .2)
-
-pub content : (k : ℕ) (f p q : List ℕ) → Contents k f p → Contents k f q → p ≡ q
-content k f p q a b = one-answer one-part (a .answer) (b .answer) .1
+pub content : (k : ℕ) (s r q : RefT (List ℕ)) → Contents k s r → Contents k s q → (ptr r ≡ ptr q) × (now r ≡ now q)
+content k s r q = one-part (λ d e x y. x .2 ∙ ap contentEnds (one-message-of (x .0) (y .0) (x .1) (y .1)) ∙ sym (y .2))
 
 -- homiq::field
-pub field : (i : ℕ) (s p q : List ℕ) → p ≡ fieldAt i s → q ≡ fieldAt i s → p ≡ q
-field i s p q a b = a ∙ sym b
+pub field : (e : Ends) (s r q : RefT (List ℕ)) → IsPart s e r → IsPart s e q → (ptr r ≡ ptr q) × (now r ≡ now q)
+field e s r q = same-part refl
 
 -- nest::for_panel
 pub for-panel : (e : Response) (r q : Pair) → ShowsPair e r → ShowsPair e q → r ≡ q

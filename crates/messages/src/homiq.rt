@@ -11,9 +11,10 @@ ghost use mathlib.Core.Path.{_≡_};
 ghost use Prim.Native.Nat.{_+_, _≤_};
 ghost use lib.ListN.{length, drop};
 ghost use Rattle.digits.specs.Paper.Ascii.{ascii};
+ghost use Rattle.digits.specs.Paper.Part.{IsPart};
 ghost use Rattle.digits.specs.Paper.Read.{Tells};
 ghost use Rattle.messages.specs.Paper.Allowed.{StandsSo};
-ghost use Rattle.messages.specs.Paper.Homiq.{upTo, fieldAt};
+ghost use Rattle.messages.specs.Paper.Homiq.{upTo, fieldAt, fieldEnds};
 ghost use Rattle.messages.specs.Paper.Meant.{Means, HomiqWith};
 ghost use Rattle.messages.specs.Paper.Says.{SaysHomiq};
 ghost use Rattle.messages.specs.Paper.Table.{Numbered, Letter};
@@ -71,9 +72,9 @@ fn case_number(message: Homiq) -> u8
     }
 }
 
-// A field of CMD to TYPE, by its number from 0, as a part of them; empty where there is none.
+// A field of CMD to TYPE, by its number from 0, as a part of them; where there is none, the empty part at their end.
 pub fn field(content: &[u8], number: usize) -> &[u8]
-    ensures { λ r. ⌜ now r ≡ fieldAt number (now (content .entry)) ⌝ }
+    ensures { λ r. ⌜ IsPart (content .entry) (fieldEnds number (now (content .entry))) r ⌝ }
 {
     let mut from = 0;
     let mut left = number;

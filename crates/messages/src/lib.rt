@@ -135,11 +135,11 @@ fn find_as(kind: Kind, buffer: &[u8], place: usize) -> Seen
 
 // What stands beside the message of one frame, as a part of it; empty for a refusal.
 pub fn content(kind: u8, frame: &[u8]) -> &[u8]
-    ensures { λ r. ⌜ Contents kind (now (frame .entry)) (now r) ⌝ }
+    ensures { λ r. ⌜ Contents kind (frame .entry) r ⌝ }
 {
     match frames::one_frame(kind, frame) {
         Whole::Is { from, to } => &frame[from..to],
-        Whole::Refused(why) => &frame[..0],
+        Whole::Refused(why) => &frame[0..0],
     }
 }
 

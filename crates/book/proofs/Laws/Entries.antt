@@ -5,14 +5,17 @@ use mathlib.Core.List.{List, [], _∷_, _++_}
 use mathlib.Core.Path.{_≡_, refl, sym, ap, _∙_, subst}
 use Prim.Native.Nat.{ℕ, suc, _+_, _-_, _*_, _≤_, _<_}
 use native.Mathlib.Omega.{arith}
+use denote.Ref.{RefT, now}
 use lib.Dec.{eqb}
 use lib.ListN.{length, getD, take, drop, length-append, length-take}
 use lib.Seq.{split-at}
 use Rattle.digits.specs.Paper.Bytes.{part}
 use Rattle.digits.specs.Paper.LowFirst.{lowFirst}
+use Rattle.digits.specs.Paper.Part.{zeroEnds, IsPart}
 use Rattle.digits.specs.Paper.Refusals.{refusalNumber, order, First, clear, here, after, answers, refuses}
 use Rattle.digits.specs.declared.refusal.Refusal.{Refusal}
 use Rattle.digits.specs.declared.refusal.Refusal.the-variants.{Place, Book as NotBook}
+use Rattle.digits.proofs.Laws.Handed.{hands-right, hands-none}
 use Rattle.digits.proofs.Laws.LowFirst.{length-low}
 use Rattle.digits.proofs.Laws.Refusals.{answered, cause-of, cause-at, pass-over, some-number}
 use Rattle.frames.specs.Paper.Kinds.{Frame}
@@ -252,8 +255,10 @@ module _ {s : List ℕ} {number : ℕ} {r : Kept} (a : TellsEntry s number r) wh
     pub entry-of : EntryOf s number (record { kind = kind; offset = offset; from = from; to = to })
     entry-of = answered there refl
 
-    pub hands-frame : HandsFrame s number (part from to s)
-    hands-frame = record { refusal = 0; answer = answers (cause-of there) (record { kind = kind; offset = offset; from = from; to = to }, entry-of, refl) }
+module _ {s p : RefT (List ℕ)} {number : ℕ} {r : Kept} (a : TellsEntry (now s) number r) where
+  pub hands-frame : {kind offset from to : ℕ} → r ≡ Is kind offset from to → IsPart s (record { from = from; to = to }) p → HandsFrame s number p
+  hands-frame {kind} {offset} {from} {to} q i =
+      hands-right (cause-of (subst (TellsEntry (now s) number) q a)) (record { kind = kind; offset = offset; from = from; to = to }, entry-of a q, refl) i
 
-  pub hands-nothing : {why : Refusal} → r ≡ Unkept why → HandsFrame s number []
-  hands-nothing {why} q = record { refusal = refusalNumber why; answer = refuses (some-number why) (cause-of (subst (TellsEntry s number) q a)) }
+  pub hands-nothing : {why : Refusal} → r ≡ Unkept why → IsPart s zeroEnds p → HandsFrame s number p
+  hands-nothing {why} q = hands-none why (cause-of (subst (TellsEntry (now s) number) q a))

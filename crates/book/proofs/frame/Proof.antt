@@ -1,5 +1,7 @@
 -- `book::frame` meets its contract: the part of the book that was told of the entry.
 -- Assumes nothing.
+use mathlib.Core.Path.{refl}
+use native.Mathlib.Nat.{sub-self}
 use native.Mathlib.Omega.{arith}
 use Rattle.book.proofs.Laws.Entries.{entry-of, told-inside, hands-frame, hands-nothing}
 use borrow.Author.Needs.{needs}
@@ -24,14 +26,15 @@ part-result-end c = let o = entry-of (c .before .before .before .entry .ensures)
 enum-known-why : tie.Need-enum-known-why
 enum-known-why c = search needs
 
-slice-aggregate-result : tie.Need-slice-aggregate-result
-slice-aggregate-result c = search needs
-
 returns : tie.Need-returns
-returns c = hands-frame (c .before .before .before .before .entry .ensures) (c .before .before .kind .given .1)
+returns c =
+    hands-frame (c .before .before .before .before .entry .ensures) (c .before .before .kind .given .1) (record { bytes = refl; place = refl })
 
+-- `sub-self`: a part from any place to itself is empty, so that only its place tells a wrong one
 returns-2 : tie.Need-returns-2
-returns-2 c = hands-nothing (c .before .before .before .before .entry .ensures) (c .before .before .why .given .1)
+returns-2 c =
+    hands-nothing (c .before .before .before .before .entry .ensures) (c .before .before .why .given .1)
+    (record { bytes = search (needs, sub-self); place = refl })
 
 pub frame-spec : {M : Type 1} → statement M
 frame-spec =
@@ -43,6 +46,8 @@ frame-spec =
     part-result-start
     part-result-end
     enum-known-why
-    slice-aggregate-result
+    (λ c. search needs)
+    (λ c. search needs)
+    (λ c. search needs)
     returns
     returns-2)

@@ -4,8 +4,9 @@ use mathlib.Core.Bool.{false}
 use mathlib.Core.List.{List, [], _∷_, _++_}
 use mathlib.Core.Path.{_≡_}
 use Prim.Native.Nat.{ℕ, _+_, _≤_, _<_}
+use denote.Ref.{RefT, now}
 use lib.ListN.{length}
-use Rattle.digits.specs.Paper.Bytes.{part}
+use Rattle.digits.specs.Paper.Part.{Ends, HandsPart}
 use Rattle.digits.specs.Paper.Refusals.{refusalNumber, Answers}
 use Rattle.frames.specs.Paper.Kinds.{known, Frame}
 use Rattle.lines.specs.Paper.Answers.{LineOf}
@@ -83,11 +84,15 @@ keptTold (Unkept why) = zeroTold
 abbrev pub TellsEntry : List ℕ → ℕ → Kept → Type 0
 TellsEntry s number r = Answers zeroTold (EntryCause s number) (EntryOf s number) (keptNumber r) (keptTold r)
 
--- the frame of that entry is handed back as that part of the book; a refused part is empty
-pub record HandsFrame (s : List ℕ) (number : ℕ) (p : List ℕ) : Type 0 where
-  pub refusal : ℕ
-  pub answer : Answers [] (EntryCause s number)
-      (λ q. (v : Told) × (EntryOf s number v) × (q ≡ part (v .from) (v .to) s)) refusal p
+-- where the frame of that entry begins and ends
+abbrev pub toldEnds : Told → Ends
+toldEnds v = record { from = v .from; to = v .to }
+
+-- r is that part of the book
+abbrev pub HandsFrame : RefT (List ℕ) → ℕ → RefT (List ℕ) → Type 0
+HandsFrame s number r =
+    HandsPart (EntryCause (now s) number)
+    (λ e. (v : Told) × (EntryOf (now s) number v) × (e ≡ toldEnds v)) s r
 
 -- ---- line: "A book's entries give the same lines, `at` being the entry's offset"
 
@@ -144,7 +149,8 @@ pub record Adds (s : List ℕ) (e : Entry) (bs : List ℕ) : Type 0 where
   -- the new book's entries are the old ones and the new one, in order
   pub new : Book bs (all ++ e ∷ [])
 
--- 8 "not a valid book"; 2 "kind not 1 to 5"; 5 "a .. frame or book outside its limits"; 4 "lent room too short for the answer"
+-- 8 "not a valid book"; 2 "kind not 1 to 5"; 5 "a .. frame or book outside its limits"; 4 "lent room too short for
+-- the answer"
 pub data AddCause (s : List ℕ) (e : Entry) (room : ℕ) : ℕ → Type 0 where
   no-book : NoBook s → AddCause s e room 8
   no-kind : known (e .kind) ≡ false → AddCause s e room 2

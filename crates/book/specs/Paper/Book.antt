@@ -36,7 +36,8 @@ offsets at (e ∷ es) = lowFirst 4 at ++ offsets (at + length (entryBytes e)) es
 abbrev pub counted : List Entry → List ℕ
 counted es = offsets 0 es ++ lowFirst 2 (length es)
 
--- "Then a trailer: each entry's offset (4 each), count (2), and the distance from the book's end back to the trailer's start (4)"
+-- "Then a trailer: each entry's offset (4 each), count (2), and the distance from the book's end back to the
+-- trailer's start (4)"
 unfoldable pub trailer : List Entry → List ℕ
 trailer es = counted es ++ lowFirst 4 (length (counted es) + 4)
 

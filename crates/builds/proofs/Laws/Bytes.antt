@@ -9,7 +9,7 @@ use lib.Seq.{take-all}
 use Rattle.digits.proofs.Laws.Hex.{length-hex}
 use Rattle.digits.proofs.Laws.Parts.{part-front, take-ats}
 use Rattle.digits.specs.Paper.Ascii.{ascii}
-use Rattle.digits.specs.Paper.Bytes.{part}
+use Rattle.digits.specs.Paper.Bytes.{Bytes, part}
 use Rattle.digits.specs.Paper.Decimal.{decimal}
 use Rattle.digits.specs.Paper.Hex.{hexByte, hexBytes, hexWord}
 use Rattle.digits.specs.Paper.LowFirst.{lowFirst}
@@ -18,7 +18,7 @@ use Rattle.checks.specs.Paper.Buses.{nikobusCrc16, nikobusCrc8, nestCrc, nibeXo
 use Rattle.checks.specs.Paper.Check.{Check, feed, check}
 use Rattle.layouts.proofs.Laws.HexDigits.{length-byte, length-word}
 use Rattle.layouts.proofs.Laws.Nest.{nest-size}
-use Rattle.layouts.proofs.Laws.Nibe.{nibe-size}
+use Rattle.layouts.proofs.Laws.Nibe.{nibe-size, covered-xor}
 use Rattle.layouts.proofs.Laws.Nikobus.{link-size}
 use Rattle.layouts.specs.Paper.Chars.{CR, LF}
 use Rattle.layouts.specs.Paper.Homiq.{kept}
@@ -90,8 +90,8 @@ nest-whole mark p i v x y z id len crc ei el ev ex ey ez ec =
     rw (ec, e, ei, el)
 
 pub nibe-whole : (c : ℕ) (d : List ℕ) (v x y : ℕ) → v ≡ nibeXor .start → x ≡ feed nibeXor v (length d ∷ []) → y ≡ feed nibeXor x d
-    → (0xC0 ∷ c ∷ length d ∷ []) ++ d ++ (y ∷ []) ≡ bytesOf nibe (nibeOf c d)
-nibe-whole c d v x y ev ex ey = rw (two-fed nibeXor v x y (length d ∷ []) d ev ex ey)
+    → length d ≤ 255 → Bytes d → (0xC0 ∷ c ∷ length d ∷ []) ++ d ++ (y ∷ []) ≡ bytesOf nibe (nibeOf c d)
+nibe-whole c d v x y ev ex ey short bytes = rw (two-fed nibeXor v x y (length d ∷ []) d ev ex ey ∙ covered-xor d short bytes)
 
 pub homiq-whole : (p : List ℕ) (x : ℕ) → x ≡ check homiqCrc (kept p) → ascii "<;" ++ p ++ ascii ";" ++ decimal x ++ (59 ∷ 62 ∷ CR ∷ LF ∷ []) ≡ around p
 homiq-whole p x e = rw e (sym (append-assoc (ascii "<;" ++ p ++ ascii ";" ++ decimal (check homiqCrc (kept p))) (ascii ";>") (CR ∷ LF ∷ [])))

@@ -16,8 +16,9 @@ nikobusCrc8 = record { width = 8; poly = 0x99; start = 0; order = highFirst }
 abbrev pub nestCrc : Check
 nestCrc = record { width = 16; poly = 0x1021; start = 0; order = highFirst }
 
--- 01, Nibe: "The check is the XOR of the length and the data". The XOR of bytes is the check with the polynomial x^8 + 1, since a
--- register that moves eight places round is as before; 01: "Nibe counts as high bit first".
+-- 01, Nibe: "The check is the XOR of the length and the data" (that is Paper/Xor). As a check with a width and a bit
+-- order, of which demand 3 speaks, it is that of the polynomial x^8 + 1, since a register that moves eight places
+-- round is as before; 01: "Nibe counts as high bit first".
 abbrev pub nibeXor : Check
 nibeXor = record { width = 8; poly = 0x01; start = 0; order = highFirst }
 

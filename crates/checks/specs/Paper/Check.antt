@@ -1,14 +1,14 @@
--- Check values: one definition over width, polynomial, start and bit order.
--- A register is a list of bits, its head the bit that leaves first. Each bit of the bytes is added to the head, and the register
--- moves one place on; where the bit that left was set, the polynomial is added. Addition is without carry: exclusive or.
+-- Check values: one definition over width, polynomial, start and bit order. A register is a list of bits, its head
+-- the bit that leaves first. Each bit of the bytes is added to the head, and the register moves one place on; where
+-- the bit that left was set, the polynomial is added. Addition is without carry: exclusive or.
 -- Assumes nothing.
 use Prim.Native.Nat.{ℕ}
 use mathlib.Core.Bool.{Bool, true, false, not, cond}
 use mathlib.Core.List.{List, [], _∷_, _++_}
 use Rattle.checks.specs.Paper.Bits.{Order, bits, number, bitsOfBytes}
 
--- 01: "Each check has a width, a start value and a bit order of its own". `poly` has the polynomial's terms below x^width, as a
--- number whose bits stand in the check's order.
+-- 01: "Each check has a width, a start value and a bit order of its own". `poly` has the polynomial's terms below
+-- x^width, as a number whose bits stand in the check's order.
 pub record Check : Type 0 where
   pub width : ℕ
   pub poly : ℕ

@@ -12,8 +12,8 @@ use Rattle.checks.specs.Paper.Check.{Check}
 abbrev pub Differ : List Bool → List Bool → ℕ → Type 0
 Differ u v i = ¬ (getD u i false ≡ getD v i false)
 
--- 01: "Differing bits fit in a stretch of n when the last lies less than n places behind the first, also where there are fewer
--- than n bits in all": whichever two of them are taken
+-- 01: "Differing bits fit in a stretch of n when the last lies less than n places behind the first, also where there
+-- are fewer than n bits in all": whichever two of them are taken
 unfoldable pub FitIn : ℕ → List Bool → List Bool → Type 0
 FitIn n u v = (first last : ℕ) → Differ u v first → Differ u v last → last < first + n
 

@@ -1,142 +1,173 @@
--- The public functions of `book`.
+-- The public functions of `book`: each keeps its claim.
 -- Assumes nothing.
+use mathlib.Core.Path.{refl}
 use mathlib.Core.List.{List, [], _∷_}
 use Prim.Native.Nat.{ℕ}
-use lib.ListN.{length}
-use Rattle.digits.specs.Paper.Ascii.{ascii}
-use Rattle.book.specs.Paper.Answers.{OpenCause, openedNumber, openedCount, EntryCause, keptNumber, keptTold, zeroTold, EntryLineCause, ListCause, AddCause}
+use Rattle.book.specs.Paper.Answers.{OpenCause, EntryCause, EntryLineCause, ListCause, AddCause}
 use Rattle.book.specs.Paper.Book.{Entry}
 use Rattle.book.proofs as book
 use Rattle.book.proofs.Unique as unique
-use Rattle.claims.specs.Paper.Forms.{refusing, writing, handing}
-use Rattle.claims.specs.Paper.Row.{Row, Kept, AcceptsAll, Proper, Every, none, OneOf, here, there}
-use Rattle.claims.proofs.Laws.Kept.{refusing-kept, writing-right-kept, handing-kept, also}
-
--- ---- opening (`open` is no name here)
-
-abbrev pub opening : Row
-opening =
-    refusing (ascii "book::open") book.open.Kinds.ps book.open.Kinds.r book.open.Reads.Pre book.open.Reads.Post
-    book.open.Statement.statement (8 ∷ []) (λ κs a. OpenCause (a .0 .now)) openedNumber openedCount 0 (λ κs r. r)
-
-pub opening-kept : Kept opening
-opening-kept =
-    refusing-kept (λ M. book.open.Met.met) (λ κs a r q s t x y. unique.open-one r q x y) (λ κs a r s p. p)
-    (λ κs a no c. stated c)
-  where
-    stated : {s : List ℕ} {no : ℕ} → OpenCause s no → OneOf no (8 ∷ [])
-    stated (OpenCause.no-book f) = here
-
-pub opening-open : AcceptsAll opening
-opening-open = λ κs a. tt
-
--- ---- an entry, its frame and its line
+use Rattle.claims.specs.Paper.Claim.{OneOf, here, there}
+use Rattle.claims.specs.Paper.Row.{Row, Proper, Every, none, and, promise}
+use Rattle.claims.specs.Paper.Function.{function-of}
+use Rattle.claims.specs.Paper.Table.Book as claims
+use Rattle.claims.proofs.Laws.Forms.{fronted, unfronted, placed}
+use Rattle.claims.proofs.Laws.Keeps.{keeps-as}
+use Rattle.claims.proofs.Occur as inputs
 
 entry-stated : {s : List ℕ} {number no : ℕ} → EntryCause s number no → OneOf no (8 ∷ 3 ∷ [])
 entry-stated (EntryCause.no-book f) = here
 entry-stated (EntryCause.no-entry b h) = there here
 
+opening-stated : {s : List ℕ} {no : ℕ} → OpenCause s no → OneOf no (8 ∷ [])
+opening-stated (OpenCause.no-book f) = here
+
+abbrev pub opening : Row
+opening =
+    record {
+      function = function-of book.open.Key.name book.open.Kinds.ps book.open.Kinds.r book.open.Symbol.routine;
+      claim = λ κs. claims.opening;
+      args = λ κs a. record { book = a .0 .now };
+      later = λ κs s. [];
+    }
+
+pub opening-proper : Proper opening
+opening-proper =
+    record {
+      named = λ κs. refl;
+      keeps = λ w. book.open.Met.met (w .𝓤) (w .H) (w .𝓜) (w .𝓖) (w .𝓡);
+      stated = λ κs a no c. opening-stated c;
+      occurs = λ κs. inputs.opening;
+      one = λ κs a r q ws vs x y. (unique.open-one r q x y, refl);
+    }
+
 abbrev pub entry : Row
 entry =
-    refusing (ascii "book::entry") book.entry.Kinds.ps book.entry.Kinds.r book.entry.Reads.Pre book.entry.Reads.Post
-    book.entry.Statement.statement (8 ∷ 3 ∷ []) (λ κs a. EntryCause (a .0 .now) (a .1 .0)) keptNumber keptTold zeroTold
-    (λ κs r. r)
+    record {
+      function = function-of book.entry.Key.name book.entry.Kinds.ps book.entry.Kinds.r book.entry.Symbol.routine;
+      claim = λ κs. claims.entry;
+      args = λ κs a. record { book = a .0 .now; number = a .1 .0 };
+      later = λ κs s. [];
+    }
 
-pub entry-kept : Kept entry
-entry-kept =
-    refusing-kept (λ M. book.entry.Met.met) (λ κs a r q s t x y. unique.entry-one r q x y) (λ κs a r s p. p)
-    (λ κs a no c. entry-stated c)
-
-pub entry-open : AcceptsAll entry
-entry-open = λ κs a. tt
+pub entry-proper : Proper entry
+entry-proper =
+    record {
+      named = λ κs. refl;
+      keeps = λ w. book.entry.Met.met (w .𝓤) (w .H) (w .𝓜) (w .𝓖) (w .𝓡);
+      stated = λ κs a no c. entry-stated c;
+      occurs = λ κs. inputs.entry;
+      one = λ κs a r q ws vs x y. (unique.entry-one r q x y, refl);
+    }
 
 abbrev pub frame : Row
 frame =
-    handing (ascii "book::frame") book.frame.Kinds.ps book.frame.Kinds.r book.frame.Reads.Pre book.frame.Reads.Post
-    book.frame.Statement.statement (8 ∷ 3 ∷ []) (λ κs a. EntryCause (a .0 .now) (a .1 .0)) (λ κs r. r .now)
+    record {
+      function = function-of book.frame.Key.name book.frame.Kinds.ps book.frame.Kinds.r book.frame.Symbol.routine;
+      claim = λ κs. claims.frame;
+      args = λ κs a. record { book = a .0; number = a .1 .0 };
+      later = λ κs s. [];
+    }
 
-pub frame-kept : Kept frame
-frame-kept =
-    handing-kept (λ M. book.frame.Met.met) (λ κs a r q s t x y. unique.frame-one (r .now) (q .now) x y)
-    (λ κs a r s p. (p .refusal, p .answer)) (λ κs a no c. entry-stated c)
+pub frame-proper : Proper frame
+frame-proper =
+    record {
+      named = λ κs. refl;
+      keeps = λ w. book.frame.Met.met (w .𝓤) (w .H) (w .𝓜) (w .𝓖) (w .𝓡);
+      stated = λ κs a no c. entry-stated c;
+      occurs = λ κs. inputs.book-frame;
+      one = λ κs a r q ws vs x y. (unique.frame-one r q x y, refl);
+    }
 
-pub frame-open : AcceptsAll frame
-frame-open = λ κs a. tt
+line-stated : {s : List ℕ} {number room no : ℕ} → EntryLineCause s number room no → OneOf no (8 ∷ 3 ∷ 4 ∷ [])
+line-stated (EntryLineCause.no-book f) = here
+line-stated (EntryLineCause.no-entry b h) = there here
+line-stated (EntryLineCause.short l h) = there (there here)
 
 abbrev pub line : Row
 line =
-    writing (ascii "book::line") book.line.Kinds.ps book.line.Kinds.r book.line.Reads.Pre book.line.Reads.Post
-    book.line.Statement.statement (8 ∷ 3 ∷ 4 ∷ []) (λ κs a. EntryLineCause (a .0 .now) (a .1 .0) (length (a .1 .1 .0 .now)))
-    (λ κs a. a .1 .1 .0 .now) (λ κs r. r) (λ κs s. s .1 .1 .0 .now)
+    record {
+      function = function-of book.line.Key.name book.line.Kinds.ps book.line.Kinds.r book.line.Symbol.routine;
+      claim = λ κs. claims.line;
+      args = λ κs a. record { book = a .0 .now; number = a .1 .0; room = a .1 .1 .0 .now };
+      later = λ κs s. s .1 .1 .0 .now;
+    }
 
-pub line-kept : Kept line
-line-kept =
-    writing-right-kept (λ M. book.line.Met.met) (λ κs a r q s t x y. unique.line-one r q x y) (λ κs a r s p. p)
-    (λ κs a no c. stated c)
-  where
-    stated : {s : List ℕ} {number room no : ℕ} → EntryLineCause s number room no → OneOf no (8 ∷ 3 ∷ 4 ∷ [])
-    stated (EntryLineCause.no-book f) = here
-    stated (EntryLineCause.no-entry b h) = there here
-    stated (EntryLineCause.short l h) = there (there here)
+pub line-proper : Proper line
+line-proper =
+    record {
+      named = λ κs. refl;
+      keeps = keeps-as (line .function) book.line.Reads.Post (promise line) (λ κs a r ws p. fronted p)
+          (λ w. book.line.Met.met (w .𝓤) (w .H) (w .𝓜) (w .𝓖) (w .𝓡));
+      stated = λ κs a no c. line-stated c;
+      occurs = λ κs. inputs.entry-line-of;
+      one = λ κs a r q ws vs x y. placed (λ (l : List ℕ). (tt, (tt, (l, tt))))
+          (unique.line-one r q (unfronted x) (unfronted y));
+    }
 
-pub line-open : AcceptsAll line
-line-open = λ κs a. tt
-
--- ---- the lines of all entries
+list-stated : {s : List ℕ} {room no : ℕ} → ListCause s room no → OneOf no (8 ∷ 4 ∷ [])
+list-stated (ListCause.no-book f) = here
+list-stated (ListCause.short l h) = there here
 
 abbrev pub list : Row
 list =
-    writing (ascii "book::list") book.list.Kinds.ps book.list.Kinds.r book.list.Reads.Pre book.list.Reads.Post
-    book.list.Statement.statement (8 ∷ 4 ∷ []) (λ κs a. ListCause (a .0 .now) (length (a .1 .0 .now))) (λ κs a. a .1 .0 .now)
-    (λ κs r. r) (λ κs s. s .1 .0 .now)
+    record {
+      function = function-of book.list.Key.name book.list.Kinds.ps book.list.Kinds.r book.list.Symbol.routine;
+      claim = λ κs. claims.list;
+      args = λ κs a. record { book = a .0 .now; room = a .1 .0 .now };
+      later = λ κs s. s .1 .0 .now;
+    }
 
-pub list-kept : Kept list
-list-kept =
-    writing-right-kept (λ M. book.list.Met.met) (λ κs a r q s t x y. unique.list-one r q x y) (λ κs a r s p. p)
-    (λ κs a no c. stated c)
-  where
-    stated : {s : List ℕ} {room no : ℕ} → ListCause s room no → OneOf no (8 ∷ 4 ∷ [])
-    stated (ListCause.no-book f) = here
-    stated (ListCause.short l h) = there here
+pub list-proper : Proper list
+list-proper =
+    record {
+      named = λ κs. refl;
+      keeps = keeps-as (list .function) book.list.Reads.Post (promise list) (λ κs a r ws p. fronted p)
+          (λ w. book.list.Met.met (w .𝓤) (w .H) (w .𝓜) (w .𝓖) (w .𝓡));
+      stated = λ κs a no c. list-stated c;
+      occurs = λ κs. inputs.list;
+      one = λ κs a r q ws vs x y. placed (λ (l : List ℕ). (tt, (l, tt))) (unique.list-one r q (unfronted x) (unfronted y));
+    }
 
-pub list-open : AcceptsAll list
-list-open = λ κs a. tt
-
--- ---- adding
+add-stated : {s : List ℕ} {e : Entry} {room no : ℕ} → AddCause s e room no → OneOf no (8 ∷ 2 ∷ 5 ∷ 4 ∷ [])
+add-stated (AddCause.no-book f) = here
+add-stated (AddCause.no-kind e) = there here
+add-stated (AddCause.no-frame f) = there (there here)
+add-stated (AddCause.too-many b h) = there (there here)
+add-stated (AddCause.too-long b h) = there (there here)
+add-stated (AddCause.short a h) = there (there (there here))
 
 abbrev pub add : Row
 add =
-    writing (ascii "book::add") book.add.Kinds.ps book.add.Kinds.r book.add.Reads.Pre book.add.Reads.Post
-    book.add.Statement.statement (8 ∷ 2 ∷ 5 ∷ 4 ∷ [])
-    (λ κs a. AddCause (a .0 .now) (record { kind = a .1 .0; frame = a .1 .1 .0 .now }) (length (a .1 .1 .1 .0 .now)))
-    (λ κs a. a .1 .1 .1 .0 .now) (λ κs r. r) (λ κs s. s .1 .1 .1 .0 .now)
+    record {
+      function = function-of book.add.Key.name book.add.Kinds.ps book.add.Kinds.r book.add.Symbol.routine;
+      claim = λ κs. claims.add;
+      args = λ κs a. record { book = a .0 .now; kind = a .1 .0; frame = a .1 .1 .0 .now; room = a .1 .1 .1 .0 .now };
+      later = λ κs s. s .1 .1 .1 .0 .now;
+    }
 
-pub add-kept : Kept add
-add-kept =
-    writing-right-kept (λ M. book.add.Met.met) (λ κs a r q s t x y. unique.add-one r q x y) (λ κs a r s p. p)
-    (λ κs a no c. stated c)
-  where
-    stated : {s : List ℕ} {e : Entry} {room no : ℕ} → AddCause s e room no → OneOf no (8 ∷ 2 ∷ 5 ∷ 4 ∷ [])
-    stated (AddCause.no-book f) = here
-    stated (AddCause.no-kind e) = there here
-    stated (AddCause.no-frame f) = there (there here)
-    stated (AddCause.too-many b h) = there (there here)
-    stated (AddCause.too-long b h) = there (there here)
-    stated (AddCause.short a h) = there (there (there here))
-
-pub add-open : AcceptsAll add
-add-open = λ κs a. tt
+pub add-proper : Proper add
+add-proper =
+    record {
+      named = λ κs. refl;
+      keeps = keeps-as (add .function) book.add.Reads.Post (promise add) (λ κs a r ws p. fronted p)
+          (λ w. book.add.Met.met (w .𝓤) (w .H) (w .𝓜) (w .𝓖) (w .𝓡));
+      stated = λ κs a no c. add-stated c;
+      occurs = λ κs. inputs.add;
+      one = λ κs a r q ws vs x y. placed (λ (l : List ℕ). (tt, (tt, (tt, (l, tt)))))
+          (unique.add-one r q (unfronted x) (unfronted y));
+    }
 
 -- ---- all of them
 
 abbrev pub rows : List Row
 rows = opening ∷ entry ∷ frame ∷ line ∷ list ∷ add ∷ []
 
-pub rows-kept : Every Proper rows
-rows-kept =
-    also opening-kept opening-open
-    (also entry-kept entry-open
-    (also frame-kept frame-open
-    (also line-kept line-open
-    (also list-kept list-open
-    (also add-kept add-open none)))))
+pub rows-proper : Every Proper rows
+rows-proper =
+    and opening-proper
+    (and entry-proper
+    (and frame-proper
+    (and line-proper
+    (and list-proper
+    (and add-proper none)))))

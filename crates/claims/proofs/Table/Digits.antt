@@ -1,214 +1,326 @@
--- The public functions of `digits`.
+-- The public functions of `digits`: each keeps its claim.
 -- Assumes nothing.
 use mathlib.Core.List.{List, [], _∷_}
 use mathlib.Core.Path.{refl}
-use Prim.Native.Nat.{_^_, _<_}
-use lib.ListN.{length}
-use Rattle.digits.specs.Paper.Answers.{byteRefusal, byteValue, wordRefusal, wordValue, numberRefusal, numberValue, wholeRefusal, wholeValue}
-use Rattle.digits.specs.Paper.Ascii.{ascii}
+use native.Mathlib.Omega.{arith}
 use Rattle.digits.specs.Paper.Decimal.{decimal}
-use Rattle.digits.specs.Paper.Hex.{hexDigit, hexByte, hexWord}
-use Rattle.digits.specs.Paper.LowFirst.{Held, lowFirst}
-use Rattle.digits.proofs.decimal as decimals
-use Rattle.digits.proofs.hex
-use Rattle.digits.proofs.low_first
-use Rattle.digits.proofs.refusal
-use Rattle.digits.proofs.slices
 use Rattle.digits.proofs.Unique.{equation, test, digit-value, two-digits, four-digits, decimal-number, low-first-number, written}
-use Rattle.claims.specs.Paper.Forms.{answering, refusing, Unread}
-use Rattle.claims.specs.Paper.Row.{Row, Kept, AcceptsAll, Proper, Every, none}
-use Rattle.claims.proofs.Laws.Kept.{answering-kept, reading-kept, also}
-
--- ---- decimal
+use Rattle.digits.proofs as digits
+use Rattle.claims.specs.Paper.Row.{Row, Proper, Every, none, and, promise}
+use Rattle.claims.specs.Paper.Function.{function-of}
+use Rattle.claims.specs.Paper.Table.Digits as claims
+use Rattle.claims.proofs.Laws.Forms.{answers-read, reads-answered, read-stated}
+use Rattle.claims.proofs.Laws.Keeps.{keeps-as}
+use Rattle.claims.proofs.Occur as inputs
 
 abbrev pub decimal-digits : Row
 decimal-digits =
-    answering (ascii "digits::decimal::digits") decimals.digits.Kinds.ps decimals.digits.Kinds.r decimals.digits.Reads.Pre
-    decimals.digits.Reads.Post decimals.digits.Statement.statement (λ κs r s. r)
+    record {
+      function = function-of digits.decimal.digits.Key.name digits.decimal.digits.Kinds.ps digits.decimal.digits.Kinds.r
+          digits.decimal.digits.Symbol.routine;
+      claim = λ κs. claims.decimal-digits;
+      args = λ κs a. record { n = a .0 };
+      later = λ κs s. [];
+    }
 
-pub decimal-digits-kept : Kept decimal-digits
-decimal-digits-kept = answering-kept (λ M. decimals.digits.Met.met) (λ κs a r q s t x y. written _ r q x y)
-
-pub decimal-digits-open : AcceptsAll decimal-digits
-decimal-digits-open = λ κs a. tt
+pub decimal-digits-proper : Proper decimal-digits
+decimal-digits-proper =
+    record {
+      named = λ κs. refl;
+      keeps = λ w. digits.decimal.digits.Met.met (w .𝓤) (w .H) (w .𝓜) (w .𝓖) (w .𝓡);
+      stated = λ κs a no c. absurd c;
+      occurs = λ κs. tt;
+      one = λ κs a r q ws vs x y. (written _ r q x y, refl);
+    }
 
 abbrev pub decimal-number-of : Row
 decimal-number-of =
-    refusing (ascii "digits::decimal::number_of") decimals.number_of.Kinds.ps decimals.number_of.Kinds.r
-    decimals.number_of.Reads.Pre decimals.number_of.Reads.Post decimals.number_of.Statement.statement (7 ∷ [])
-    (λ κs a. Unread (λ n. n < 2 ^ 32) decimal 7 (a .0 .now)) wholeRefusal wholeValue 0 (λ κs r. r)
+    record {
+      function = function-of digits.decimal.number_of.Key.name digits.decimal.number_of.Kinds.ps
+          digits.decimal.number_of.Kinds.r digits.decimal.number_of.Symbol.routine;
+      claim = λ κs. claims.decimal-number-of;
+      args = λ κs a. record { s = a .0 .now };
+      later = λ κs s. [];
+    }
 
-pub decimal-number-of-kept : Kept decimal-number-of
-decimal-number-of-kept =
-    reading-kept (λ M. decimals.number_of.Met.met) (λ κs a r q s t x y. decimal-number _ r q x y) refl (λ κs a r s p. p)
-
-pub decimal-number-of-open : AcceptsAll decimal-number-of
-decimal-number-of-open = λ κs a. tt
-
--- ---- hex
+pub decimal-number-of-proper : Proper decimal-number-of
+decimal-number-of-proper =
+    record {
+      named = λ κs. refl;
+      keeps = keeps-as (decimal-number-of .function) digits.decimal.number_of.Reads.Post (promise decimal-number-of)
+          (λ κs a r ws p. answers-read refl (omega arith) p)
+          (λ w. digits.decimal.number_of.Met.met (w .𝓤) (w .H) (w .𝓜) (w .𝓖) (w .𝓡));
+      stated = λ κs a no c. read-stated c;
+      occurs = λ κs. inputs.decimal-number-of;
+      one = λ κs a r q ws vs x y. (decimal-number _ r q (reads-answered x) (reads-answered y), refl);
+    }
 
 abbrev pub hex-digit : Row
 hex-digit =
-    answering (ascii "digits::hex::digit") hex.digit.Kinds.ps hex.digit.Kinds.r hex.digit.Reads.Pre hex.digit.Reads.Post
-    hex.digit.Statement.statement (λ κs r s. r)
+    record {
+      function = function-of digits.hex.digit.Key.name digits.hex.digit.Kinds.ps digits.hex.digit.Kinds.r
+          digits.hex.digit.Symbol.routine;
+      claim = λ κs. claims.hex-digit;
+      args = λ κs a. record { v = a .0 };
+      later = λ κs s. [];
+    }
 
-pub hex-digit-kept : Kept hex-digit
-hex-digit-kept = answering-kept (λ M. hex.digit.Met.met) (λ κs a r q s t x y. equation x y)
-
-pub hex-digit-open : AcceptsAll hex-digit
-hex-digit-open = λ κs a. tt
+pub hex-digit-proper : Proper hex-digit
+hex-digit-proper =
+    record {
+      named = λ κs. refl;
+      keeps = λ w. digits.hex.digit.Met.met (w .𝓤) (w .H) (w .𝓜) (w .𝓖) (w .𝓡);
+      stated = λ κs a no c. absurd c;
+      occurs = λ κs. tt;
+      one = λ κs a r q ws vs x y. (equation x y, refl);
+    }
 
 abbrev pub hex-value : Row
 hex-value =
-    refusing (ascii "digits::hex::value") hex.value.Kinds.ps hex.value.Kinds.r hex.value.Reads.Pre hex.value.Reads.Post
-    hex.value.Statement.statement (5 ∷ []) (λ κs a. Unread (λ v. v < 16) (λ v. hexDigit v ∷ []) 5 (a .0 ∷ [])) byteRefusal
-    byteValue 0 (λ κs r. r)
+    record {
+      function = function-of digits.hex.value.Key.name digits.hex.value.Kinds.ps digits.hex.value.Kinds.r
+          digits.hex.value.Symbol.routine;
+      claim = λ κs. claims.hex-value;
+      args = λ κs a. record { c = a .0 };
+      later = λ κs s. [];
+    }
 
-pub hex-value-kept : Kept hex-value
-hex-value-kept = reading-kept (λ M. hex.value.Met.met) (λ κs a r q s t x y. digit-value _ r q x y) refl (λ κs a r s p. p)
-
-pub hex-value-open : AcceptsAll hex-value
-hex-value-open = λ κs a. tt
+pub hex-value-proper : Proper hex-value
+hex-value-proper =
+    record {
+      named = λ κs. refl;
+      keeps = keeps-as (hex-value .function) digits.hex.value.Reads.Post (promise hex-value)
+          (λ κs a r ws p. answers-read refl (omega arith) p)
+          (λ w. digits.hex.value.Met.met (w .𝓤) (w .H) (w .𝓜) (w .𝓖) (w .𝓡));
+      stated = λ κs a no c. read-stated c;
+      occurs = λ κs. inputs.hex-value;
+      one = λ κs a r q ws vs x y. (digit-value _ r q (reads-answered x) (reads-answered y), refl);
+    }
 
 abbrev pub hex-two-digits : Row
 hex-two-digits =
-    answering (ascii "digits::hex::two_digits") hex.two_digits.Kinds.ps hex.two_digits.Kinds.r hex.two_digits.Reads.Pre
-    hex.two_digits.Reads.Post hex.two_digits.Statement.statement (λ κs r s. r)
+    record {
+      function = function-of digits.hex.two_digits.Key.name digits.hex.two_digits.Kinds.ps digits.hex.two_digits.Kinds.r
+          digits.hex.two_digits.Symbol.routine;
+      claim = λ κs. claims.hex-two-digits;
+      args = λ κs a. record { b = a .0 };
+      later = λ κs s. [];
+    }
 
-pub hex-two-digits-kept : Kept hex-two-digits
-hex-two-digits-kept = answering-kept (λ M. hex.two_digits.Met.met) (λ κs a r q s t x y. equation x y)
-
-pub hex-two-digits-open : AcceptsAll hex-two-digits
-hex-two-digits-open = λ κs a. tt
+pub hex-two-digits-proper : Proper hex-two-digits
+hex-two-digits-proper =
+    record {
+      named = λ κs. refl;
+      keeps = λ w. digits.hex.two_digits.Met.met (w .𝓤) (w .H) (w .𝓜) (w .𝓖) (w .𝓡);
+      stated = λ κs a no c. absurd c;
+      occurs = λ κs. tt;
+      one = λ κs a r q ws vs x y. (equation x y, refl);
+    }
 
 abbrev pub hex-byte-of : Row
 hex-byte-of =
-    refusing (ascii "digits::hex::byte_of") hex.byte_of.Kinds.ps hex.byte_of.Kinds.r hex.byte_of.Reads.Pre
-    hex.byte_of.Reads.Post hex.byte_of.Statement.statement (5 ∷ [])
-    (λ κs a. Unread (λ v. v < 256) hexByte 5 (a .0 ∷ a .1 .0 ∷ [])) byteRefusal byteValue 0 (λ κs r. r)
+    record {
+      function = function-of digits.hex.byte_of.Key.name digits.hex.byte_of.Kinds.ps digits.hex.byte_of.Kinds.r
+          digits.hex.byte_of.Symbol.routine;
+      claim = λ κs. claims.hex-byte-of;
+      args = λ κs a. record { high = a .0; low = a .1 .0 };
+      later = λ κs s. [];
+    }
 
-pub hex-byte-of-kept : Kept hex-byte-of
-hex-byte-of-kept = reading-kept (λ M. hex.byte_of.Met.met) (λ κs a r q s t x y. two-digits _ _ r q x y) refl (λ κs a r s p. p)
-
-pub hex-byte-of-open : AcceptsAll hex-byte-of
-hex-byte-of-open = λ κs a. tt
+pub hex-byte-of-proper : Proper hex-byte-of
+hex-byte-of-proper =
+    record {
+      named = λ κs. refl;
+      keeps = keeps-as (hex-byte-of .function) digits.hex.byte_of.Reads.Post (promise hex-byte-of)
+          (λ κs a r ws p. answers-read refl (omega arith) p)
+          (λ w. digits.hex.byte_of.Met.met (w .𝓤) (w .H) (w .𝓜) (w .𝓖) (w .𝓡));
+      stated = λ κs a no c. read-stated c;
+      occurs = λ κs. inputs.hex-byte-of;
+      one = λ κs a r q ws vs x y. (two-digits _ _ r q (reads-answered x) (reads-answered y), refl);
+    }
 
 abbrev pub hex-four-digits : Row
 hex-four-digits =
-    answering (ascii "digits::hex::four_digits") hex.four_digits.Kinds.ps hex.four_digits.Kinds.r hex.four_digits.Reads.Pre
-    hex.four_digits.Reads.Post hex.four_digits.Statement.statement (λ κs r s. r)
+    record {
+      function = function-of digits.hex.four_digits.Key.name digits.hex.four_digits.Kinds.ps digits.hex.four_digits.Kinds.r
+          digits.hex.four_digits.Symbol.routine;
+      claim = λ κs. claims.hex-four-digits;
+      args = λ κs a. record { n = a .0 };
+      later = λ κs s. [];
+    }
 
-pub hex-four-digits-kept : Kept hex-four-digits
-hex-four-digits-kept = answering-kept (λ M. hex.four_digits.Met.met) (λ κs a r q s t x y. equation x y)
-
-pub hex-four-digits-open : AcceptsAll hex-four-digits
-hex-four-digits-open = λ κs a. tt
+pub hex-four-digits-proper : Proper hex-four-digits
+hex-four-digits-proper =
+    record {
+      named = λ κs. refl;
+      keeps = λ w. digits.hex.four_digits.Met.met (w .𝓤) (w .H) (w .𝓜) (w .𝓖) (w .𝓡);
+      stated = λ κs a no c. absurd c;
+      occurs = λ κs. tt;
+      one = λ κs a r q ws vs x y. (equation x y, refl);
+    }
 
 abbrev pub hex-word-of : Row
 hex-word-of =
-    refusing (ascii "digits::hex::word_of") hex.word_of.Kinds.ps hex.word_of.Kinds.r hex.word_of.Reads.Pre
-    hex.word_of.Reads.Post hex.word_of.Statement.statement (5 ∷ []) (λ κs a. Unread (λ v. v < 65536) hexWord 5 (a .0))
-    wordRefusal wordValue 0 (λ κs r. r)
+    record {
+      function = function-of digits.hex.word_of.Key.name digits.hex.word_of.Kinds.ps digits.hex.word_of.Kinds.r
+          digits.hex.word_of.Symbol.routine;
+      claim = λ κs. claims.hex-word-of;
+      args = λ κs a. record { d = a .0 };
+      later = λ κs s. [];
+    }
 
-pub hex-word-of-kept : Kept hex-word-of
-hex-word-of-kept = reading-kept (λ M. hex.word_of.Met.met) (λ κs a r q s t x y. four-digits _ r q x y) refl (λ κs a r s p. p)
-
-pub hex-word-of-open : AcceptsAll hex-word-of
-hex-word-of-open = λ κs a. tt
-
--- ---- low_first
+pub hex-word-of-proper : Proper hex-word-of
+hex-word-of-proper =
+    record {
+      named = λ κs. refl;
+      keeps = keeps-as (hex-word-of .function) digits.hex.word_of.Reads.Post (promise hex-word-of)
+          (λ κs a r ws p. answers-read refl (omega arith) p)
+          (λ w. digits.hex.word_of.Met.met (w .𝓤) (w .H) (w .𝓜) (w .𝓖) (w .𝓡));
+      stated = λ κs a no c. read-stated c;
+      occurs = λ κs. inputs.hex-word-of;
+      one = λ κs a r q ws vs x y. (four-digits _ r q (reads-answered x) (reads-answered y), refl);
+    }
 
 abbrev pub low-first-one : Row
 low-first-one =
-    answering (ascii "digits::low_first::one") low_first.one.Kinds.ps low_first.one.Kinds.r low_first.one.Reads.Pre
-    low_first.one.Reads.Post low_first.one.Statement.statement (λ κs r s. r)
+    record {
+      function = function-of digits.low_first.one.Key.name digits.low_first.one.Kinds.ps digits.low_first.one.Kinds.r
+          digits.low_first.one.Symbol.routine;
+      claim = λ κs. claims.low-first-one;
+      args = λ κs a. record { n = a .0 };
+      later = λ κs s. [];
+    }
 
-pub low-first-one-kept : Kept low-first-one
-low-first-one-kept = answering-kept (λ M. low_first.one.Met.met) (λ κs a r q s t x y. equation x y)
-
-pub low-first-one-open : AcceptsAll low-first-one
-low-first-one-open = λ κs a. tt
+pub low-first-one-proper : Proper low-first-one
+low-first-one-proper =
+    record {
+      named = λ κs. refl;
+      keeps = λ w. digits.low_first.one.Met.met (w .𝓤) (w .H) (w .𝓜) (w .𝓖) (w .𝓡);
+      stated = λ κs a no c. absurd c;
+      occurs = λ κs. tt;
+      one = λ κs a r q ws vs x y. (equation x y, refl);
+    }
 
 abbrev pub low-first-two : Row
 low-first-two =
-    answering (ascii "digits::low_first::two") low_first.two.Kinds.ps low_first.two.Kinds.r low_first.two.Reads.Pre
-    low_first.two.Reads.Post low_first.two.Statement.statement (λ κs r s. r)
+    record {
+      function = function-of digits.low_first.two.Key.name digits.low_first.two.Kinds.ps digits.low_first.two.Kinds.r
+          digits.low_first.two.Symbol.routine;
+      claim = λ κs. claims.low-first-two;
+      args = λ κs a. record { n = a .0 };
+      later = λ κs s. [];
+    }
 
-pub low-first-two-kept : Kept low-first-two
-low-first-two-kept = answering-kept (λ M. low_first.two.Met.met) (λ κs a r q s t x y. equation x y)
-
-pub low-first-two-open : AcceptsAll low-first-two
-low-first-two-open = λ κs a. tt
+pub low-first-two-proper : Proper low-first-two
+low-first-two-proper =
+    record {
+      named = λ κs. refl;
+      keeps = λ w. digits.low_first.two.Met.met (w .𝓤) (w .H) (w .𝓜) (w .𝓖) (w .𝓡);
+      stated = λ κs a no c. absurd c;
+      occurs = λ κs. tt;
+      one = λ κs a r q ws vs x y. (equation x y, refl);
+    }
 
 abbrev pub low-first-four : Row
 low-first-four =
-    answering (ascii "digits::low_first::four") low_first.four.Kinds.ps low_first.four.Kinds.r low_first.four.Reads.Pre
-    low_first.four.Reads.Post low_first.four.Statement.statement (λ κs r s. r)
+    record {
+      function = function-of digits.low_first.four.Key.name digits.low_first.four.Kinds.ps digits.low_first.four.Kinds.r
+          digits.low_first.four.Symbol.routine;
+      claim = λ κs. claims.low-first-four;
+      args = λ κs a. record { n = a .0 };
+      later = λ κs s. [];
+    }
 
-pub low-first-four-kept : Kept low-first-four
-low-first-four-kept = answering-kept (λ M. low_first.four.Met.met) (λ κs a r q s t x y. equation x y)
-
-pub low-first-four-open : AcceptsAll low-first-four
-low-first-four-open = λ κs a. tt
+pub low-first-four-proper : Proper low-first-four
+low-first-four-proper =
+    record {
+      named = λ κs. refl;
+      keeps = λ w. digits.low_first.four.Met.met (w .𝓤) (w .H) (w .𝓜) (w .𝓖) (w .𝓡);
+      stated = λ κs a no c. absurd c;
+      occurs = λ κs. tt;
+      one = λ κs a r q ws vs x y. (equation x y, refl);
+    }
 
 abbrev pub low-first-number-of : Row
 low-first-number-of =
-    refusing (ascii "digits::low_first::number_of") low_first.number_of.Kinds.ps low_first.number_of.Kinds.r
-    low_first.number_of.Reads.Pre low_first.number_of.Reads.Post low_first.number_of.Statement.statement (7 ∷ [])
-    (λ κs a. Unread (Held (length (a .0 .now))) (lowFirst (length (a .0 .now))) 7 (a .0 .now)) numberRefusal numberValue 0
-    (λ κs r. r)
+    record {
+      function = function-of digits.low_first.number_of.Key.name digits.low_first.number_of.Kinds.ps
+          digits.low_first.number_of.Kinds.r digits.low_first.number_of.Symbol.routine;
+      claim = λ κs. claims.low-first-number-of;
+      args = λ κs a. record { s = a .0 .now };
+      later = λ κs s. [];
+    }
 
-pub low-first-number-of-kept : Kept low-first-number-of
-low-first-number-of-kept =
-    reading-kept (λ M. low_first.number_of.Met.met) (λ κs a r q s t x y. low-first-number _ r q x y) refl (λ κs a r s p. p)
-
-pub low-first-number-of-open : AcceptsAll low-first-number-of
-low-first-number-of-open = λ κs a. tt
-
--- ---- refusal and slices
+pub low-first-number-of-proper : Proper low-first-number-of
+low-first-number-of-proper =
+    record {
+      named = λ κs. refl;
+      keeps = keeps-as (low-first-number-of .function) digits.low_first.number_of.Reads.Post (promise low-first-number-of)
+          (λ κs a r ws p. answers-read refl (omega arith) p)
+          (λ w. digits.low_first.number_of.Met.met (w .𝓤) (w .H) (w .𝓜) (w .𝓖) (w .𝓡));
+      stated = λ κs a no c. read-stated c;
+      occurs = λ κs. inputs.low-first-number-of;
+      one = λ κs a r q ws vs x y. (low-first-number _ r q (reads-answered x) (reads-answered y), refl);
+    }
 
 abbrev pub refusal-number : Row
 refusal-number =
-    answering (ascii "digits::refusal::number") refusal.number.Kinds.ps refusal.number.Kinds.r refusal.number.Reads.Pre
-    refusal.number.Reads.Post refusal.number.Statement.statement (λ κs r s. r)
+    record {
+      function = function-of digits.refusal.number.Key.name digits.refusal.number.Kinds.ps digits.refusal.number.Kinds.r
+          digits.refusal.number.Symbol.routine;
+      claim = λ κs. claims.refusal-number;
+      args = λ κs a. record { why = a .0 };
+      later = λ κs s. [];
+    }
 
-pub refusal-number-kept : Kept refusal-number
-refusal-number-kept = answering-kept (λ M. refusal.number.Met.met) (λ κs a r q s t x y. equation x y)
-
-pub refusal-number-open : AcceptsAll refusal-number
-refusal-number-open = λ κs a. tt
+pub refusal-number-proper : Proper refusal-number
+refusal-number-proper =
+    record {
+      named = λ κs. refl;
+      keeps = λ w. digits.refusal.number.Met.met (w .𝓤) (w .H) (w .𝓜) (w .𝓖) (w .𝓡);
+      stated = λ κs a no c. absurd c;
+      occurs = λ κs. tt;
+      one = λ κs a r q ws vs x y. (equation x y, refl);
+    }
 
 abbrev pub slices-same : Row
 slices-same =
-    answering (ascii "digits::slices::same") slices.same.Kinds.ps slices.same.Kinds.r slices.same.Reads.Pre
-    slices.same.Reads.Post slices.same.Statement.statement (λ κs r s. r)
+    record {
+      function = function-of digits.slices.same.Key.name digits.slices.same.Kinds.ps digits.slices.same.Kinds.r
+          digits.slices.same.Symbol.routine;
+      claim = λ κs. claims.slices-same;
+      args = λ κs a. record { a = a .0 .now; b = a .1 .0 .now };
+      later = λ κs s. [];
+    }
 
-pub slices-same-kept : Kept slices-same
-slices-same-kept = answering-kept (λ M. slices.same.Met.met) (λ κs a r q s t x y. test x y)
-
-pub slices-same-open : AcceptsAll slices-same
-slices-same-open = λ κs a. tt
+pub slices-same-proper : Proper slices-same
+slices-same-proper =
+    record {
+      named = λ κs. refl;
+      keeps = λ w. digits.slices.same.Met.met (w .𝓤) (w .H) (w .𝓜) (w .𝓖) (w .𝓡);
+      stated = λ κs a no c. absurd c;
+      occurs = λ κs. tt;
+      one = λ κs a r q ws vs x y. (test x y, refl);
+    }
 
 -- ---- all of them
 
 abbrev pub rows : List Row
-rows =
-    decimal-digits ∷ decimal-number-of ∷ hex-digit ∷ hex-value ∷ hex-two-digits ∷ hex-byte-of ∷ hex-four-digits ∷ hex-word-of
-    ∷ low-first-one ∷ low-first-two ∷ low-first-four ∷ low-first-number-of ∷ refusal-number ∷ slices-same ∷ []
+rows = decimal-digits ∷ decimal-number-of ∷ hex-digit ∷ hex-value ∷ hex-two-digits ∷ hex-byte-of ∷ hex-four-digits ∷ hex-word-of ∷ low-first-one ∷ low-first-two ∷ low-first-four ∷ low-first-number-of ∷ refusal-number ∷ slices-same ∷ []
 
-pub rows-kept : Every Proper rows
-rows-kept =
-    also decimal-digits-kept decimal-digits-open
-    (also decimal-number-of-kept decimal-number-of-open
-    (also hex-digit-kept hex-digit-open
-    (also hex-value-kept hex-value-open
-    (also hex-two-digits-kept hex-two-digits-open
-    (also hex-byte-of-kept hex-byte-of-open
-    (also hex-four-digits-kept hex-four-digits-open
-    (also hex-word-of-kept hex-word-of-open
-    (also low-first-one-kept low-first-one-open
-    (also low-first-two-kept low-first-two-open
-    (also low-first-four-kept low-first-four-open
-    (also low-first-number-of-kept low-first-number-of-open
-    (also refusal-number-kept refusal-number-open
-    (also slices-same-kept slices-same-open none)))))))))))))
+pub rows-proper : Every Proper rows
+rows-proper =
+    and decimal-digits-proper
+    (and decimal-number-of-proper
+    (and hex-digit-proper
+    (and hex-value-proper
+    (and hex-two-digits-proper
+    (and hex-byte-of-proper
+    (and hex-four-digits-proper
+    (and hex-word-of-proper
+    (and low-first-one-proper
+    (and low-first-two-proper
+    (and low-first-four-proper
+    (and low-first-number-of-proper
+    (and refusal-number-proper
+    (and slices-same-proper none)))))))))))))

@@ -1,19 +1,19 @@
--- The public functions of `frames`.
+-- The public functions of `frames`: each keeps its claim.
 -- Assumes nothing.
+use mathlib.Core.Path.{refl}
 use mathlib.Core.List.{List, [], _∷_}
 use Prim.Native.Nat.{ℕ}
-use Rattle.digits.specs.Paper.Ascii.{ascii}
 use Rattle.digits.proofs.Unique.{equation}
-use Rattle.frames.specs.Paper.Kinds.{KindCause, resolvedNumber, resolvedValue}
-use Rattle.frames.specs.Paper.Search.{SearchCause, foundNumber, foundHit, zeroHit, framePart, payloadPart}
-use Rattle.frames.specs.Paper.Whole.{WholeCause, wholeNumber, wholeEnds, zeroEnds}
+use Rattle.frames.specs.Paper.Kinds.{KindCause}
+use Rattle.frames.specs.Paper.Search.{SearchCause, frameEnds, payloadEnds}
+use Rattle.frames.specs.Paper.Whole.{WholeCause}
 use Rattle.frames.proofs as frames
 use Rattle.frames.proofs.Unique.{searched-one, handed-one, whole-one, resolved-one}
-use Rattle.claims.specs.Paper.Forms.{answering, refusing, handing}
-use Rattle.claims.specs.Paper.Row.{Row, Kept, AcceptsAll, Proper, Every, none, OneOf, here, there}
-use Rattle.claims.proofs.Laws.Kept.{answering-kept, refusing-kept, handing-kept, also}
-
--- ---- the search, and the parts that it hands back
+use Rattle.claims.specs.Paper.Claim.{OneOf, here, there}
+use Rattle.claims.specs.Paper.Row.{Row, Proper, Every, none, and}
+use Rattle.claims.specs.Paper.Function.{function-of}
+use Rattle.claims.specs.Paper.Table.Frames as claims
+use Rattle.claims.proofs.Occur as inputs
 
 pub search-stated : {k : ℕ} {s : List ℕ} {place no : ℕ} → SearchCause k s place no → OneOf no (2 ∷ 3 ∷ 1 ∷ [])
 search-stated (SearchCause.no-kind e) = here
@@ -26,116 +26,155 @@ whole-stated (WholeCause.no-frame f) = there here
 
 abbrev pub search : Row
 search =
-    refusing (ascii "frames::search") frames.search.Kinds.ps frames.search.Kinds.r frames.search.Reads.Pre
-    frames.search.Reads.Post frames.search.Statement.statement (2 ∷ 3 ∷ 1 ∷ [])
-    (λ κs a. SearchCause (a .0) (a .1 .0 .now) (a .1 .1 .0)) foundNumber foundHit zeroHit (λ κs r. r)
+    record {
+      function = function-of frames.search.Key.name frames.search.Kinds.ps frames.search.Kinds.r frames.search.Symbol.routine;
+      claim = λ κs. claims.search;
+      args = λ κs a. record { kind = a .0; buffer = a .1 .0 .now; place = a .1 .1 .0 };
+      later = λ κs s. [];
+    }
 
-pub search-kept : Kept search
-search-kept =
-    refusing-kept (λ M. frames.search.Met.met) (λ κs a r q s t x y. searched-one r q x y) (λ κs a r s p. p)
-    (λ κs a no c. search-stated c)
-
-pub search-open : AcceptsAll search
-search-open = λ κs a. tt
+pub search-proper : Proper search
+search-proper =
+    record {
+      named = λ κs. refl;
+      keeps = λ w. frames.search.Met.met (w .𝓤) (w .H) (w .𝓜) (w .𝓖) (w .𝓡);
+      stated = λ κs a no c. search-stated c;
+      occurs = λ κs. inputs.search;
+      one = λ κs a r q ws vs x y. (searched-one r q x y, refl);
+    }
 
 abbrev pub frame : Row
 frame =
-    handing (ascii "frames::frame") frames.frame.Kinds.ps frames.frame.Kinds.r frames.frame.Reads.Pre
-    frames.frame.Reads.Post frames.frame.Statement.statement (2 ∷ 3 ∷ 1 ∷ [])
-    (λ κs a. SearchCause (a .0) (a .1 .0 .now) (a .1 .1 .0)) (λ κs r. r .now)
+    record {
+      function = function-of frames.frame.Key.name frames.frame.Kinds.ps frames.frame.Kinds.r frames.frame.Symbol.routine;
+      claim = λ κs. claims.frame;
+      args = λ κs a. record { kind = a .0; buffer = a .1 .0; place = a .1 .1 .0 };
+      later = λ κs s. [];
+    }
 
-pub frame-kept : Kept frame
-frame-kept =
-    handing-kept (λ M. frames.frame.Met.met)
-    (λ κs a r q s t x y. handed-one (framePart (a .1 .0 .now)) (r .now) (q .now) x y) (λ κs a r s p. (p .number, p .answer))
-    (λ κs a no c. search-stated c)
-
-pub frame-open : AcceptsAll frame
-frame-open = λ κs a. tt
+pub frame-proper : Proper frame
+frame-proper =
+    record {
+      named = λ κs. refl;
+      keeps = λ w. frames.frame.Met.met (w .𝓤) (w .H) (w .𝓜) (w .𝓖) (w .𝓡);
+      stated = λ κs a no c. search-stated c;
+      occurs = λ κs. inputs.frame;
+      one = λ κs a r q ws vs x y. (handed-one frameEnds r q x y, refl);
+    }
 
 abbrev pub payload : Row
 payload =
-    handing (ascii "frames::payload") frames.payload.Kinds.ps frames.payload.Kinds.r frames.payload.Reads.Pre
-    frames.payload.Reads.Post frames.payload.Statement.statement (2 ∷ 3 ∷ 1 ∷ [])
-    (λ κs a. SearchCause (a .0) (a .1 .0 .now) (a .1 .1 .0)) (λ κs r. r .now)
+    record {
+      function = function-of frames.payload.Key.name frames.payload.Kinds.ps frames.payload.Kinds.r frames.payload.Symbol.routine;
+      claim = λ κs. claims.payload;
+      args = λ κs a. record { kind = a .0; buffer = a .1 .0; place = a .1 .1 .0 };
+      later = λ κs s. [];
+    }
 
-pub payload-kept : Kept payload
-payload-kept =
-    handing-kept (λ M. frames.payload.Met.met)
-    (λ κs a r q s t x y. handed-one (payloadPart (a .1 .0 .now)) (r .now) (q .now) x y) (λ κs a r s p. (p .number, p .answer))
-    (λ κs a no c. search-stated c)
-
-pub payload-open : AcceptsAll payload
-payload-open = λ κs a. tt
-
--- ---- one frame
+pub payload-proper : Proper payload
+payload-proper =
+    record {
+      named = λ κs. refl;
+      keeps = λ w. frames.payload.Met.met (w .𝓤) (w .H) (w .𝓜) (w .𝓖) (w .𝓡);
+      stated = λ κs a no c. search-stated c;
+      occurs = λ κs. inputs.payload;
+      one = λ κs a r q ws vs x y. (handed-one payloadEnds r q x y, refl);
+    }
 
 abbrev pub one-frame : Row
 one-frame =
-    refusing (ascii "frames::one_frame") frames.one_frame.Kinds.ps frames.one_frame.Kinds.r frames.one_frame.Reads.Pre
-    frames.one_frame.Reads.Post frames.one_frame.Statement.statement (2 ∷ 5 ∷ []) (λ κs a. WholeCause (a .0) (a .1 .0 .now))
-    wholeNumber wholeEnds zeroEnds (λ κs r. r)
+    record {
+      function = function-of frames.one_frame.Key.name frames.one_frame.Kinds.ps frames.one_frame.Kinds.r
+          frames.one_frame.Symbol.routine;
+      claim = λ κs. claims.one-frame;
+      args = λ κs a. record { kind = a .0; s = a .1 .0 .now };
+      later = λ κs s. [];
+    }
 
-pub one-frame-kept : Kept one-frame
-one-frame-kept =
-    refusing-kept (λ M. frames.one_frame.Met.met) (λ κs a r q s t x y. whole-one r q x y) (λ κs a r s p. p)
-    (λ κs a no c. whole-stated c)
+pub one-frame-proper : Proper one-frame
+one-frame-proper =
+    record {
+      named = λ κs. refl;
+      keeps = λ w. frames.one_frame.Met.met (w .𝓤) (w .H) (w .𝓜) (w .𝓖) (w .𝓡);
+      stated = λ κs a no c. whole-stated c;
+      occurs = λ κs. inputs.one-frame;
+      one = λ κs a r q ws vs x y. (whole-one r q x y, refl);
+    }
 
-pub one-frame-open : AcceptsAll one-frame
-one-frame-open = λ κs a. tt
-
--- ---- the kinds
-
-abbrev pub kinds-known : Row
-kinds-known =
-    answering (ascii "frames::kinds::known") frames.kinds.known.Kinds.ps frames.kinds.known.Kinds.r
-    frames.kinds.known.Reads.Pre frames.kinds.known.Reads.Post frames.kinds.known.Statement.statement (λ κs r s. r)
-
-pub kinds-known-kept : Kept kinds-known
-kinds-known-kept = answering-kept (λ M. frames.kinds.known.Met.met) (λ κs a r q s t x y. equation x y)
-
-pub kinds-known-open : AcceptsAll kinds-known
-kinds-known-open = λ κs a. tt
+kinds-of-stated : {k no : ℕ} → KindCause k no → OneOf no (2 ∷ [])
+kinds-of-stated (KindCause.no-kind e) = here
 
 abbrev pub kinds-of : Row
 kinds-of =
-    refusing (ascii "frames::kinds::of") frames.kinds.of.Kinds.ps frames.kinds.of.Kinds.r frames.kinds.of.Reads.Pre
-    frames.kinds.of.Reads.Post frames.kinds.of.Statement.statement (2 ∷ []) (λ κs a. KindCause (a .0)) resolvedNumber resolvedValue 0
-    (λ κs r. r)
+    record {
+      function = function-of frames.kinds.of.Key.name frames.kinds.of.Kinds.ps frames.kinds.of.Kinds.r
+          frames.kinds.of.Symbol.routine;
+      claim = λ κs. claims.kinds-of;
+      args = λ κs a. record { number = a .0 };
+      later = λ κs s. [];
+    }
 
-pub kinds-of-kept : Kept kinds-of
-kinds-of-kept =
-    refusing-kept (λ M. frames.kinds.of.Met.met) (λ κs a r q s t x y. resolved-one r q x y) (λ κs a r s p. p)
-    (λ κs a no c. stated c)
-  where
-    stated : {k no : ℕ} → KindCause k no → OneOf no (2 ∷ [])
-    stated (KindCause.no-kind e) = here
-
-pub kinds-of-open : AcceptsAll kinds-of
-kinds-of-open = λ κs a. tt
+pub kinds-of-proper : Proper kinds-of
+kinds-of-proper =
+    record {
+      named = λ κs. refl;
+      keeps = λ w. frames.kinds.of.Met.met (w .𝓤) (w .H) (w .𝓜) (w .𝓖) (w .𝓡);
+      stated = λ κs a no c. kinds-of-stated c;
+      occurs = λ κs. inputs.kinds-of;
+      one = λ κs a r q ws vs x y. (resolved-one r q x y, refl);
+    }
 
 abbrev pub kinds-number : Row
 kinds-number =
-    answering (ascii "frames::kinds::number") frames.kinds.number.Kinds.ps frames.kinds.number.Kinds.r frames.kinds.number.Reads.Pre frames.kinds.number.Reads.Post
-    frames.kinds.number.Statement.statement (λ κs r s. r)
+    record {
+      function = function-of frames.kinds.number.Key.name frames.kinds.number.Kinds.ps frames.kinds.number.Kinds.r
+          frames.kinds.number.Symbol.routine;
+      claim = λ κs. claims.kinds-number;
+      args = λ κs a. record { kind = a .0 };
+      later = λ κs s. [];
+    }
 
-pub kinds-number-kept : Kept kinds-number
-kinds-number-kept = answering-kept (λ M. frames.kinds.number.Met.met) (λ κs a r q s t x y. equation x y)
+pub kinds-number-proper : Proper kinds-number
+kinds-number-proper =
+    record {
+      named = λ κs. refl;
+      keeps = λ w. frames.kinds.number.Met.met (w .𝓤) (w .H) (w .𝓜) (w .𝓖) (w .𝓡);
+      stated = λ κs a no c. absurd c;
+      occurs = λ κs. tt;
+      one = λ κs a r q ws vs x y. (equation x y, refl);
+    }
 
-pub kinds-number-open : AcceptsAll kinds-number
-kinds-number-open = λ κs a. tt
+abbrev pub kinds-known : Row
+kinds-known =
+    record {
+      function = function-of frames.kinds.known.Key.name frames.kinds.known.Kinds.ps frames.kinds.known.Kinds.r
+          frames.kinds.known.Symbol.routine;
+      claim = λ κs. claims.kinds-known;
+      args = λ κs a. record { number = a .0 };
+      later = λ κs s. [];
+    }
+
+pub kinds-known-proper : Proper kinds-known
+kinds-known-proper =
+    record {
+      named = λ κs. refl;
+      keeps = λ w. frames.kinds.known.Met.met (w .𝓤) (w .H) (w .𝓜) (w .𝓖) (w .𝓡);
+      stated = λ κs a no c. absurd c;
+      occurs = λ κs. tt;
+      one = λ κs a r q ws vs x y. (equation x y, refl);
+    }
 
 -- ---- all of them
 
 abbrev pub rows : List Row
 rows = search ∷ frame ∷ payload ∷ one-frame ∷ kinds-of ∷ kinds-number ∷ kinds-known ∷ []
 
-pub rows-kept : Every Proper rows
-rows-kept =
-    also search-kept search-open
-    (also frame-kept frame-open
-    (also payload-kept payload-open
-    (also one-frame-kept one-frame-open
-    (also kinds-of-kept kinds-of-open
-    (also kinds-number-kept kinds-number-open
-    (also kinds-known-kept kinds-known-open none))))))
+pub rows-proper : Every Proper rows
+rows-proper =
+    and search-proper
+    (and frame-proper
+    (and payload-proper
+    (and one-frame-proper
+    (and kinds-of-proper
+    (and kinds-number-proper
+    (and kinds-known-proper none))))))

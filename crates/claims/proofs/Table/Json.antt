@@ -1,76 +1,119 @@
--- The public functions of `json`: writers as those of `puts`.
+-- The public functions of `json`: each keeps its claim.
 -- Assumes nothing.
+use Rattle.puts.proofs.Unique.{one-put}
+use mathlib.Core.Path.{refl}
+use Prim.Native.Nat.{ℕ}
 use mathlib.Core.List.{List, [], _∷_}
-use Rattle.digits.specs.Paper.Ascii.{ascii}
 use Rattle.json.proofs as json
-use Rattle.claims.specs.Paper.Forms.{putting}
-use Rattle.claims.specs.Paper.Row.{Row, Kept, AcceptsAll, Proper, Every, none}
-use Rattle.claims.proofs.Laws.Kept.{putting-kept, also}
+use Rattle.claims.specs.Paper.Row.{Row, Proper, Every, none, and}
+use Rattle.claims.specs.Paper.Function.{function-of}
+use Rattle.claims.specs.Paper.Table.Json as claims
+use Rattle.claims.proofs.Laws.Forms.{placed}
 
 abbrev pub hex : Row
 hex =
-    putting (ascii "json::hex") json.hex.Kinds.ps json.hex.Kinds.r json.hex.Reads.Pre json.hex.Reads.Post
-    json.hex.Statement.statement (λ κs r. r) (λ κs s. s .1 .0 .now)
+    record {
+      function = function-of json.hex.Key.name json.hex.Kinds.ps json.hex.Kinds.r json.hex.Symbol.routine;
+      claim = λ κs. claims.hex;
+      args = λ κs a. record { s = a .0 .now; room = a .1 .0 .now; at = a .1 .1 .0 };
+      later = λ κs s. s .1 .0 .now;
+    }
 
-pub hex-kept : Kept hex
-hex-kept = putting-kept (λ M. json.hex.Met.met) (λ κs a r s p. p)
-
-pub hex-open : AcceptsAll hex
-hex-open = λ κs a. tt
+pub hex-proper : Proper hex
+hex-proper =
+    record {
+      named = λ κs. refl;
+      keeps = λ w. json.hex.Met.met (w .𝓤) (w .H) (w .𝓜) (w .𝓖) (w .𝓡);
+      stated = λ κs a no c. absurd c;
+      occurs = λ κs. tt;
+      one = λ κs a r q ws vs x y. placed (λ (l : List ℕ). (tt, (l, (tt, tt)))) (one-put x y);
+    }
 
 abbrev pub chars : Row
 chars =
-    putting (ascii "json::chars") json.chars.Kinds.ps json.chars.Kinds.r json.chars.Reads.Pre json.chars.Reads.Post
-    json.chars.Statement.statement (λ κs r. r) (λ κs s. s .1 .0 .now)
+    record {
+      function = function-of json.chars.Key.name json.chars.Kinds.ps json.chars.Kinds.r json.chars.Symbol.routine;
+      claim = λ κs. claims.chars;
+      args = λ κs a. record { s = a .0 .now; room = a .1 .0 .now; at = a .1 .1 .0 };
+      later = λ κs s. s .1 .0 .now;
+    }
 
-pub chars-kept : Kept chars
-chars-kept = putting-kept (λ M. json.chars.Met.met) (λ κs a r s p. p)
-
-pub chars-open : AcceptsAll chars
-chars-open = λ κs a. tt
+pub chars-proper : Proper chars
+chars-proper =
+    record {
+      named = λ κs. refl;
+      keeps = λ w. json.chars.Met.met (w .𝓤) (w .H) (w .𝓜) (w .𝓖) (w .𝓡);
+      stated = λ κs a no c. absurd c;
+      occurs = λ κs. tt;
+      one = λ κs a r q ws vs x y. placed (λ (l : List ℕ). (tt, (l, (tt, tt)))) (one-put x y);
+    }
 
 abbrev pub truth : Row
 truth =
-    putting (ascii "json::truth") json.truth.Kinds.ps json.truth.Kinds.r json.truth.Reads.Pre json.truth.Reads.Post
-    json.truth.Statement.statement (λ κs r. r) (λ κs s. s .1 .0 .now)
+    record {
+      function = function-of json.truth.Key.name json.truth.Kinds.ps json.truth.Kinds.r json.truth.Symbol.routine;
+      claim = λ κs. claims.truth;
+      args = λ κs a. record { b = a .0; room = a .1 .0 .now; at = a .1 .1 .0 };
+      later = λ κs s. s .1 .0 .now;
+    }
 
-pub truth-kept : Kept truth
-truth-kept = putting-kept (λ M. json.truth.Met.met) (λ κs a r s p. p)
-
-pub truth-open : AcceptsAll truth
-truth-open = λ κs a. tt
+pub truth-proper : Proper truth
+truth-proper =
+    record {
+      named = λ κs. refl;
+      keeps = λ w. json.truth.Met.met (w .𝓤) (w .H) (w .𝓜) (w .𝓖) (w .𝓡);
+      stated = λ κs a no c. absurd c;
+      occurs = λ κs. tt;
+      one = λ κs a r q ws vs x y. placed (λ (l : List ℕ). (tt, (l, (tt, tt)))) (one-put x y);
+    }
 
 abbrev pub signed : Row
 signed =
-    putting (ascii "json::signed") json.signed.Kinds.ps json.signed.Kinds.r json.signed.Reads.Pre json.signed.Reads.Post
-    json.signed.Statement.statement (λ κs r. r) (λ κs s. s .1 .1 .0 .now)
+    record {
+      function = function-of json.signed.Key.name json.signed.Kinds.ps json.signed.Kinds.r json.signed.Symbol.routine;
+      claim = λ κs. claims.signed;
+      args = λ κs a. record { raw = a .0; decimals = a .1 .0; room = a .1 .1 .0 .now; at = a .1 .1 .1 .0 };
+      later = λ κs s. s .1 .1 .0 .now;
+    }
 
-pub signed-kept : Kept signed
-signed-kept = putting-kept (λ M. json.signed.Met.met) (λ κs a r s p. p)
-
-pub signed-open : AcceptsAll signed
-signed-open = λ κs a. tt
+pub signed-proper : Proper signed
+signed-proper =
+    record {
+      named = λ κs. refl;
+      keeps = λ w. json.signed.Met.met (w .𝓤) (w .H) (w .𝓜) (w .𝓖) (w .𝓡);
+      stated = λ κs a no c. absurd c;
+      occurs = λ κs. tt;
+      one = λ κs a r q ws vs x y. placed (λ (l : List ℕ). (tt, (tt, (l, (tt, tt))))) (one-put x y);
+    }
 
 abbrev pub unsigned : Row
 unsigned =
-    putting (ascii "json::unsigned") json.unsigned.Kinds.ps json.unsigned.Kinds.r json.unsigned.Reads.Pre
-    json.unsigned.Reads.Post json.unsigned.Statement.statement (λ κs r. r) (λ κs s. s .1 .1 .0 .now)
+    record {
+      function = function-of json.unsigned.Key.name json.unsigned.Kinds.ps json.unsigned.Kinds.r json.unsigned.Symbol.routine;
+      claim = λ κs. claims.unsigned;
+      args = λ κs a. record { raw = a .0; decimals = a .1 .0; room = a .1 .1 .0 .now; at = a .1 .1 .1 .0 };
+      later = λ κs s. s .1 .1 .0 .now;
+    }
 
-pub unsigned-kept : Kept unsigned
-unsigned-kept = putting-kept (λ M. json.unsigned.Met.met) (λ κs a r s p. p)
-
-pub unsigned-open : AcceptsAll unsigned
-unsigned-open = λ κs a. tt
+pub unsigned-proper : Proper unsigned
+unsigned-proper =
+    record {
+      named = λ κs. refl;
+      keeps = λ w. json.unsigned.Met.met (w .𝓤) (w .H) (w .𝓜) (w .𝓖) (w .𝓡);
+      stated = λ κs a no c. absurd c;
+      occurs = λ κs. tt;
+      one = λ κs a r q ws vs x y. placed (λ (l : List ℕ). (tt, (tt, (l, (tt, tt))))) (one-put x y);
+    }
 
 -- ---- all of them
 
 abbrev pub rows : List Row
 rows = hex ∷ chars ∷ truth ∷ signed ∷ unsigned ∷ []
 
-pub rows-kept : Every Proper rows
-rows-kept =
-    also hex-kept hex-open
-    (also chars-kept chars-open
-    (also truth-kept truth-open
-    (also signed-kept signed-open
-    (also unsigned-kept unsigned-open none))))
+pub rows-proper : Every Proper rows
+rows-proper =
+    and hex-proper
+    (and chars-proper
+    (and truth-proper
+    (and signed-proper
+    (and unsigned-proper none))))

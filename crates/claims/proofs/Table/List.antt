@@ -1,27 +1,29 @@
--- The public function of `list`.
+-- The public functions of `list`: each keeps its claim.
 -- Assumes nothing.
 use mathlib.Core.Bool.{false, true≢false}
 use mathlib.Core.List.{List, [], _∷_}
-use mathlib.Core.Path.{_≡_, ap}
+use mathlib.Core.Path.{_≡_, ap, refl}
 use Prim.Native.Nat.{ℕ, _≤_}
 use lib.Dec.{eqb}
 use lib.ListN.{length}
 use native.Mathlib.Omega.{arith}
-use Rattle.digits.specs.Paper.Ascii.{ascii}
 use Rattle.digits.specs.Paper.Refusals.{order, clear, here, after}
 use Rattle.digits.proofs.Laws.Refusals.{pass-over}
 use Rattle.puts.specs.Paper.Right.{WritesRight}
 use Rattle.puts.specs.declared.Written.{Written}
-use Rattle.puts.proofs.Laws.Right.{fronted-right}
+use Rattle.puts.proofs.Laws.Right.{fronted-right, one-wrote}
 use Rattle.list.specs.Paper.Answers.{WritesListing}
 use Rattle.list.specs.Paper.Listing.{Listing}
 use Rattle.list.proofs.Theorems.{one-listing}
-use Rattle.list.proofs.Unique.{write-one}
-use Rattle.list.proofs.write as list
+use Rattle.list.proofs as list
 use Rattle.claims.specs.Paper.Causes.{ListingCause, short}
-use Rattle.claims.specs.Paper.Forms.{writing}
-use Rattle.claims.specs.Paper.Row.{Row, Kept, AcceptsAll, Proper, Every, none, OneOf}
-use Rattle.claims.proofs.Laws.Kept.{writing-right-kept, also}
+use Rattle.claims.specs.Paper.Claim.{OneOf}
+use Rattle.claims.specs.Paper.Row.{Row, Proper, Every, none, and, promise}
+use Rattle.claims.specs.Paper.Function.{function-of}
+use Rattle.claims.specs.Paper.Table.List as claims
+use Rattle.claims.proofs.Laws.Forms.{fronted, unfronted, placed}
+use Rattle.claims.proofs.Laws.Keeps.{keeps-as}
+use Rattle.claims.proofs.Occur as inputs
 
 stated : {s : List ℕ} {room no : ℕ} → ListingCause s room no → OneOf no (4 ∷ [])
 stated (short l h) = OneOf.here
@@ -41,21 +43,30 @@ right {s} {room} r w =
 
 abbrev pub write : Row
 write =
-    writing (ascii "list::write") list.Kinds.ps list.Kinds.r list.Reads.Pre list.Reads.Post list.Statement.statement (4 ∷ [])
-    (λ κs a. ListingCause (a .0 .now) (length (a .1 .0 .now))) (λ κs a. a .1 .0 .now) (λ κs r. r) (λ κs s. s .1 .0 .now)
+    record {
+      function = function-of list.write.Key.name list.write.Kinds.ps list.write.Kinds.r list.write.Symbol.routine;
+      claim = λ κs. claims.write;
+      args = λ κs a. record { input = a .0 .now; room = a .1 .0 .now };
+      later = λ κs s. s .1 .0 .now;
+    }
 
-pub write-kept : Kept write
-write-kept =
-    writing-right-kept (λ M. list.Met.met) (λ κs a r q s t x y. write-one r q x y) (λ κs a r s p. right r p)
-    (λ κs a no c. stated c)
-
-pub write-open : AcceptsAll write
-write-open = λ κs a. tt
+pub write-proper : Proper write
+write-proper =
+    record {
+      named = λ κs. refl;
+      keeps = keeps-as (write .function) list.write.Reads.Post (promise write) (λ κs a r ws p. fronted (right r p))
+          (λ w. list.write.Met.met (w .𝓤) (w .H) (w .𝓜) (w .𝓖) (w .𝓡));
+      stated = λ κs a no c. stated c;
+      occurs = λ κs. inputs.listing;
+      one = λ κs a r q ws vs x y. placed (λ (l : List ℕ). (tt, (l, tt)))
+          (one-wrote (λ t u i j. one-listing i j) {r = r} {q = q} (unfronted x) (unfronted y));
+    }
 
 -- ---- all of them
 
 abbrev pub rows : List Row
 rows = write ∷ []
 
-pub rows-kept : Every Proper rows
-rows-kept = also write-kept write-open none
+pub rows-proper : Every Proper rows
+rows-proper =
+    and write-proper none

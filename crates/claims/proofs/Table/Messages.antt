@@ -1,25 +1,26 @@
--- The public functions of `messages`.
+-- The public functions of `messages`: each keeps its claim.
 -- Assumes nothing.
+use mathlib.Core.Path.{refl, sym, _∙_}
 use mathlib.Core.List.{List, [], _∷_}
 use Prim.Native.Nat.{ℕ}
-use Rattle.digits.specs.Paper.Ascii.{ascii}
-use Rattle.frames.specs.Paper.Search.{SearchCause}
-use Rattle.messages.specs.Paper.Allowed.{StandingCause, standingNumber, standingValue}
-use Rattle.messages.specs.Paper.Answers.{DecodeCause, decodedNumber, decodedValue, zeroDecoded, seenNumber, seenValue, zeroSeen}
+use Rattle.messages.specs.Paper.Allowed.{StandingCause}
+use Rattle.messages.specs.Paper.Answers.{DecodeCause}
 use Rattle.messages.specs.Paper.Content.{Content}
-use Rattle.messages.specs.Paper.Meant.{ContentWith, MeantCause, meantNumber, meantValue, noneMeant}
+use Rattle.messages.specs.Paper.Meant.{MeantCause}
 use Rattle.messages.specs.Paper.Message.{Message}
-use Rattle.messages.specs.Paper.Says.{Says}
-use Rattle.messages.specs.Paper.Panel.{PairCause, pairNumber, pairValue, zeroCounts, VoltsCause, voltsNumber, voltsValue, zeroVolts}
+use Rattle.messages.specs.Paper.Panel.{PairCause, VoltsCause}
 use Rattle.messages.specs.declared.nest.Response.{Response}
+use Rattle.digits.proofs.Laws.Handed.{one-part}
 use Rattle.messages.proofs as messages
 use Rattle.messages.proofs.Unique as unique
-use Rattle.claims.specs.Paper.Forms.{answering, refusing, handing}
-use Rattle.claims.specs.Paper.Row.{Row, Kept, AcceptsAll, Proper, Every, none, OneOf, here, there}
-use Rattle.claims.proofs.Laws.Kept.{answering-kept, refusing-kept, handing-kept, also}
+use Rattle.claims.specs.Paper.Claim.{OneOf, here, there}
+use Rattle.claims.specs.Paper.Row.{Row, Proper, Every, none, and, promise}
+use Rattle.claims.specs.Paper.Function.{function-of}
+use Rattle.claims.specs.Paper.Table.Messages as claims
 use Rattle.claims.proofs.Table.Frames.{search-stated}
-
--- ---- decode and content
+use Rattle.claims.proofs.Occur as inputs
+use Rattle.claims.proofs.Laws.Forms.{handed}
+use Rattle.claims.proofs.Laws.Keeps.{keeps-as}
 
 decode-stated : {k : ℕ} {f : List ℕ} {no : ℕ} → DecodeCause k f no → OneOf no (2 ∷ 5 ∷ [])
 decode-stated (DecodeCause.no-kind e) = here
@@ -27,150 +28,188 @@ decode-stated (DecodeCause.no-message f) = there here
 
 abbrev pub decode : Row
 decode =
-    refusing (ascii "messages::decode") messages.decode.Kinds.ps messages.decode.Kinds.r messages.decode.Reads.Pre
-    messages.decode.Reads.Post messages.decode.Statement.statement (2 ∷ 5 ∷ []) (λ κs a. DecodeCause (a .0) (a .1 .0 .now))
-    decodedNumber decodedValue zeroDecoded (λ κs r. r)
+    record {
+      function = function-of messages.decode.Key.name messages.decode.Kinds.ps messages.decode.Kinds.r
+          messages.decode.Symbol.routine;
+      claim = λ κs. claims.decode;
+      args = λ κs a. record { kind = a .0; frame = a .1 .0 .now };
+      later = λ κs s. [];
+    }
 
-pub decode-kept : Kept decode
-decode-kept =
-    refusing-kept (λ M. messages.decode.Met.met) (λ κs a r q s t x y. unique.decode (a .0) (a .1 .0 .now) r q x y)
-    (λ κs a r s p. p) (λ κs a no c. decode-stated c)
-
-pub decode-open : AcceptsAll decode
-decode-open = λ κs a. tt
-
-abbrev pub content : Row
-content =
-    handing (ascii "messages::content") messages.content.Kinds.ps messages.content.Kinds.r messages.content.Reads.Pre
-    messages.content.Reads.Post messages.content.Statement.statement (2 ∷ 5 ∷ []) (λ κs a. DecodeCause (a .0) (a .1 .0 .now))
-    (λ κs r. r .now)
-
-pub content-kept : Kept content
-content-kept =
-    handing-kept (λ M. messages.content.Met.met)
-    (λ κs a r q s t x y. unique.content (a .0) (a .1 .0 .now) (r .now) (q .now) x y) (λ κs a r s p. (p .number, p .answer))
-    (λ κs a no c. decode-stated c)
-
-pub content-open : AcceptsAll content
-content-open = λ κs a. tt
-
--- ---- find
+pub decode-proper : Proper decode
+decode-proper =
+    record {
+      named = λ κs. refl;
+      keeps = λ w. messages.decode.Met.met (w .𝓤) (w .H) (w .𝓜) (w .𝓖) (w .𝓡);
+      stated = λ κs a no c. decode-stated c;
+      occurs = λ κs. inputs.decode;
+      one = λ κs a r q ws vs x y. (unique.decode (a .0) (a .1 .0 .now) r q x y, refl);
+    }
 
 abbrev pub find : Row
 find =
-    refusing (ascii "messages::find") messages.find.Kinds.ps messages.find.Kinds.r messages.find.Reads.Pre
-    messages.find.Reads.Post messages.find.Statement.statement (2 ∷ 3 ∷ 1 ∷ [])
-    (λ κs a. SearchCause (a .0) (a .1 .0 .now) (a .1 .1 .0)) seenNumber seenValue zeroSeen (λ κs r. r)
+    record {
+      function = function-of messages.find.Key.name messages.find.Kinds.ps messages.find.Kinds.r messages.find.Symbol.routine;
+      claim = λ κs. claims.find;
+      args = λ κs a. record { kind = a .0; buffer = a .1 .0 .now; place = a .1 .1 .0 };
+      later = λ κs s. [];
+    }
 
-pub find-kept : Kept find
-find-kept =
-    refusing-kept (λ M. messages.find.Met.met) (λ κs a r q s t x y. unique.find (a .0) (a .1 .0 .now) (a .1 .1 .0) r q x y)
-    (λ κs a r s p. p) (λ κs a no c. search-stated c)
+pub find-proper : Proper find
+find-proper =
+    record {
+      named = λ κs. refl;
+      keeps = λ w. messages.find.Met.met (w .𝓤) (w .H) (w .𝓜) (w .𝓖) (w .𝓡);
+      stated = λ κs a no c. search-stated c;
+      occurs = λ κs. inputs.find;
+      one = λ κs a r q ws vs x y. (unique.find (a .0) (a .1 .0 .now) (a .1 .1 .0) r q x y, refl);
+    }
 
-pub find-open : AcceptsAll find
-find-open = λ κs a. tt
+of-stated : {With : Content → Type 0} {no : ℕ} → MeantCause With no → OneOf no (5 ∷ [])
+of-stated (MeantCause.no-message f) = here
 
--- ---- a Homiq payload's fields
+abbrev pub content : Row
+content =
+    record {
+      function = function-of messages.content.Key.name messages.content.Kinds.ps messages.content.Kinds.r
+          messages.content.Symbol.routine;
+      claim = λ κs. claims.content;
+      args = λ κs a. record { kind = a .0; frame = a .1 .0 };
+      later = λ κs s. [];
+    }
+
+pub content-proper : Proper content
+content-proper =
+    record {
+      named = λ κs. refl;
+      keeps = λ w. messages.content.Met.met (w .𝓤) (w .H) (w .𝓜) (w .𝓖) (w .𝓡);
+      stated = λ κs a no c. decode-stated c;
+      occurs = λ κs. inputs.content;
+      one = λ κs a r q ws vs x y. (unique.content (a .0) (a .1 .0) r q x y, refl);
+    }
 
 abbrev pub homiq-field : Row
 homiq-field =
-    answering (ascii "messages::homiq::field") messages.homiq.field.Kinds.ps messages.homiq.field.Kinds.r
-    messages.homiq.field.Reads.Pre messages.homiq.field.Reads.Post messages.homiq.field.Statement.statement (λ κs r s. r .now)
+    record {
+      function = function-of messages.homiq.field.Key.name messages.homiq.field.Kinds.ps messages.homiq.field.Kinds.r
+          messages.homiq.field.Symbol.routine;
+      claim = λ κs. claims.homiq-field;
+      args = λ κs a. record { content = a .0; number = a .1 .0 };
+      later = λ κs s. [];
+    }
 
-pub homiq-field-kept : Kept homiq-field
-homiq-field-kept =
-    answering-kept (λ M. messages.homiq.field.Met.met)
-    (λ κs a r q s t x y. unique.field (a .1 .0) (a .0 .now) (r .now) (q .now) x y)
-
-pub homiq-field-open : AcceptsAll homiq-field
-homiq-field-open = λ κs a. tt
-
--- ---- a climate's counts and a state's voltages
-
-abbrev pub nest-for-panel : Row
-nest-for-panel =
-    refusing (ascii "messages::nest::for_panel") messages.nest.for_panel.Kinds.ps messages.nest.for_panel.Kinds.r
-    messages.nest.for_panel.Reads.Pre messages.nest.for_panel.Reads.Post messages.nest.for_panel.Statement.statement (5 ∷ [])
-    (λ κs a. PairCause (a .0)) pairNumber pairValue zeroCounts (λ κs r. r)
-
-pub nest-for-panel-kept : Kept nest-for-panel
-nest-for-panel-kept =
-    refusing-kept (λ M. messages.nest.for_panel.Met.met) (λ κs a r q s t x y. unique.for-panel (a .0) r q x y)
-    (λ κs a r s p. p) (λ κs a no c. stated c)
-  where
-    stated : {e : Response} {no : ℕ} → PairCause e no → OneOf no (5 ∷ [])
-    stated (PairCause.other f) = here
-
-pub nest-for-panel-open : AcceptsAll nest-for-panel
-nest-for-panel-open = λ κs a. tt
-
-abbrev pub nest-voltages : Row
-nest-voltages =
-    refusing (ascii "messages::nest::voltages") messages.nest.voltages.Kinds.ps messages.nest.voltages.Kinds.r
-    messages.nest.voltages.Reads.Pre messages.nest.voltages.Reads.Post messages.nest.voltages.Statement.statement (5 ∷ [])
-    (λ κs a. VoltsCause (a .0 .now)) voltsNumber voltsValue zeroVolts (λ κs r. r)
-
-pub nest-voltages-kept : Kept nest-voltages
-nest-voltages-kept =
-    refusing-kept (λ M. messages.nest.voltages.Met.met) (λ κs a r q s t x y. unique.voltages (a .0 .now) r q x y)
-    (λ κs a r s p. p) (λ κs a no c. stated c)
-  where
-    stated : {p : List ℕ} {no : ℕ} → VoltsCause p no → OneOf no (5 ∷ [])
-    stated (VoltsCause.short h) = here
-
-pub nest-voltages-open : AcceptsAll nest-voltages
-nest-voltages-open = λ κs a. tt
-
--- ---- the message of a content
+pub homiq-field-proper : Proper homiq-field
+homiq-field-proper =
+    record {
+      named = λ κs. refl;
+      keeps = keeps-as (homiq-field .function) messages.homiq.field.Reads.Post (promise homiq-field) (λ κs a r ws p. handed p)
+          (λ w. messages.homiq.field.Met.met (w .𝓤) (w .H) (w .𝓜) (w .𝓖) (w .𝓡));
+      stated = λ κs a no c. absurd c;
+      occurs = λ κs. tt;
+      one = λ κs a r q ws vs x y. (one-part (λ d e p q. p ∙ sym q) x y, refl);
+    }
 
 abbrev pub of : Row
 of =
-    refusing (ascii "messages::of") messages.of.Kinds.ps messages.of.Kinds.r messages.of.Reads.Pre messages.of.Reads.Post
-    messages.of.Statement.statement (5 ∷ []) (λ κs a. MeantCause (ContentWith (a .0) (a .1 .0 .now))) meantNumber meantValue noneMeant
-    (λ κs r. r)
+    record {
+      function = function-of messages.of.Key.name messages.of.Kinds.ps messages.of.Kinds.r messages.of.Symbol.routine;
+      claim = λ κs. claims.of;
+      args = λ κs a. record { tag = a .0; payload = a .1 .0 .now };
+      later = λ κs s. [];
+    }
 
-pub of-kept : Kept of
-of-kept =
-    refusing-kept (λ M. messages.of.Met.met) (λ κs a r q s t x y. unique.of (a .0) (a .1 .0 .now) r q x y) (λ κs a r s p. p)
-    (λ κs a no c. stated c)
-  where
-    stated : {With : Content → Type 0} {no : ℕ} → MeantCause With no → OneOf no (5 ∷ [])
-    stated (MeantCause.no-message f) = here
+pub of-proper : Proper of
+of-proper =
+    record {
+      named = λ κs. refl;
+      keeps = λ w. messages.of.Met.met (w .𝓤) (w .H) (w .𝓜) (w .𝓖) (w .𝓡);
+      stated = λ κs a no c. of-stated c;
+      occurs = λ κs. inputs.of;
+      one = λ κs a r q ws vs x y. (unique.of (a .0) (a .1 .0 .now) r q x y, refl);
+    }
 
-pub of-open : AcceptsAll of
-of-open = λ κs a. tt
-
--- ---- whether a message is one of the table
+allowed-stated : {Means : Message → Type 0} {no : ℕ} → StandingCause Means no → OneOf no (5 ∷ 6 ∷ [])
+allowed-stated (StandingCause.outside f) = here
+allowed-stated (StandingCause.taken s a) = there here
 
 abbrev pub allowed : Row
 allowed =
-    refusing (ascii "messages::allowed") messages.allowed.Kinds.ps messages.allowed.Kinds.r messages.allowed.Reads.Pre
-    messages.allowed.Reads.Post messages.allowed.Statement.statement (5 ∷ 6 ∷ []) (λ κs a. StandingCause (Says (a .0) (a .1 .0 .now)))
-    standingNumber standingValue (tt {0}) (λ κs r. r)
+    record {
+      function = function-of messages.allowed.Key.name messages.allowed.Kinds.ps messages.allowed.Kinds.r
+          messages.allowed.Symbol.routine;
+      claim = λ κs. claims.allowed;
+      args = λ κs a. record { message = a .0; content = a .1 .0 .now };
+      later = λ κs s. [];
+    }
 
-pub allowed-kept : Kept allowed
-allowed-kept =
-    refusing-kept (λ M. messages.allowed.Met.met) (λ κs a r q s t x y. unique.allowed (a .0) (a .1 .0 .now) r q x y)
-    (λ κs a r s p. p) (λ κs a no c. stated c)
-  where
-    stated : {Means : Message → Type 0} {no : ℕ} → StandingCause Means no → OneOf no (5 ∷ 6 ∷ [])
-    stated (StandingCause.outside f) = here
-    stated (StandingCause.taken s a) = there here
+pub allowed-proper : Proper allowed
+allowed-proper =
+    record {
+      named = λ κs. refl;
+      keeps = λ w. messages.allowed.Met.met (w .𝓤) (w .H) (w .𝓜) (w .𝓖) (w .𝓡);
+      stated = λ κs a no c. allowed-stated c;
+      occurs = λ κs. inputs.allowed;
+      one = λ κs a r q ws vs x y. (unique.allowed (a .0) (a .1 .0 .now) r q x y, refl);
+    }
 
-pub allowed-open : AcceptsAll allowed
-allowed-open = λ κs a. tt
+nest-for-panel-stated : {e : Response} {no : ℕ} → PairCause e no → OneOf no (5 ∷ [])
+nest-for-panel-stated (PairCause.other f) = here
+
+abbrev pub nest-for-panel : Row
+nest-for-panel =
+    record {
+      function = function-of messages.nest.for_panel.Key.name messages.nest.for_panel.Kinds.ps messages.nest.for_panel.Kinds.r
+          messages.nest.for_panel.Symbol.routine;
+      claim = λ κs. claims.nest-for-panel;
+      args = λ κs a. record { message = a .0 };
+      later = λ κs s. [];
+    }
+
+pub nest-for-panel-proper : Proper nest-for-panel
+nest-for-panel-proper =
+    record {
+      named = λ κs. refl;
+      keeps = λ w. messages.nest.for_panel.Met.met (w .𝓤) (w .H) (w .𝓜) (w .𝓖) (w .𝓡);
+      stated = λ κs a no c. nest-for-panel-stated c;
+      occurs = λ κs. inputs.nest-for-panel;
+      one = λ κs a r q ws vs x y. (unique.for-panel (a .0) r q x y, refl);
+    }
+
+nest-voltages-stated : {p : List ℕ} {no : ℕ} → VoltsCause p no → OneOf no (5 ∷ [])
+nest-voltages-stated (VoltsCause.short h) = here
+
+abbrev pub nest-voltages : Row
+nest-voltages =
+    record {
+      function = function-of messages.nest.voltages.Key.name messages.nest.voltages.Kinds.ps messages.nest.voltages.Kinds.r
+          messages.nest.voltages.Symbol.routine;
+      claim = λ κs. claims.nest-voltages;
+      args = λ κs a. record { payload = a .0 .now };
+      later = λ κs s. [];
+    }
+
+pub nest-voltages-proper : Proper nest-voltages
+nest-voltages-proper =
+    record {
+      named = λ κs. refl;
+      keeps = λ w. messages.nest.voltages.Met.met (w .𝓤) (w .H) (w .𝓜) (w .𝓖) (w .𝓡);
+      stated = λ κs a no c. nest-voltages-stated c;
+      occurs = λ κs. inputs.nest-voltages;
+      one = λ κs a r q ws vs x y. (unique.voltages (a .0 .now) r q x y, refl);
+    }
 
 -- ---- all of them
 
 abbrev pub rows : List Row
 rows = decode ∷ find ∷ content ∷ of ∷ allowed ∷ homiq-field ∷ nest-for-panel ∷ nest-voltages ∷ []
 
-pub rows-kept : Every Proper rows
-rows-kept =
-    also decode-kept decode-open
-    (also find-kept find-open
-    (also content-kept content-open
-    (also of-kept of-open
-    (also allowed-kept allowed-open
-    (also homiq-field-kept homiq-field-open
-    (also nest-for-panel-kept nest-for-panel-open (also nest-voltages-kept nest-voltages-open none)))))))
+pub rows-proper : Every Proper rows
+rows-proper =
+    and decode-proper
+    (and find-proper
+    (and content-proper
+    (and of-proper
+    (and allowed-proper
+    (and homiq-field-proper
+    (and nest-for-panel-proper
+    (and nest-voltages-proper none)))))))

@@ -1,148 +1,199 @@
--- The public functions of `numbers`.
+-- The public functions of `numbers`: each keeps its claim.
 -- Assumes nothing.
-use mathlib.Core.Bool.{Bool, false}
+use Rattle.puts.proofs.Unique.{one-written}
+use mathlib.Core.Bool.{Bool}
 use mathlib.Core.List.{List, [], _∷_}
 use mathlib.Core.Path.{refl}
 use Prim.Native.Nat.{ℕ}
-use lib.IntN.{ℤ, pos}
-use lib.ListN.{length}
-use Rattle.digits.specs.Paper.Ascii.{ascii}
-use Rattle.numbers.specs.Paper.Answers.{TextCause, ValueCause, BytesCause, RangeCause, zeroNumber, readingRefusal, readingValue, valueRefusal, valueOf, fitsRefusal, fitsValue, shownRefusal, shownValue, zeroFloat}
-use Rattle.numbers.specs.Paper.Text.{text, InLimits}
-use Rattle.numbers.proofs.byte_values
-use Rattle.numbers.proofs.panel
-use Rattle.numbers.proofs.single
-use Rattle.numbers.proofs.text as texts
+use lib.IntN.{ℤ}
+use native.Mathlib.Omega.{arith}
+use Rattle.numbers.specs.Paper.Answers.{TextCause, ValueCause, BytesCause, RangeCause}
+use Rattle.numbers.specs.Paper.Text.{text}
 use Rattle.numbers.proofs.Unique as unique
-use Rattle.claims.specs.Paper.Forms.{answering, refusing, writing, Unread}
-use Rattle.claims.specs.Paper.Row.{Row, Kept, AcceptsAll, Proper, Every, none, OneOf, here, there}
-use Rattle.claims.proofs.Laws.Kept.{answering-kept, refusing-kept, reading-kept, writing-kept, also}
-
--- ---- byte_values
-
-abbrev pub byte-values-write : Row
-byte-values-write =
-    writing (ascii "numbers::byte_values::write") byte_values.write.Kinds.ps byte_values.write.Kinds.r
-    byte_values.write.Reads.Pre byte_values.write.Reads.Post byte_values.write.Statement.statement (7 ∷ 5 ∷ 4 ∷ [])
-    (λ κs a. ValueCause (a .1 .0) (a .1 .1 .0) (a .0) (length (a .1 .1 .1 .0 .now))) (λ κs a. a .1 .1 .1 .0 .now) (λ κs r. r)
-    (λ κs s. s .1 .1 .1 .0 .now)
-
-pub byte-values-write-kept : Kept byte-values-write
-byte-values-write-kept = writing-kept (λ M. byte_values.write.Met.met) (λ κs a r s p. p) (λ κs a no c. stated c)
-  where
-    stated : {w : ℕ} {signed : Bool} {z : ℤ} {n no : ℕ} → ValueCause w signed z n no → OneOf no (7 ∷ 5 ∷ 4 ∷ [])
-    stated (ValueCause.width h) = here
-    stated (ValueCause.held h) = there here
-    stated (ValueCause.room h) = there (there here)
-
-pub byte-values-write-open : AcceptsAll byte-values-write
-byte-values-write-open = λ κs a. tt
-
-abbrev pub byte-values-read : Row
-byte-values-read =
-    refusing (ascii "numbers::byte_values::read") byte_values.read.Kinds.ps byte_values.read.Kinds.r
-    byte_values.read.Reads.Pre byte_values.read.Reads.Post byte_values.read.Statement.statement (7 ∷ 5 ∷ [])
-    (λ κs a. BytesCause (a .1 .0) (a .0 .now)) valueRefusal valueOf (pos 0) (λ κs r. r)
-
-pub byte-values-read-kept : Kept byte-values-read
-byte-values-read-kept =
-    refusing-kept (λ M. byte_values.read.Met.met) (λ κs a r q s t x y. unique.value-read _ _ _ r q x y) (λ κs a r s p. p)
-    (λ κs a no c. stated c)
-  where
-    stated : {w : ℕ} {s : List ℕ} {no : ℕ} → BytesCause w s no → OneOf no (7 ∷ 5 ∷ [])
-    stated (BytesCause.width h) = here
-    stated (BytesCause.count h) = there here
-
-pub byte-values-read-open : AcceptsAll byte-values-read
-byte-values-read-open = λ κs a. tt
-
--- ---- panel and single: one cause
+use Rattle.numbers.proofs as numbers
+use Rattle.claims.specs.Paper.Claim.{OneOf, here, there}
+use Rattle.claims.specs.Paper.Row.{Row, Proper, Every, none, and, promise}
+use Rattle.claims.specs.Paper.Function.{function-of}
+use Rattle.claims.specs.Paper.Table.Numbers as claims
+use Rattle.claims.proofs.Laws.Forms.{fronted-these, these-fronted, answers-read, reads-answered, read-stated, placed}
+use Rattle.claims.proofs.Laws.Keeps.{keeps-as}
+use Rattle.claims.proofs.Occur as inputs
 
 out-of-range : {z : ℤ} {no : ℕ} → RangeCause z no → OneOf no (5 ∷ [])
 out-of-range (RangeCause.range h) = here
-
-abbrev pub panel-of : Row
-panel-of =
-    refusing (ascii "numbers::panel::of") panel.of.Kinds.ps panel.of.Kinds.r panel.of.Reads.Pre panel.of.Reads.Post
-    panel.of.Statement.statement (5 ∷ []) (λ κs a. RangeCause (a .0)) shownRefusal shownValue zeroFloat (λ κs r. r)
-
-pub panel-of-kept : Kept panel-of
-panel-of-kept =
-    refusing-kept (λ M. panel.of.Met.met) (λ κs a r q s t x y. unique.panel-shown _ r q x y) (λ κs a r s p. p)
-    (λ κs a no c. out-of-range c)
-
-pub panel-of-open : AcceptsAll panel-of
-panel-of-open = λ κs a. tt
-
-abbrev pub panel-pair : Row
-panel-pair =
-    answering (ascii "numbers::panel::pair") panel.pair.Kinds.ps panel.pair.Kinds.r panel.pair.Reads.Pre panel.pair.Reads.Post
-    panel.pair.Statement.statement (λ κs r s. r)
-
-pub panel-pair-kept : Kept panel-pair
-panel-pair-kept = answering-kept (λ M. panel.pair.Met.met) (λ κs a r q s t x y. unique.climate _ _ r q x y)
-
-pub panel-pair-open : AcceptsAll panel-pair
-panel-pair-open = λ κs a. tt
-
-abbrev pub single-fits : Row
-single-fits =
-    refusing (ascii "numbers::single::fits") single.fits.Kinds.ps single.fits.Kinds.r single.fits.Reads.Pre
-    single.fits.Reads.Post single.fits.Statement.statement (5 ∷ []) (λ κs a. RangeCause (a .0)) fitsRefusal fitsValue false
-    (λ κs r. r)
-
-pub single-fits-kept : Kept single-fits
-single-fits-kept =
-    refusing-kept (λ M. single.fits.Met.met) (λ κs a r q s t x y. unique.fits _ r q x y) (λ κs a r s p. p)
-    (λ κs a no c. out-of-range c)
-
-pub single-fits-open : AcceptsAll single-fits
-single-fits-open = λ κs a. tt
-
--- ---- text
 
 pub text-stated : {z : ℤ} {d n no : ℕ} → TextCause z d n no → OneOf no (7 ∷ 5 ∷ 4 ∷ [])
 text-stated (TextCause.decimals h) = here
 text-stated (TextCause.range h) = there here
 text-stated (TextCause.room h) = there (there here)
 
+byte-values-write-stated : {w : ℕ} {signed : Bool} {z : ℤ} {n no : ℕ} → ValueCause w signed z n no → OneOf no (7 ∷ 5 ∷ 4 ∷ [])
+byte-values-write-stated (ValueCause.width h) = here
+byte-values-write-stated (ValueCause.held h) = there here
+byte-values-write-stated (ValueCause.room h) = there (there here)
+
+abbrev pub byte-values-write : Row
+byte-values-write =
+    record {
+      function = function-of numbers.byte_values.write.Key.name numbers.byte_values.write.Kinds.ps
+          numbers.byte_values.write.Kinds.r numbers.byte_values.write.Symbol.routine;
+      claim = λ κs. claims.byte-values-write;
+      args = λ κs a. record { raw = a .0; width = a .1 .0; signed = a .1 .1 .0; room = a .1 .1 .1 .0 .now };
+      later = λ κs s. s .1 .1 .1 .0 .now;
+    }
+
+pub byte-values-write-proper : Proper byte-values-write
+byte-values-write-proper =
+    record {
+      named = λ κs. refl;
+      keeps = keeps-as (byte-values-write .function) numbers.byte_values.write.Reads.Post (promise byte-values-write)
+          (λ κs a r ws p. fronted-these p)
+          (λ w. numbers.byte_values.write.Met.met (w .𝓤) (w .H) (w .𝓜) (w .𝓖) (w .𝓡));
+      stated = λ κs a no c. byte-values-write-stated c;
+      occurs = λ κs. inputs.byte-values-write;
+      one = λ κs a r q ws vs x y. placed (λ (l : List ℕ). (tt, (tt, (tt, (l, tt)))))
+          (one-written {r = r} {q = q} (these-fronted x) (these-fronted y));
+    }
+
+byte-values-read-stated : {w : ℕ} {s : List ℕ} {no : ℕ} → BytesCause w s no → OneOf no (7 ∷ 5 ∷ [])
+byte-values-read-stated (BytesCause.width h) = here
+byte-values-read-stated (BytesCause.count h) = there here
+
+abbrev pub byte-values-read : Row
+byte-values-read =
+    record {
+      function = function-of numbers.byte_values.read.Key.name numbers.byte_values.read.Kinds.ps
+          numbers.byte_values.read.Kinds.r numbers.byte_values.read.Symbol.routine;
+      claim = λ κs. claims.byte-values-read;
+      args = λ κs a. record { s = a .0 .now; width = a .1 .0; signed = a .1 .1 .0 };
+      later = λ κs s. [];
+    }
+
+pub byte-values-read-proper : Proper byte-values-read
+byte-values-read-proper =
+    record {
+      named = λ κs. refl;
+      keeps = λ w. numbers.byte_values.read.Met.met (w .𝓤) (w .H) (w .𝓜) (w .𝓖) (w .𝓡);
+      stated = λ κs a no c. byte-values-read-stated c;
+      occurs = λ κs. inputs.byte-values-read;
+      one = λ κs a r q ws vs x y. (unique.value-read _ _ _ r q x y, refl);
+    }
+
+abbrev pub panel-of : Row
+panel-of =
+    record {
+      function = function-of numbers.panel.of.Key.name numbers.panel.of.Kinds.ps numbers.panel.of.Kinds.r
+          numbers.panel.of.Symbol.routine;
+      claim = λ κs. claims.panel-of;
+      args = λ κs a. record { raw = a .0 };
+      later = λ κs s. [];
+    }
+
+pub panel-of-proper : Proper panel-of
+panel-of-proper =
+    record {
+      named = λ κs. refl;
+      keeps = λ w. numbers.panel.of.Met.met (w .𝓤) (w .H) (w .𝓜) (w .𝓖) (w .𝓡);
+      stated = λ κs a no c. out-of-range c;
+      occurs = λ κs. inputs.panel-of;
+      one = λ κs a r q ws vs x y. (unique.panel-shown _ r q x y, refl);
+    }
+
+abbrev pub panel-pair : Row
+panel-pair =
+    record {
+      function = function-of numbers.panel.pair.Key.name numbers.panel.pair.Kinds.ps numbers.panel.pair.Kinds.r
+          numbers.panel.pair.Symbol.routine;
+      claim = λ κs. claims.panel-pair;
+      args = λ κs a. record { temperature = a .0; humidity = a .1 .0 };
+      later = λ κs s. [];
+    }
+
+pub panel-pair-proper : Proper panel-pair
+panel-pair-proper =
+    record {
+      named = λ κs. refl;
+      keeps = λ w. numbers.panel.pair.Met.met (w .𝓤) (w .H) (w .𝓜) (w .𝓖) (w .𝓡);
+      stated = λ κs a no c. absurd c;
+      occurs = λ κs. tt;
+      one = λ κs a r q ws vs x y. (unique.climate _ _ r q x y, refl);
+    }
+
+abbrev pub single-fits : Row
+single-fits =
+    record {
+      function = function-of numbers.single.fits.Key.name numbers.single.fits.Kinds.ps numbers.single.fits.Kinds.r
+          numbers.single.fits.Symbol.routine;
+      claim = λ κs. claims.single-fits;
+      args = λ κs a. record { raw = a .0 };
+      later = λ κs s. [];
+    }
+
+pub single-fits-proper : Proper single-fits
+single-fits-proper =
+    record {
+      named = λ κs. refl;
+      keeps = λ w. numbers.single.fits.Met.met (w .𝓤) (w .H) (w .𝓜) (w .𝓖) (w .𝓡);
+      stated = λ κs a no c. out-of-range c;
+      occurs = λ κs. inputs.single-fits;
+      one = λ κs a r q ws vs x y. (unique.fits _ r q x y, refl);
+    }
+
 abbrev pub text-write : Row
 text-write =
-    writing (ascii "numbers::text::write") texts.write.Kinds.ps texts.write.Kinds.r texts.write.Reads.Pre
-    texts.write.Reads.Post texts.write.Statement.statement (7 ∷ 5 ∷ 4 ∷ [])
-    (λ κs a. TextCause (a .0) (a .1 .0) (length (a .1 .1 .0 .now))) (λ κs a. a .1 .1 .0 .now) (λ κs r. r)
-    (λ κs s. s .1 .1 .0 .now)
+    record {
+      function = function-of numbers.text.write.Key.name numbers.text.write.Kinds.ps numbers.text.write.Kinds.r
+          numbers.text.write.Symbol.routine;
+      claim = λ κs. claims.text-write;
+      args = λ κs a. record { raw = a .0; decimals = a .1 .0; room = a .1 .1 .0 .now };
+      later = λ κs s. s .1 .1 .0 .now;
+    }
 
-pub text-write-kept : Kept text-write
-text-write-kept = writing-kept (λ M. texts.write.Met.met) (λ κs a r s p. p) (λ κs a no c. text-stated c)
-
-pub text-write-open : AcceptsAll text-write
-text-write-open = λ κs a. tt
+pub text-write-proper : Proper text-write
+text-write-proper =
+    record {
+      named = λ κs. refl;
+      keeps = keeps-as (text-write .function) numbers.text.write.Reads.Post (promise text-write)
+          (λ κs a r ws p. fronted-these p) (λ w. numbers.text.write.Met.met (w .𝓤) (w .H) (w .𝓜) (w .𝓖) (w .𝓡));
+      stated = λ κs a no c. text-stated c;
+      occurs = λ κs. inputs.text-write;
+      one = λ κs a r q ws vs x y. placed (λ (l : List ℕ). (tt, (tt, (l, tt))))
+          (one-written {r = r} {q = q} (these-fronted x) (these-fronted y));
+    }
 
 abbrev pub text-read : Row
 text-read =
-    refusing (ascii "numbers::text::read") texts.read.Kinds.ps texts.read.Kinds.r texts.read.Reads.Pre texts.read.Reads.Post
-    texts.read.Statement.statement (7 ∷ []) (λ κs a. Unread InLimits (λ n. text (n .raw) (n .decimals)) 7 (a .0 .now))
-    readingRefusal readingValue zeroNumber (λ κs r. r)
+    record {
+      function = function-of numbers.text.read.Key.name numbers.text.read.Kinds.ps numbers.text.read.Kinds.r
+          numbers.text.read.Symbol.routine;
+      claim = λ κs. claims.text-read;
+      args = λ κs a. record { t = a .0 .now };
+      later = λ κs s. [];
+    }
 
-pub text-read-kept : Kept text-read
-text-read-kept =
-    reading-kept (λ M. texts.read.Met.met) (λ κs a r q s t x y. unique.text-read _ r q x y) refl (λ κs a r s p. p)
-
-pub text-read-open : AcceptsAll text-read
-text-read-open = λ κs a. tt
+pub text-read-proper : Proper text-read
+text-read-proper =
+    record {
+      named = λ κs. refl;
+      keeps = keeps-as (text-read .function) numbers.text.read.Reads.Post (promise text-read)
+          (λ κs a r ws p. answers-read refl (omega arith) p)
+          (λ w. numbers.text.read.Met.met (w .𝓤) (w .H) (w .𝓜) (w .𝓖) (w .𝓡));
+      stated = λ κs a no c. read-stated c;
+      occurs = λ κs. inputs.text-read;
+      one = λ κs a r q ws vs x y. (unique.text-read _ r q (reads-answered x) (reads-answered y), refl);
+    }
 
 -- ---- all of them
 
 abbrev pub rows : List Row
 rows = byte-values-write ∷ byte-values-read ∷ panel-of ∷ panel-pair ∷ single-fits ∷ text-write ∷ text-read ∷ []
 
-pub rows-kept : Every Proper rows
-rows-kept =
-    also byte-values-write-kept byte-values-write-open
-    (also byte-values-read-kept byte-values-read-open
-    (also panel-of-kept panel-of-open
-    (also panel-pair-kept panel-pair-open
-    (also single-fits-kept single-fits-open
-    (also text-write-kept text-write-open
-    (also text-read-kept text-read-open none))))))
+pub rows-proper : Every Proper rows
+rows-proper =
+    and byte-values-write-proper
+    (and byte-values-read-proper
+    (and panel-of-proper
+    (and panel-pair-proper
+    (and single-fits-proper
+    (and text-write-proper
+    (and text-read-proper none))))))

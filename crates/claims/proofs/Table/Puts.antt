@@ -1,87 +1,128 @@
--- The public functions of `puts`.
+-- The public functions of `puts`: each keeps its claim.
 -- Assumes nothing.
+use mathlib.Core.Path.{refl}
 use mathlib.Core.List.{List, [], _∷_}
 use Prim.Native.Nat.{ℕ}
-use lib.ListN.{length}
-use Rattle.digits.specs.Paper.Ascii.{ascii}
 use Rattle.puts.specs.Paper.Wrote.{RoomCause, short}
 use Rattle.puts.proofs as puts
-use Rattle.claims.specs.Paper.Forms.{putting, writing}
-use Rattle.claims.specs.Paper.Row.{Row, Kept, AcceptsAll, Proper, Every, none, OneOf, here}
-use Rattle.claims.proofs.Laws.Kept.{putting-kept, writing-kept, also}
+use Rattle.puts.proofs.Unique.{one-put, one-written}
+use Rattle.claims.specs.Paper.Claim.{OneOf, here}
+use Rattle.claims.specs.Paper.Row.{Row, Proper, Every, none, and, promise}
+use Rattle.claims.specs.Paper.Function.{function-of}
+use Rattle.claims.specs.Paper.Table.Puts as claims
+use Rattle.claims.proofs.Laws.Forms.{fronted-these, these-fronted, placed}
+use Rattle.claims.proofs.Laws.Keeps.{keeps-as}
+use Rattle.claims.proofs.Occur as inputs
 
--- ---- all of the bytes, or none
+front-stated : {room bytes no : ℕ} → RoomCause room bytes no → OneOf no (4 ∷ [])
+front-stated (short h) = here
 
 abbrev pub front : Row
 front =
-    writing (ascii "puts::front") puts.front.Kinds.ps puts.front.Kinds.r puts.front.Reads.Pre puts.front.Reads.Post
-    puts.front.Statement.statement (4 ∷ []) (λ κs a. RoomCause (length (a .1 .0 .now)) (length (a .0 .now)))
-    (λ κs a. a .1 .0 .now) (λ κs r. r) (λ κs s. s .1 .0 .now)
+    record {
+      function = function-of puts.front.Key.name puts.front.Kinds.ps puts.front.Kinds.r puts.front.Symbol.routine;
+      claim = λ κs. claims.front;
+      args = λ κs a. record { s = a .0 .now; room = a .1 .0 .now };
+      later = λ κs s. s .1 .0 .now;
+    }
 
-pub front-kept : Kept front
-front-kept = writing-kept (λ M. puts.front.Met.met) (λ κs a r s p. p) (λ κs a no c. stated c)
-  where
-    stated : {room bytes no : ℕ} → RoomCause room bytes no → OneOf no (4 ∷ [])
-    stated (short h) = here
-
-pub front-open : AcceptsAll front
-front-open = λ κs a. tt
-
--- ---- as far as the room goes: the place behind the bytes, and the room afterwards
+pub front-proper : Proper front
+front-proper =
+    record {
+      named = λ κs. refl;
+      keeps = keeps-as (front .function) puts.front.Reads.Post (promise front) (λ κs a r ws p. fronted-these p)
+          (λ w. puts.front.Met.met (w .𝓤) (w .H) (w .𝓜) (w .𝓖) (w .𝓡));
+      stated = λ κs a no c. front-stated c;
+      occurs = λ κs. inputs.front;
+      one = λ κs a r q ws vs x y. placed (λ (l : List ℕ). (tt, (l, tt)))
+          (one-written {r = r} {q = q} (these-fronted x) (these-fronted y));
+    }
 
 abbrev pub byte : Row
 byte =
-    putting (ascii "puts::byte") puts.byte.Kinds.ps puts.byte.Kinds.r puts.byte.Reads.Pre puts.byte.Reads.Post
-    puts.byte.Statement.statement (λ κs r. r) (λ κs s. s .1 .0 .now)
+    record {
+      function = function-of puts.byte.Key.name puts.byte.Kinds.ps puts.byte.Kinds.r puts.byte.Symbol.routine;
+      claim = λ κs. claims.byte;
+      args = λ κs a. record { b = a .0; room = a .1 .0 .now; at = a .1 .1 .0 };
+      later = λ κs s. s .1 .0 .now;
+    }
 
-pub byte-kept : Kept byte
-byte-kept = putting-kept (λ M. puts.byte.Met.met) (λ κs a r s p. p)
-
-pub byte-open : AcceptsAll byte
-byte-open = λ κs a. tt
+pub byte-proper : Proper byte
+byte-proper =
+    record {
+      named = λ κs. refl;
+      keeps = λ w. puts.byte.Met.met (w .𝓤) (w .H) (w .𝓜) (w .𝓖) (w .𝓡);
+      stated = λ κs a no c. absurd c;
+      occurs = λ κs. tt;
+      one = λ κs a r q ws vs x y. placed (λ (l : List ℕ). (tt, (l, (tt, tt)))) (one-put x y);
+    }
 
 abbrev pub bytes : Row
 bytes =
-    putting (ascii "puts::bytes") puts.bytes.Kinds.ps puts.bytes.Kinds.r puts.bytes.Reads.Pre puts.bytes.Reads.Post
-    puts.bytes.Statement.statement (λ κs r. r) (λ κs s. s .1 .0 .now)
+    record {
+      function = function-of puts.bytes.Key.name puts.bytes.Kinds.ps puts.bytes.Kinds.r puts.bytes.Symbol.routine;
+      claim = λ κs. claims.bytes;
+      args = λ κs a. record { s = a .0 .now; room = a .1 .0 .now; at = a .1 .1 .0 };
+      later = λ κs s. s .1 .0 .now;
+    }
 
-pub bytes-kept : Kept bytes
-bytes-kept = putting-kept (λ M. puts.bytes.Met.met) (λ κs a r s p. p)
-
-pub bytes-open : AcceptsAll bytes
-bytes-open = λ κs a. tt
+pub bytes-proper : Proper bytes
+bytes-proper =
+    record {
+      named = λ κs. refl;
+      keeps = λ w. puts.bytes.Met.met (w .𝓤) (w .H) (w .𝓜) (w .𝓖) (w .𝓡);
+      stated = λ κs a no c. absurd c;
+      occurs = λ κs. tt;
+      one = λ κs a r q ws vs x y. placed (λ (l : List ℕ). (tt, (l, (tt, tt)))) (one-put x y);
+    }
 
 abbrev pub whole : Row
 whole =
-    putting (ascii "puts::whole") puts.whole.Kinds.ps puts.whole.Kinds.r puts.whole.Reads.Pre puts.whole.Reads.Post
-    puts.whole.Statement.statement (λ κs r. r) (λ κs s. s .1 .0 .now)
+    record {
+      function = function-of puts.whole.Key.name puts.whole.Kinds.ps puts.whole.Kinds.r puts.whole.Symbol.routine;
+      claim = λ κs. claims.whole;
+      args = λ κs a. record { n = a .0; room = a .1 .0 .now; at = a .1 .1 .0 };
+      later = λ κs s. s .1 .0 .now;
+    }
 
-pub whole-kept : Kept whole
-whole-kept = putting-kept (λ M. puts.whole.Met.met) (λ κs a r s p. p)
-
-pub whole-open : AcceptsAll whole
-whole-open = λ κs a. tt
+pub whole-proper : Proper whole
+whole-proper =
+    record {
+      named = λ κs. refl;
+      keeps = λ w. puts.whole.Met.met (w .𝓤) (w .H) (w .𝓜) (w .𝓖) (w .𝓡);
+      stated = λ κs a no c. absurd c;
+      occurs = λ κs. tt;
+      one = λ κs a r q ws vs x y. placed (λ (l : List ℕ). (tt, (l, (tt, tt)))) (one-put x y);
+    }
 
 abbrev pub hex : Row
 hex =
-    putting (ascii "puts::hex") puts.hex.Kinds.ps puts.hex.Kinds.r puts.hex.Reads.Pre puts.hex.Reads.Post
-    puts.hex.Statement.statement (λ κs r. r) (λ κs s. s .1 .0 .now)
+    record {
+      function = function-of puts.hex.Key.name puts.hex.Kinds.ps puts.hex.Kinds.r puts.hex.Symbol.routine;
+      claim = λ κs. claims.hex;
+      args = λ κs a. record { s = a .0 .now; room = a .1 .0 .now; at = a .1 .1 .0 };
+      later = λ κs s. s .1 .0 .now;
+    }
 
-pub hex-kept : Kept hex
-hex-kept = putting-kept (λ M. puts.hex.Met.met) (λ κs a r s p. p)
-
-pub hex-open : AcceptsAll hex
-hex-open = λ κs a. tt
+pub hex-proper : Proper hex
+hex-proper =
+    record {
+      named = λ κs. refl;
+      keeps = λ w. puts.hex.Met.met (w .𝓤) (w .H) (w .𝓜) (w .𝓖) (w .𝓡);
+      stated = λ κs a no c. absurd c;
+      occurs = λ κs. tt;
+      one = λ κs a r q ws vs x y. placed (λ (l : List ℕ). (tt, (l, (tt, tt)))) (one-put x y);
+    }
 
 -- ---- all of them
 
 abbrev pub rows : List Row
 rows = front ∷ byte ∷ bytes ∷ whole ∷ hex ∷ []
 
-pub rows-kept : Every Proper rows
-rows-kept =
-    also front-kept front-open
-    (also byte-kept byte-open
-    (also bytes-kept bytes-open
-    (also whole-kept whole-open
-    (also hex-kept hex-open none))))
+pub rows-proper : Every Proper rows
+rows-proper =
+    and front-proper
+    (and byte-proper
+    (and bytes-proper
+    (and whole-proper
+    (and hex-proper none))))

@@ -1,5 +1,5 @@
--- Why the listing of an input is not written. (The promise of `list::write` speaks of the one listing that an input has; here the cause
--- is said of the input alone.)
+-- Why the listing of an input is not written. (The promise of `list::write` speaks of the one listing that an input
+-- has; here the cause is said of the input alone.)
 -- Assumes nothing.
 use mathlib.Core.List.{List}
 use Prim.Native.Nat.{ℕ, _<_}

@@ -57,7 +57,8 @@ Holds (written z d t) = text z d ≡ t
 Holds (fits z) = fitsSingle z ≡ true
 Holds (fits-not z) = fitsSingle z ≡ false
 Holds (empty s) = Book s []
-Holds (one-crc n p q) = ((id : ℕ) → check nestCrc (covered id p) ≡ check nestCrc (covered id q)) × FitIn n (bitsOfBytes highFirst p) (bitsOfBytes highFirst q)
+Holds (one-crc n p q) = ((id : ℕ) → check nestCrc (covered id p) ≡ check nestCrc (covered id q))
+    × FitIn n (bitsOfBytes highFirst p) (bitsOfBytes highFirst q)
 
 -- every point of a list holds
 abbrev pub AllHold : List Point → Type 0
@@ -84,7 +85,8 @@ points =
     ∷ passes 5 (ascii "<;I.3;1;0H;0;42;s;134;>" ++ (CR ∷ LF ∷ []))
     ∷ fails 5 (ascii "<;I.3;1;0H;0;42;s;143;>" ++ (CR ∷ LF ∷ []))
     -- (h) "its acknowledgement has 64"
-    ∷ acknowledged (ascii "<;I.3;1;0H;0;42;s;134;>" ++ (CR ∷ LF ∷ [])) (ascii "<;I.3;1;0;0H;42;a;64;>" ++ (CR ∷ LF ∷ []))
+    ∷ acknowledged (ascii "<;I.3;1;0H;0;42;s;134;>" ++ (CR ∷ LF ∷ []))
+    (ascii "<;I.3;1;0;0H;42;a;64;>" ++ (CR ∷ LF ∷ []))
     -- (i) "−5 with 2 decimals is `-0.05`"
     ∷ written (negℤ (pos 5)) 2 (ascii "-0.05")
     -- (j) "16777216 and 4294967040 fit, 16777217 and 33554434 don't"

@@ -110,7 +110,7 @@ module _ (e : Coded) (s room : List ℕ) where
 
     as-meant : {later : List ℕ} (r : Written) → WritesMessage (Says e s) room r later → WritesMeant (Says e s) room r later
     as-meant r w =
-        fronted-right r (record { message = m; meant = meant; is = refl })
+        fronted-right r (record { message = m; meant = meant; good = good; is = refl })
         (λ h. pass-over ours only order (after not-5 (after not-6 (after (not-4 h) clear))))
         (λ h. pass-over ours only order (after not-5 (after not-6 (here (short meant h))))) (w m meant (good .limits))
 

@@ -1,5 +1,5 @@
--- 01, Messages: "The acknowledgement of a Homiq frame of type `s` exchanges SRC and DST, sets `a` and works out the CRC; of type `a`
--- it is refused with 5."
+-- 01, Messages: "The acknowledgement of a Homiq frame of type `s` exchanges SRC and DST, sets `a` and works out the
+-- CRC; of type `a` it is refused with 5."
 -- Assumes nothing.
 use mathlib.Core.List.{List}
 use mathlib.Core.Path.{_≡_}

@@ -6,7 +6,7 @@ use mathlib.Core.List.{List, [], _∷_, _++_}
 use lib.ListN.{length, replicate}
 use Rattle.digits.specs.Paper.Hex.{hexDigit, hexByte, hexWord}
 use Rattle.digits.specs.Paper.Decimal.{decimal}
-use Rattle.digits.specs.Paper.LowFirst.{Held, lowFirst}
+use Rattle.digits.specs.Paper.LowFirst.{Held, SixteenBits, lowFirst}
 use Rattle.digits.specs.Paper.Read.{Reads}
 use Rattle.digits.specs.declared.hex.Byte.{Byte}
 use Rattle.digits.specs.declared.hex.Byte.the-variants.{Is, NoDigit}
@@ -60,7 +60,7 @@ abbrev pub ReadsByte : ℕ → ℕ → Byte → Type 0
 ReadsByte high low r = Reads 0 (λ v. v < 256) hexByte 5 (high ∷ low ∷ []) (byteRefusal r) (byteValue r)
 
 abbrev pub ReadsWord : List ℕ → Word → Type 0
-ReadsWord d r = Reads 0 (λ v. v < 65536) hexWord 5 d (wordRefusal r) (wordValue r)
+ReadsWord d r = Reads 0 SixteenBits hexWord 5 d (wordRefusal r) (wordValue r)
 
 -- reading a number of as many bytes as there are
 abbrev pub ReadsNumber : List ℕ → Number → Type 0

@@ -14,6 +14,10 @@ pub record Held (width n : ℕ) : Type 0 where
   pub known : Width width
   pub below : n < 256 ^ width
 
+-- 01, Nest: "16 bits each"; Messages: "u16"
+abbrev pub SixteenBits : ℕ → Type 0
+SixteenBits n = n < 65536
+
 -- the number n in so many bytes, low byte first
 unfoldable pub lowFirst : ℕ → ℕ → List ℕ
 lowFirst zero n = []

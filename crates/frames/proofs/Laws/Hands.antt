@@ -1,12 +1,14 @@
 -- The part of the buffer that a search finds.
 -- Assumes nothing.
-use mathlib.Core.List.{List, []}
-use mathlib.Core.Path.{_≡_, subst}
+use mathlib.Core.List.{List}
+use mathlib.Core.Path.{_≡_, refl, subst}
 use Prim.Native.Nat.{ℕ, _+_, _≤_}
 use native.Mathlib.Omega.{arith}
+use denote.Ref.{RefT, now}
 use lib.ListN.{length}
-use Rattle.digits.proofs.Laws.Refusals.{cause-of, some-number}
-use Rattle.digits.specs.Paper.Refusals.{refusalNumber, answers, refuses}
+use Rattle.digits.proofs.Laws.Handed.{hands-right, hands-none}
+use Rattle.digits.proofs.Laws.Refusals.{cause-of}
+use Rattle.digits.specs.Paper.Part.{Ends, zeroEnds, IsPart}
 use Rattle.digits.specs.declared.refusal.Refusal.{Refusal}
 use Rattle.frames.specs.Paper.Search.{Hit, Searches, Hands}
 use Rattle.frames.specs.declared.Found.{Found}
@@ -29,8 +31,12 @@ module _ {k : ℕ} {s : List ℕ} {place : ℕ} {r : Found} (a : Searches k s pl
         let i = payload-inside (q .stands .frame) in
         (omega (arith, q .from-is, q .to-is, i .0), omega (arith, q .to-is, i .1, size-at (q .stands), q .stands .inside))
 
-    pub hands-found : (cut : Hit → List ℕ) (p : List ℕ) → p ≡ cut (record { start = start; len = len; from = from; to = to }) → Hands k s place cut p
-    hands-found cut p f = record { number = 0; answer = answers (cause-of there) (record { start = start; len = len; from = from; to = to }, leftmost there, f) }
+module _ {k : ℕ} {s p : RefT (List ℕ)} {place : ℕ} {r : Found} (a : Searches k (now s) place r) (ends : Hit → Ends) where
+  pub hands-found : {start len from to : ℕ} → r ≡ At start len from to → IsPart s (ends (record { start = start; len = len; from = from; to = to })) p
+      → Hands k s place ends p
+  hands-found {start} {len} {from} {to} e i =
+      let there : Searches k (now s) place (At start len from to) = subst (Searches k (now s) place) e a in
+      hands-right (cause-of there) (record { start = start; len = len; from = from; to = to }, leftmost there, refl) i
 
-  pub hands-nothing : {why : Refusal} → r ≡ Refused why → (cut : Hit → List ℕ) → Hands k s place cut []
-  hands-nothing {why} e cut = record { number = refusalNumber why; answer = refuses (some-number why) (cause-of (subst (Searches k s place) e a)) }
+  pub hands-nothing : {why : Refusal} → r ≡ Refused why → IsPart s zeroEnds p → Hands k s place ends p
+  hands-nothing {why} e = hands-none why (cause-of (subst (Searches k (now s) place) e a))

@@ -25,6 +25,7 @@ use Rattle.layouts.proofs.Laws.Homiq.{homiq-bus}
 use Rattle.layouts.proofs.Laws.Nest.{nest-bus}
 use Rattle.layouts.proofs.Laws.Nibe.{nibe-bus}
 use Rattle.layouts.proofs.Laws.Nikobus.{nikobus-bus}
+use Rattle.layouts.proofs.Theorems.{one-nikobus, one-nest, one-nibe, one-homiq}
 use Rattle.layouts.proofs.Laws.Starts.{Begun, nikobus-begun, nest-begun, nibe-begun, homiq-begun, nikobus-behind, nest-behind, nibe-behind, homiq-behind}
 use Rattle.layouts.specs.Paper.Layout as layout
 use Rattle.frames.specs.Paper.Kinds.{numberOf, layoutOf, known, KindCause, no-kind, Resolves, Frame, payloadFrom, payloadTo}
@@ -80,6 +81,15 @@ behind NestResponse f t h = nest-behind f t h Response
 behind Nibe f t h = nibe-behind f t h
 behind Homiq f t h = homiq-behind f t h
 
+-- no two fields have the same bytes
+one-fields : (kind : Kind) (m n : layoutOf kind .Fields) → layoutOf kind .Limits m → layoutOf kind .Limits n
+    → layout.bytesOf (layoutOf kind) m ≡ layout.bytesOf (layoutOf kind) n → m ≡ n
+one-fields Nikobus m n f g e = one-nikobus m n f g e
+one-fields NestCommand m n f g e = one-nest Command m n f g e
+one-fields NestResponse m n f g e = one-nest Response m n f g e
+one-fields Nibe m n f g e = one-nibe m n e
+one-fields Homiq m n f g e = one-homiq m n f g e
+
 -- ---- numbers and kinds
 
 same-kind : {a b : Kind} → Is a ≡ Is b → a ≡ b
@@ -134,6 +144,17 @@ as-frame kind r = record { kind = kind; number = refl; frame = r }
 -- OF EVERY KIND `frameLen` finds the frames, and only those
 pub kind-right : (kind : Kind) → Right (layout.Frame (layoutOf kind)) (frameLen kind)
 kind-right kind = frame-right (busOf kind)
+
+-- THE SAME BYTES HAVE ONE READING: whatever is read off a frame's fields is the same however the bytes are shown to be a frame
+pub one-reading : {A : Type 0} (read : (kind : Kind) → layoutOf kind .Fields → A) {k : ℕ} {f : List ℕ} (r q : Frame k f)
+    → read (r .kind) (r .frame .form .fields) ≡ read (q .kind) (q .frame .form .fields)
+one-reading read {f = f} r q = go (r .kind) (q .kind) (one-kind (r .kind) (q .kind) (r .number ∙ sym (q .number))) (r .frame) (q .frame)
+  where
+    go : (a b : Kind) → a ≡ b → (x : layout.Frame (layoutOf a) f) (y : layout.Frame (layoutOf b) f)
+        → read a (x .form .fields) ≡ read b (y .form .fields)
+    go a b e x =
+        subst (λ (b : Kind). (y : layout.Frame (layoutOf b) f) → read a (x .form .fields) ≡ read b (y .form .fields)) e
+        (λ y. ap (read a) (one-fields a (x .form .fields) (y .form .fields) (x .form .limits) (y .form .limits) (sym (x .form .laid) ∙ y .form .laid)))
 
 -- ---- the payload's places
 

@@ -21,7 +21,8 @@ pub record Checked : Type 0 where
   pub bytes : List ℕ
   pub value : ℕ
 
--- "Demand 3's checked bytes are those the check covers (Nikobus: the payload's bytes, under CRC16)". Presses and tails carry no check value
+-- "Demand 3's checked bytes are those the check covers (Nikobus: the payload's bytes, under CRC16)"; presses and tails
+-- carry no check value
 abbrev pub checkedIn : (kind : Kind) → layoutOf kind .Fields → Option Checked
 checkedIn Nikobus (nikobuses.link p crc16 crc8) = some (record { check = nikobusCrc16; bytes = p; value = crc16 })
 checkedIn Nikobus (nikobuses.press d) = none
@@ -30,6 +31,16 @@ checkedIn NestCommand m = some (record { check = nestCrc; bytes = nests.covered 
 checkedIn NestResponse m = some (record { check = nestCrc; bytes = nests.covered (m .id) (m .payload); value = m .crc })
 checkedIn Nibe m = some (record { check = nibeXor; bytes = nibes.covered (m .content); value = m .xor })
 checkedIn Homiq m = some (record { check = homiqCrc; bytes = homiqs.joined m; value = m .crc })
+
+-- the fields of a frame that carries one: every frame of kinds 2 to 5 does, and every link
+abbrev pub Carrying : (kind : Kind) → layoutOf kind .Fields → Type 0
+Carrying Nikobus (nikobuses.link p crc16 crc8) = Unit
+Carrying Nikobus (nikobuses.press d) = ⊥
+Carrying Nikobus nikobuses.tail = ⊥
+Carrying NestCommand m = Unit
+Carrying NestResponse m = Unit
+Carrying Nibe m = Unit
+Carrying Homiq m = Unit
 
 -- "a stretch of 16 consecutive bits (Nest; Nikobus, over its payload) or 8 (Nibe, Homiq)"
 abbrev pub stretch : Kind → ℕ

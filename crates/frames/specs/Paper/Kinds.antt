@@ -1,5 +1,5 @@
--- 01, "Kinds and frames": "A kind is a bus and direction: 1 Nikobus, 2 Nest command, 3 Nest response, 4 Nibe, 5 Homiq." Inside the library a
--- kind is a case of the code's enum; the tables here say what a kind is, a line a kind.
+-- 01, "Kinds and frames": "A kind is a bus and direction: 1 Nikobus, 2 Nest command, 3 Nest response, 4 Nibe, 5
+-- Homiq." Inside the library a kind is a case of the code's enum; the tables here say what a kind is, a line a kind.
 -- Assumes nothing.
 use mathlib.Core.Bool.{Bool, false}
 use mathlib.Core.List.{List, [], _∷_}

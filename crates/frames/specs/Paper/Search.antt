@@ -1,11 +1,14 @@
--- 01, Search: "The search takes a kind, a buffer and a place, and finds the frame with the smallest start at or after the place".
+-- 01, Search: "The search takes a kind, a buffer and a place, and finds the frame with the smallest start at or after
+-- the place".
 -- Assumes nothing.
 use mathlib.Core.Bool.{false}
-use mathlib.Core.List.{List, []}
+use mathlib.Core.List.{List}
 use mathlib.Core.Path.{_≡_}
 use Prim.Native.Nat.{ℕ, _+_, _≤_, _<_}
+use denote.Ref.{RefT, now}
 use lib.ListN.{length}
 use Rattle.digits.specs.Paper.Bytes.{part}
+use Rattle.digits.specs.Paper.Part.{Ends, HandsPart}
 use Rattle.digits.specs.Paper.Refusals.{refusalNumber, Answers}
 use Rattle.frames.specs.Paper.Kinds.{known, Frame, payloadFrom, payloadTo}
 use Rattle.frames.specs.declared.Found.{Found}
@@ -53,14 +56,19 @@ foundHit (Refused why) = zeroHit
 abbrev pub Searches : ℕ → List ℕ → ℕ → Found → Type 0
 Searches k s place r = Answers zeroHit (SearchCause k s place) (Leftmost k s place) (foundNumber r) (foundHit r)
 
--- "The frame and its payload are handed back as that part of the caller's buffer"; "a refused part" is empty: p is the part of the
--- buffer that `cut` takes of what the search finds
-pub record Hands (k : ℕ) (s : List ℕ) (place : ℕ) (cut : Hit → List ℕ) (p : List ℕ) : Type 0 where
-  pub number : ℕ
-  pub answer : Answers [] (SearchCause k s place) (λ q. (v : Hit) × (Leftmost k s place v) × (q ≡ cut v)) number p
+-- "The frame and its payload are handed back as that part of the caller's buffer": where each begins and ends
+abbrev pub frameEnds : Hit → Ends
+frameEnds v = record { from = v .start; to = v .start + v .len }
 
+abbrev pub payloadEnds : Hit → Ends
+payloadEnds v = record { from = v .from; to = v .to }
+
+-- r is that part of the buffer, of what the search finds
+abbrev pub Hands : ℕ → RefT (List ℕ) → ℕ → (Hit → Ends) → RefT (List ℕ) → Type 0
+Hands k buffer place ends r =
+    HandsPart (SearchCause k (now buffer) place)
+    (λ e. (v : Hit) × (Leftmost k (now buffer) place v) × (e ≡ ends v)) buffer r
+
+-- the bytes of a frame that is found
 abbrev pub framePart : List ℕ → Hit → List ℕ
-framePart s v = part (v .start) (v .start + v .len) s
-
-abbrev pub payloadPart : List ℕ → Hit → List ℕ
-payloadPart s v = part (v .from) (v .to) s
+framePart s v = part (frameEnds v .from) (frameEnds v .to) s

@@ -4,15 +4,11 @@ use mathlib.Core.Bool.{false}
 use mathlib.Core.List.{List}
 use mathlib.Core.Path.{_≡_}
 use Prim.Native.Nat.{ℕ}
+use Rattle.digits.specs.Paper.Part.{Ends, zeroEnds}
 use Rattle.digits.specs.Paper.Refusals.{refusalNumber, Answers}
 use Rattle.frames.specs.Paper.Kinds.{known, Frame, payloadFrom, payloadTo}
 use Rattle.frames.specs.declared.Whole.{Whole}
 use Rattle.frames.specs.declared.Whole.the-variants.{Is, Refused}
-
--- the places in a frame where its payload begins and ends
-pub record Ends : Type 0 where
-  pub from : ℕ
-  pub to : ℕ
 
 -- 01, "Refusal numbers": 2 "kind not 1 to 5", 5 "a .. frame .. outside its limits"
 pub data WholeCause (k : ℕ) (s : List ℕ) : ℕ → Type 0 where
@@ -28,9 +24,6 @@ pub record OneFrame (k : ℕ) (s : List ℕ) (v : Ends) : Type 0 where
 abbrev pub wholeNumber : Whole → ℕ
 wholeNumber (Is from to) = 0
 wholeNumber (Refused why) = refusalNumber why
-
-abbrev pub zeroEnds : Ends
-zeroEnds = record { from = 0; to = 0 }
 
 abbrev pub wholeEnds : Whole → Ends
 wholeEnds (Is from to) = record { from = from; to = to }

@@ -21,8 +21,8 @@ quoted t = 34 ∷ (t ++ (34 ∷ []))
 abbrev pub hex : List ℕ → List ℕ
 hex s = quoted (hexBytes s)
 
--- "text and Homiq fields one character a byte, with `"` and `\` escaped by `\` and bytes outside 0x20 to 0x7E as `\u00` and two
--- upper-case digits"
+-- "text and Homiq fields one character a byte, with `"` and `\` escaped by `\` and bytes outside 0x20 to 0x7E as
+-- `\u00` and two upper-case digits"
 unfoldable pub escaped : ℕ → List ℕ
 escaped b =
     cond (eqb b 34 || eqb b 92) (ascii "\\" ++ (b ∷ []))

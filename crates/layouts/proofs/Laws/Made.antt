@@ -1,7 +1,7 @@
 -- Fields whose check values are worked out are within the limits where the other fields are.
 -- Assumes nothing.
 use mathlib.Core.List.{List}
-use mathlib.Core.Path.{_≡_}
+use mathlib.Core.Path.{_≡_, subst}
 use Prim.Native.Nat.{ℕ, _≤_, _<_}
 use native.Mathlib.Omega.{arith}
 use lib.Dec.{T}
@@ -18,6 +18,7 @@ use Rattle.layouts.specs.Paper.Nibe as nibes
 use Rattle.layouts.specs.Paper.Nibe.{commands}
 use Rattle.layouts.specs.Paper.Nikobus as nikobuses
 use Rattle.layouts.specs.Paper.Nikobus.{link, press, link-limits, press-limits, linkChecked}
+use Rattle.layouts.proofs.Laws.Nibe.{covered-xor}
 
 pub link-fit : (p : List ℕ) → 1 ≤ length p → length p ≤ 122 → Bytes p → nikobuses.Limits (linkOf p)
 link-fit p some short bytes =
@@ -27,7 +28,8 @@ pub nest-fit : (i : ℕ) (p : List ℕ) → i < 65536 → length p ≤ 1024 → 
 nest-fit i p id short bytes = record { id = id; short = short; bytes = bytes; crc = check-lt nestCrc (nests.covered i p) }
 
 pub nibe-fit : (c : ℕ) (d : List ℕ) → T (oneOf commands c) → length d ≤ 255 → Bytes d → nibes.Limits (nibeOf c d)
-nibe-fit c d command short bytes = record { command = command; short = short; bytes = bytes; xor = check-lt nibeXor (nibes.covered d) }
+nibe-fit c d command short bytes =
+    record { command = command; short = short; bytes = bytes; xor = subst (λ (x : ℕ). x < 256) (covered-xor d short bytes) (check-lt nibeXor (nibes.covered d)) }
 
 -- the six fields with any CRC, and with the right one
 pub homiq-fit : (w : Wire) (crc : ℕ) → homiqs.Limits (closed w crc) → homiqs.Limits (homiqOf w)

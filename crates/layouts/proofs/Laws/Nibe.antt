@@ -13,8 +13,10 @@ use Rattle.digits.proofs.Laws.Bytes.{bytes-nil, bytes-cons, bytes-tail, bytes-a
 use Rattle.digits.proofs.Laws.Parts.{part-middle}
 use Rattle.digits.proofs.Laws.Tests.{T-true}
 use Rattle.digits.specs.Paper.Bytes.{Bytes, part}
+use Rattle.checks.proofs.Theorems.{nibe-xor}
 use Rattle.checks.specs.Paper.Buses.{nibeXor}
 use Rattle.checks.specs.Paper.Check.{check}
+use Rattle.checks.specs.Paper.Xor.{xorOf}
 use Rattle.layouts.specs.Paper.Chars.{oneOf, all}
 use Rattle.layouts.specs.Paper.Layout.{bytesOf, payloadTo, Form}
 use Rattle.layouts.specs.Paper.Nibe.{Nibe, commands, covered, Limits, Passes, nibe}
@@ -110,18 +112,26 @@ module _ (m : Nibe) where
       let e : length (bytesOf nibe m) - 1 ≡ length (0xC0 ∷ m .command ∷ covered (m .content)) = omega (arith, length-append (m .content) (m .xor ∷ [])) in
       rw e (getD-append-seam (0xC0 ∷ m .command ∷ covered (m .content)) (m .xor) [] 0)
 
+-- the length is a byte too, and so the check of x^8 + 1 is the XOR
+pub covered-bytes : (d : List ℕ) → length d ≤ 255 → Bytes d → Bytes (covered d)
+covered-bytes d short bytes = bytes-cons {b = length d} (omega arith) bytes
+
+pub covered-xor : (d : List ℕ) → length d ≤ 255 → Bytes d → check nibeXor (covered d) ≡ xorOf (covered d)
+covered-xor d short bytes = nibe-xor (covered d) (covered-bytes d short bytes)
+
 passed : (w : List ℕ) (r : Form nibe w) → T (nibePasses w) → Passes (r .fields)
 unfolding nibePasses
 passed w r h =
     let m = r .fields in
     let e : getD w (length w - 1) 0 ≡ check nibeXor (part 2 (length w - 1) w) = eqb→eq _ _ h in
-    sym (check-byte m) ∙ rw (r .laid) at e ∙ ap (check nibeXor) (covered-part m)
+    sym (check-byte m) ∙ rw (r .laid) at e ∙ ap (check nibeXor) (covered-part m) ∙ covered-xor (m .content) (r .limits .short) (r .limits .bytes)
 
 passes : (w : List ℕ) (r : Form nibe w) → Passes (r .fields) → T (nibePasses w)
 unfolding nibePasses
 passes w r h =
     let m = r .fields in
-    rw (r .laid) (rw (eq-eqb _ _ (check-byte m ∙ h ∙ sym (ap (check nibeXor) (covered-part m)))) tt)
+    let e = ap (check nibeXor) (covered-part m) ∙ covered-xor (m .content) (r .limits .short) (r .limits .bytes) in
+    rw (r .laid) (rw (eq-eqb _ _ (check-byte m ∙ h ∙ sym e)) tt)
 
 ends : (w : List ℕ) (r : Form nibe w) → payloadTo nibe (r .fields) ≡ nibeTo w
 ends w r = let m = r .fields in rw (r .laid) (omega (arith, length-append (m .content) (m .xor ∷ [])))

@@ -5,8 +5,8 @@ use mathlib.Core.Path.{_≡_}
 use Prim.Native.Nat.{ℕ, _+_, _≤_}
 use lib.ListN.{length, take}
 
--- A layout: the fields of a frame, among them the check values that stand in it; their limits; the bytes that they make, before
--- the payload, the payload, and behind it; and whether the check values are the right ones.
+-- A layout: the fields of a frame, among them the check values that stand in it; their limits; the bytes that they
+-- make, before the payload, the payload, and behind it; and whether the check values are the right ones.
 pub record Layout : Type 1 where
   pub Fields : Type 0
   pub Limits : Fields → Type 0
@@ -36,7 +36,8 @@ pub record Frame (l : Layout) (f : List ℕ) : Type 0 where
   pub form : Form l f
   pub passes : l .Passes (form .fields)
 
--- A frame of n bytes stands at the head of s, and its payload goes from one place in it to another; zeros where none stands there.
+-- A frame of n bytes stands at the head of s, and its payload goes from one place in it to another; zeros where none
+-- stands there.
 pub data Leads (l : Layout) (s : List ℕ) : (n from to : ℕ) → Type 0 where
   leads : {n : ℕ} → n ≤ length s → (f : Frame l (take n s))
       → Leads l s n (payloadFrom l (f .form .fields)) (payloadTo l (f .form .fields))

@@ -3,8 +3,9 @@
 use mathlib.Core.List.{List}
 use mathlib.Core.Path.{_≡_}
 use Prim.Native.Nat.{ℕ}
-use Rattle.checks.specs.Paper.Buses.{nikobusCrc16, nikobusCrc8, nestCrc, nibeXor, homiqCrc}
+use Rattle.checks.specs.Paper.Buses.{nikobusCrc16, nikobusCrc8, nestCrc, homiqCrc}
 use Rattle.checks.specs.Paper.Check.{check}
+use Rattle.checks.specs.Paper.Xor.{xorOf}
 use Rattle.layouts.specs.Paper.Homiq as homiqs
 use Rattle.layouts.specs.Paper.Homiq.{Homiq, joined}
 use Rattle.layouts.specs.Paper.Nest as nests
@@ -23,7 +24,7 @@ nestOf i p = record { id = i; payload = p; crc = check nestCrc (nests.covered i 
 
 -- Nibe's command with these data
 abbrev pub nibeOf : ℕ → List ℕ → Nibe
-nibeOf c d = record { command = c; content = d; xor = check nibeXor (nibes.covered d) }
+nibeOf c d = record { command = c; content = d; xor = xorOf (nibes.covered d) }
 
 -- Homiq's six fields from CMD to TYPE, which the CRC covers
 pub record Wire : Type 0 where

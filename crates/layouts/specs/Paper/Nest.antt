@@ -1,12 +1,12 @@
--- 01, Nest: "Preamble D5 AA 96 (kind 2) or D5 D5 AA 96 (kind 3); id and length, 16 bits each, low byte first; payload 0 to 1,024
--- bytes; CRC, low byte first, over id, length and payload".
+-- 01, Nest: "Preamble D5 AA 96 (kind 2) or D5 D5 AA 96 (kind 3); id and length, 16 bits each, low byte first; payload
+-- 0 to 1,024 bytes; CRC, low byte first, over id, length and payload".
 -- Assumes nothing.
 use mathlib.Core.List.{List, [], _∷_, _++_}
 use mathlib.Core.Path.{_≡_}
-use Prim.Native.Nat.{ℕ, _≤_, _<_}
+use Prim.Native.Nat.{ℕ, _≤_}
 use lib.ListN.{length}
 use Rattle.digits.specs.Paper.Bytes.{Bytes}
-use Rattle.digits.specs.Paper.LowFirst.{lowFirst}
+use Rattle.digits.specs.Paper.LowFirst.{SixteenBits, lowFirst}
 use Rattle.checks.specs.Paper.Buses.{nestCrc}
 use Rattle.checks.specs.Paper.Check.{check}
 use Rattle.layouts.specs.Paper.Layout.{Layout}
@@ -35,12 +35,19 @@ payload m = m .payload
 abbrev pub behind : Nest → List ℕ
 behind m = lowFirst 2 (m .crc)
 
--- "16 bits each"; "payload 0 to 1,024 bytes"
+-- "payload 0 to 1,024 bytes"
+abbrev pub leastPayload : ℕ
+leastPayload = 0
+
+abbrev pub mostPayload : ℕ
+mostPayload = 1024
+
+-- "id and length, 16 bits each"
 pub record Limits (m : Nest) : Type 0 where
-  pub id : m .id < 65536
-  pub short : length (m .payload) ≤ 1024
+  pub id : SixteenBits (m .id)
+  pub short : length (m .payload) ≤ mostPayload
   pub bytes : Bytes (m .payload)
-  pub crc : m .crc < 65536
+  pub crc : SixteenBits (m .crc)
 
 -- "id, length and payload"
 abbrev pub covered : ℕ → List ℕ → List ℕ

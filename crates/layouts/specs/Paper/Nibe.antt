@@ -6,8 +6,7 @@ use Prim.Native.Nat.{ℕ, _≤_, _<_}
 use lib.Dec.{T}
 use lib.ListN.{length}
 use Rattle.digits.specs.Paper.Bytes.{Bytes}
-use Rattle.checks.specs.Paper.Buses.{nibeXor}
-use Rattle.checks.specs.Paper.Check.{check}
+use Rattle.checks.specs.Paper.Xor.{xorOf}
 use Rattle.layouts.specs.Paper.Chars.{oneOf}
 use Rattle.layouts.specs.Paper.Layout.{Layout}
 
@@ -33,10 +32,13 @@ payload m = m .content
 abbrev pub behind : Nibe → List ℕ
 behind m = m .xor ∷ []
 
--- the length is one byte
+-- "C0, command, length, data, check": the length is one byte
+abbrev pub mostData : ℕ
+mostData = 255
+
 pub record Limits (m : Nibe) : Type 0 where
   pub command : T (oneOf commands (m .command))
-  pub short : length (m .content) ≤ 255
+  pub short : length (m .content) ≤ mostData
   pub bytes : Bytes (m .content)
   pub xor : m .xor < 256
 
@@ -46,7 +48,7 @@ covered d = length d ∷ d
 
 -- "The check is the XOR of the length and the data; the command is not covered"
 abbrev pub Passes : Nibe → Type 0
-Passes m = m .xor ≡ check nibeXor (covered (m .content))
+Passes m = m .xor ≡ xorOf (covered (m .content))
 
 abbrev pub nibe : Layout
 nibe = record { Fields = Nibe; Limits = Limits; before = before; payload = payload; behind = behind; Passes = Passes }

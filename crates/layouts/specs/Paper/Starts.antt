@@ -1,5 +1,5 @@
--- How a frame of each bus can begin, by its first three bytes. (Ours: the search passes over every place where this does not hold. That no
--- frame begins otherwise is a law.)
+-- How a frame of each bus can begin, by its first three bytes. (Ours: the search passes over every place where this
+-- does not hold. That no frame begins otherwise is a law.)
 -- Assumes nothing.
 use mathlib.Core.Bool.{Bool, false, _&&_, _||_}
 use mathlib.Core.List.{List, [], _∷_}

@@ -2,8 +2,8 @@
 -- Assumes nothing.
 use mathlib.Core.Bool.{Bool, true, false, not}
 use mathlib.Core.List.{List}
-use mathlib.Core.Path.{_≡_, sym, _∙_}
-use Prim.Native.Nat.{ℕ, _-_, _/_, _≤_, _<_}
+use mathlib.Core.Path.{_≡_, refl, sym, _∙_, subst}
+use Prim.Native.Nat.{ℕ, _-_, _≤_, _<_}
 use native.Mathlib.Omega.{arith}
 use lib.Dec.{leb, lit<}
 use lib.ListN.{length}
@@ -16,12 +16,14 @@ use Rattle.puts.specs.declared.Written.{Written}
 use Rattle.puts.specs.declared.Written.the-variants.{Bytes, Refused}
 use Rattle.puts.proofs.Laws.Wrote.{too-short, room-for}
 use Rattle.lines.specs.Work.Put.{Bounded, AllOrNone, all, none}
+use Rattle.lines.specs.Work.Tried.{Surely}
 
 -- ---- whether it fits
 
 -- a line that is shorter than what is left, by the bound
-pub surely : {t : List ℕ} {beside left : ℕ} → Bounded t beside → 352 ≤ left → beside ≤ (left - 352) / 8 → true ≡ leb (length t) left
-surely {t} {left = left} b h k = sym (le-leb (length t) left (omega (arith, b .most)))
+pub surely : {t : List ℕ} {beside left : ℕ} (b : Bool) → Bounded t beside → Surely false beside left b → b ≡ true → true ≡ leb (length t) left
+surely {t} {beside} {left} b x y e =
+    let m = subst (Surely false beside left) e y .told refl in sym (le-leb (length t) left (omega (arith, x .most)))
 
 module _ {bs room : List ℕ} {to left : ℕ} {fits : Bool} (l : left ≡ length room - to) (f : fits ≡ leb (length bs) left) where
   pub not-placed : not fits ≡ true → AllOrNone bs room to (Refused Room) room

@@ -22,18 +22,16 @@ use Rattle.messages.specs.declared.Decoded.the-variants.{Is, Refused}
 use Rattle.messages.specs.declared.Message.{Message as Coded}
 use Rattle.messages.proofs.Laws.Cases.{said-in}
 use Rattle.messages.proofs.Laws.Decode.{is-frame}
-use Rattle.messages.proofs.Theorems.{has-message, one-message-of, stands-bytes}
+use Rattle.messages.proofs.Theorems.{has-message, stands-bytes}
 use Rattle.puts.specs.Paper.Put.{last}
 use Rattle.puts.specs.Paper.Right as right
 use Rattle.puts.specs.declared.Written.{Written}
 use Rattle.puts.specs.declared.Written.the-variants.{Refused as Unwritten}
 use Rattle.puts.proofs.Laws.Right.{fronted-right}
 use Rattle.lines.specs.Paper.Answers.{LineOf, LineCause, no-kind, no-frame, short, WritesLine}
-use Rattle.lines.specs.Paper.Line.{line}
 use Rattle.lines.specs.Work.Put.{put, Bounded, AllOrNone}
-use Rattle.lines.proofs.Laws.Next.{line-of-message, beside-says, line-of-said}
+use Rattle.lines.proofs.Laws.Next.{line-of-said, said-bounded, one-line}
 use Rattle.lines.proofs.Laws.Placed.{at-front}
-use Rattle.lines.proofs.Laws.Sizes.{line-bounded}
 
 -- ---- the payload lies inside the frame
 
@@ -45,12 +43,6 @@ said-inside {f = f} x =
     let i = content-inside (contentOf (x .message)) in
     let n : length (laid (contentOf (x .message))) ≡ length f = ap length (sym (stands-bytes (x .stands))) in
     (omega (arith, i, x .from-is, x .to-is), omega (arith, i, n, x .to-is))
-
--- ---- a frame has one line
-
-pub one-line : {k : ℕ} {f : List ℕ} {place : ℕ} (s t : List ℕ) → LineOf k f place s → LineOf k f place t → s ≡ t
-one-line {f = f} {place = place} s t a b =
-    a .is ∙ ap (line place (length f)) (one-message-of (a .message) (b .message) (a .stands) (b .stands)) ∙ sym (b .is)
 
 -- ---- the causes
 
@@ -107,7 +99,7 @@ module _ {k : ℕ} {f : List ℕ} (r : Decoded) (a : Decodes k f r) where
     the-line place = line-of-said place (part from to f) (said-in decoded) refl
 
     pub put-bounded : (place : ℕ) → place ≤ last → length f ≤ last → Bounded (put e (part from to f) place (length f)) (length (part from to f))
-    put-bounded place h k = let x = said-in decoded in line-bounded e (part from to f) h k (line-of-message e (part from to f) (x .stands .good) (beside-says x refl))
+    put-bounded place h k = said-bounded (part from to f) (said-in decoded) refl h k
 
     pub written : (place : ℕ) (room later : List ℕ) (w : Written)
         → AllOrNone (put e (part from to f) place (length f)) room 0 w later → WritesLine k f place room w later

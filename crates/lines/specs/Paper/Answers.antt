@@ -1,4 +1,4 @@
--- The promises: the line of a frame, the line of a message or of a content, and the next line of a capture.
+-- The promises: the line of a frame, the line of a message or of a content, the next line of a capture, and its size.
 -- Assumes nothing.
 use mathlib.Core.Bool.{false}
 use mathlib.Core.List.{List}
@@ -8,11 +8,11 @@ use lib.ListN.{length}
 use lib.Seq.{sets}
 use Rattle.digits.specs.Paper.Bytes.{part}
 use Rattle.digits.specs.Paper.Refusals.{refusalNumber, Answers}
-use Rattle.puts.specs.Paper.Right.{WritesRight, PutsRight}
+use Rattle.puts.specs.Paper.Right.{WritesRight}
 use Rattle.puts.specs.Paper.Wrote.{writtenRefusal, writtenCount}
 use Rattle.puts.specs.declared.Written.{Written}
 use Rattle.frames.specs.Paper.Kinds.{known, Frame}
-use Rattle.frames.specs.Paper.Search.{Leftmost, SearchCause}
+use Rattle.frames.specs.Paper.Search.{Hit, Leftmost, SearchCause, framePart}
 use Rattle.messages.specs.Paper.Message.{Message}
 use Rattle.messages.specs.Paper.Answers.{Stands}
 use Rattle.messages.specs.Paper.Meant.{ContentWith}
@@ -21,6 +21,8 @@ use Rattle.messages.specs.declared.Tag.{Tag}
 use Rattle.lines.specs.Paper.Line.{line}
 use Rattle.lines.specs.declared.Listed.{Listed}
 use Rattle.lines.specs.declared.Listed.the-variants.{At, Refused}
+use Rattle.lines.specs.declared.Measured.{Measured}
+use Rattle.lines.specs.declared.Measured.the-variants.{At as SizedAt, Refused as Unmeasured}
 
 -- ---- write
 
@@ -30,13 +32,15 @@ pub record LineOf (k : ℕ) (f : List ℕ) (at : ℕ) (t : List ℕ) : Type 0 wh
   pub stands : Stands k f message
   pub is : t ≡ line at (length f) message
 
--- 01, "Refusal numbers": 2 "kind not 1 to 5"; 5 "a .. frame .. outside its limits"; 4 "lent room too short for the answer"
+-- 01, "Refusal numbers": 2 "kind not 1 to 5"; 5 "a .. frame .. outside its limits"; 4 "lent room too short for the
+-- answer"
 pub data LineCause (k : ℕ) (f : List ℕ) (at room : ℕ) : ℕ → Type 0 where
   no-kind : known k ≡ false → LineCause k f at room 2
   no-frame : (Frame k f → ⊥) → LineCause k f at room 5
   short : {t : List ℕ} → LineOf k f at t → room < length t → LineCause k f at room 4
 
--- r is the right answer, and `later` the right room afterwards, of a call that writes the line of f from the front of a lent room
+-- r is the right answer, and `later` the right room afterwards, of a call that writes the line of f from the front of
+-- a lent room
 abbrev pub WritesLine : ℕ → List ℕ → ℕ → List ℕ → Written → List ℕ → Type 0
 WritesLine k f at room r later = WritesRight (LineCause k f at (length room)) (LineOf k f at) room r later
 
@@ -49,7 +53,8 @@ pub record LineSaid (IsSaid : Message → Type 0) (at len : ℕ) (t : List ℕ) 
   pub said : IsSaid message
   pub is : t ≡ line at len message
 
--- 5 "a field .. outside its limits": no message of the table is said; 4 "lent room too short for the answer", where so much of it is left
+-- 5 "a field .. outside its limits": no message of the table is said; 4 "lent room too short for the answer", where
+-- so much of it is left
 pub data SaidCause (IsSaid : Message → Type 0) (at len left : ℕ) : ℕ → Type 0 where
   no-message : ((m : Message) → Good m → IsSaid m → ⊥) → SaidCause IsSaid at len left 5
   short : {t : List ℕ} → LineSaid IsSaid at len t → left < length t → SaidCause IsSaid at len left 4
@@ -74,10 +79,6 @@ HasContent tag p m = ContentWith tag p (contentOf m)
 
 -- ---- next
 
--- the line of f is put at a place of a lent room, and `behind` is the place behind it
-abbrev pub PutsLine : ℕ → List ℕ → ℕ → List ℕ → List ℕ → ℕ → ℕ → Type 0
-PutsLine k f at room later place behind = PutsRight (LineOf k f at) room later place behind
-
 -- the refusal number and the values of an answer: the start and the length of the frame, and the place behind its line
 pub record Placed : Type 0 where
   pub start : ℕ
@@ -95,17 +96,59 @@ abbrev pub listedPlaced : Listed → Placed
 listedPlaced (At start len behind) = record { start = start; len = len; behind = behind }
 listedPlaced (Refused why) = zeroPlaced
 
--- the right values, and the right room afterwards: the search finds such a frame in the capture s, from a place on, and its line is put at the
--- place `to` of the room
+-- the search's refusals, and 4 "lent room too short for the answer": what is left of the room is shorter than the
+-- line of the frame that is found
+pub data NextCause (k : ℕ) (s : List ℕ) (place left : ℕ) : ℕ → Type 0 where
+  searched : {n : ℕ} → SearchCause k s place n → NextCause k s place left n
+  short : {v : Hit} {t : List ℕ} → Leftmost k s place v → LineOf k (framePart s v) (v .start) t
+      → left < length t → NextCause k s place left 4
+
+-- the right values, and the right room afterwards: the search finds such a frame in the capture s, from a place on;
+-- its line stands at the place `to` of the room, and every other byte is as it was
 pub record NextLine (k : ℕ) (s : List ℕ) (place : ℕ) (room : List ℕ) (to : ℕ) (v : Placed) (later : List ℕ)
     : Type 0 where
   pub from : ℕ
   pub end : ℕ
   pub found : Leftmost k s place (record { start = v .start; len = v .len; from = from; to = end })
-  pub line : PutsLine k (part (v .start) (v .start + v .len) s) (v .start) room later to (v .behind)
+  pub text : List ℕ
+  pub line : LineOf k (part (v .start) (v .start + v .len) s) (v .start) text
+  pub behind-is : v .behind ≡ to + length text
+  pub room-is : later ≡ sets room to text
 
--- r is the right answer, and `later` the right room afterwards; refused as the search is, and then the room is as it was
+-- r is the right answer, and `later` the right room afterwards; of a place beyond the room nothing is left
 abbrev pub PutsNext : ℕ → List ℕ → ℕ → List ℕ → ℕ → Listed → List ℕ → Type 0
 PutsNext k s place room to r later =
-    Answers {A = Placed × List ℕ} (zeroPlaced, room) (SearchCause k s place)
+    Answers {A = Placed × List ℕ} (zeroPlaced, room) (NextCause k s place (length room - to))
     (λ v. NextLine k s place room to (v .0) (v .1)) (listedNumber r) (listedPlaced r, later)
+
+-- ---- measure
+
+-- the refusal number and the values of an answer: the start and the length of the frame, and the size of its line
+pub record Size : Type 0 where
+  pub start : ℕ
+  pub len : ℕ
+  pub size : ℕ
+
+abbrev pub measuredNumber : Measured → ℕ
+measuredNumber (SizedAt start len size) = 0
+measuredNumber (Unmeasured why) = refusalNumber why
+
+abbrev pub zeroSize : Size
+zeroSize = record { start = 0; len = 0; size = 0 }
+
+abbrev pub measuredSize : Measured → Size
+measuredSize (SizedAt start len size) = record { start = start; len = len; size = size }
+measuredSize (Unmeasured why) = zeroSize
+
+-- the right values: the search finds such a frame in the capture s, from a place on, and its line has so many bytes
+pub record NextSize (k : ℕ) (s : List ℕ) (place : ℕ) (v : Size) : Type 0 where
+  pub from : ℕ
+  pub end : ℕ
+  pub found : Leftmost k s place (record { start = v .start; len = v .len; from = from; to = end })
+  pub text : List ℕ
+  pub line : LineOf k (part (v .start) (v .start + v .len) s) (v .start) text
+  pub size-is : v .size ≡ length text
+
+-- r is the right answer; refused as the search is
+abbrev pub Measures : ℕ → List ℕ → ℕ → Measured → Type 0
+Measures k s place r = Answers zeroSize (SearchCause k s place) (NextSize k s place) (measuredNumber r) (measuredSize r)

@@ -5,7 +5,9 @@ use Prim.Native.Nat.{ℕ, _+_, _*_, _/_, _%_}
 use lib.IntN.{pos}
 use Rattle.digits.specs.Paper.Ascii.{ascii}
 use Rattle.layouts.specs.Paper.Made.{Wire}
-use Rattle.messages.specs.Paper.Message.{Message, read, set, answer, press, tail, link, command, climate, state, break, end, text, response, ask, reply, put, done, nibe, output, input, shutter, beat, homiq, name}
+use Rattle.messages.specs.Paper.Message.{Message, read, set, answer, press, tail, link, command, climate, state}
+use Rattle.messages.specs.Paper.Message.{break, end, text, response, ask, reply, put, done, nibe, output, input}
+use Rattle.messages.specs.Paper.Message.{shutter, beat, homiq, name}
 use Rattle.messages.specs.Paper.Table.{vIn, vOp, vBat}
 use Rattle.json.specs.Paper.Json.{Member, _∶_, object, number, hex, chars, quoted, truth, reading}
 
@@ -24,13 +26,14 @@ wired w =
     ∷ ascii "type" ∶ chars (w .type ∷ [])
     ∷ []
 
--- read `group,addr`; set `group,addr,out`; answer `addr,third,out`; press `addr`; tail, break, end none; link `data`; command and
--- response `id,data`; climate `temp,hum`; state `vin,vop,vbat,data`; text `id,text`; ask `reg`; reply and put `reg,width,value`; done
--- `ok`; nibe `cmd,data`. Temperature and Vin are in hundredths, humidity in tenths, Vop and Vbat in thousandths; "value unsigned with 0
--- decimals"; "a press's six digits as they stand".
+-- read `group,addr`; set `group,addr,out`; answer `addr,third,out`; press `addr`; tail, break, end none; link `data`;
+-- command and response `id,data`; climate `temp,hum`; state `vin,vop,vbat,data`; text `id,text`; ask `reg`; reply and
+-- put `reg,width,value`; done `ok`; nibe `cmd,data`. Temperature and Vin are in hundredths, humidity in tenths, Vop
+-- and Vbat in thousandths; "value unsigned with 0 decimals"; "a press's six digits as they stand".
 unfoldable pub members : Message → List Member
 members (read g a) = ascii "group" ∶ number g ∷ ascii "addr" ∶ hex (highFirst a) ∷ []
-members (set g a out) = ascii "group" ∶ number g ∷ ascii "addr" ∶ hex (highFirst a) ∷ ascii "out" ∶ hex out ∷ []
+members (set g a out) =
+    ascii "group" ∶ number g ∷ ascii "addr" ∶ hex (highFirst a) ∷ ascii "out" ∶ hex out ∷ []
 members (answer a third out) =
     ascii "addr" ∶ hex (highFirst a) ∷ ascii "third" ∶ number third ∷ ascii "out" ∶ hex out ∷ []
 members (press d) = ascii "addr" ∶ chars d ∷ []
@@ -49,8 +52,10 @@ members end = []
 members (text i p) = ascii "id" ∶ number i ∷ ascii "text" ∶ chars p ∷ []
 members (response i p) = ascii "id" ∶ number i ∷ ascii "data" ∶ hex p ∷ []
 members (ask r) = ascii "reg" ∶ number r ∷ []
-members (reply r w v) = ascii "reg" ∶ number r ∷ ascii "width" ∶ number w ∷ ascii "value" ∶ reading (pos v) 0 ∷ []
-members (put r w v) = ascii "reg" ∶ number r ∷ ascii "width" ∶ number w ∷ ascii "value" ∶ reading (pos v) 0 ∷ []
+members (reply r w v) =
+    ascii "reg" ∶ number r ∷ ascii "width" ∶ number w ∷ ascii "value" ∶ reading (pos v) 0 ∷ []
+members (put r w v) =
+    ascii "reg" ∶ number r ∷ ascii "width" ∶ number w ∷ ascii "value" ∶ reading (pos v) 0 ∷ []
 members (done ok) = ascii "ok" ∶ truth ok ∷ []
 members (nibe c d) = ascii "cmd" ∶ number c ∷ ascii "data" ∶ hex d ∷ []
 members (output w) = wired w

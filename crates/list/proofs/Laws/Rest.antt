@@ -3,7 +3,7 @@
 use mathlib.Core.Bool.{true, true≢false}
 use mathlib.Core.List.{List, [], _∷_, _++_, append-assoc}
 use mathlib.Core.Path.{_≡_, refl, sym, ap, ap₂, _∙_, subst}
-use Prim.Native.Nat.{ℕ, _+_, _-_, _≤_, _<_}
+use Prim.Native.Nat.{ℕ, _+_, _-_, _≤_}
 use native.Mathlib.Omega.{arith}
 use lib.ListN.{length}
 use Rattle.digits.specs.Paper.Bytes.{part}
@@ -11,20 +11,13 @@ use Rattle.digits.specs.Paper.Refusals.{refusalNumber}
 use Rattle.digits.specs.declared.refusal.Refusal.{Refusal}
 use Rattle.digits.specs.declared.refusal.Refusal.the-variants.{NoFrame}
 use Rattle.digits.proofs.Laws.Refusals.{one-refusal, some-number, cause-of, cause-at}
-use Rattle.puts.specs.Paper.Put.{Put}
-use Rattle.puts.proofs.Laws.Puts.{_then_, put-length}
 use Rattle.frames.specs.Paper.Kinds.{known}
 use Rattle.frames.specs.Paper.Runs.{ends, finds}
 use Rattle.frames.specs.Paper.Search.{Hit, SearchCause, no-frame, no-kind, no-place, Searches}
 use Rattle.frames.specs.declared.Found.the-variants.{At, Refused}
-use Rattle.frames.proofs.Laws.Places.{positive}
-use Rattle.frames.proofs.Laws.Runs.{leftmost}
-use Rattle.lines.specs.Paper.Answers.{LineOf, PutsNext}
-use Rattle.lines.specs.declared.Listed.{Listed}
-use Rattle.lines.specs.declared.Listed.the-variants.{At as Line, Refused as NoLine}
-use Rattle.lines.proofs.Laws.Next.{next-found, line-put, none-found, room-kept}
+use Rattle.lines.specs.Paper.Answers.{LineOf}
 use Rattle.list.specs.Paper.Listing.{none, line, inside, lastLine, Lists}
-use Rattle.list.specs.Work.Rest.{Rest, PutsLists, Completes}
+use Rattle.list.specs.Work.Rest.{Rest}
 
 -- ---- what is left
 
@@ -73,47 +66,3 @@ refused-none {k} {s} {place} why kn h a =
     of n (no-frame f) = refl
     of n (no-kind e) = absurd (true≢false (sym kn ∙ e))
     of n (no-place l) = absurd (omega arith)
-
--- ---- the loop's turns
-
-pub started : {k : ℕ} {s room : List ℕ} {at : ℕ} → Completes k s room room at at 0 0 0
-started =
-    record {
-      place-in = omega arith;
-      few = omega arith;
-      within-place = omega arith;
-      same = refl;
-      whole = λ later behind t r p. record { text = t; right = from-start r; put = p };
-    }
-
--- what is next, where the answer is known
-module _ {k : ℕ} {s : List ℕ} {place : ℕ} {room : List ℕ} {to : ℕ} (r : Listed) {later : List ℕ} (n : PutsNext k s place room to r later) where
-  known-next : {q : Listed} → r ≡ q → PutsNext k s place room to q later
-  known-next e = subst (λ (q : Listed). PutsNext k s place room to q later) e n
-
-  -- where the next frame stands
-  pub next-place : {start len behind : ℕ} → r ≡ Line start len behind → (place ≤ start) × (start + len ≤ length s) × (0 < len)
-  next-place e = let q = leftmost (next-found (known-next e)) in (q .behind, q .stands .inside, positive (q .stands))
-
-module _ {k : ℕ} {s room room₀ : List ℕ} {at next place count within : ℕ} (c : Completes k s room room₀ at next place count within) (r : Listed) {later : List ℕ} (n : PutsNext k s place room₀ next r later) where
-  -- a line more
-  pub turned : {start len behind : ℕ} → r ≡ Line start len behind → Completes k s room later at behind (start + len) (count + 1) (within + len)
-  turned e =
-      let a = known-next r n e in
-      let h = next-place r n e in
-      let l = line-put a in
-      record {
-        place-in = h .1;
-        few = omega (arith, c .few, h .0, h .2);
-        within-place = omega (arith, c .within-place, h .0);
-        same = put-length (l .put) ∙ c .same;
-        whole = λ end to t x q. c .whole end to _ (found-line (next-found a) (l .right) x) (l .put then q);
-      }
-
-  -- where none is left the room is as it was, and the last line completes the listing
-  pub ended : {why : Refusal} {end : List ℕ} {behind : ℕ} → r ≡ NoLine why → known k ≡ true → Put later end next behind (lastLine count (length s - within))
-      → PutsLists k s room end at behind
-  ended {why} {end} {behind} e kn p =
-      let a = known-next r n e in
-      c .whole end behind _ (last-left (refused-none why kn (c .place-in) (none-found why a)))
-      (subst (λ (x : List ℕ). Put x end next behind (lastLine count (length s - within))) (room-kept why a) p)

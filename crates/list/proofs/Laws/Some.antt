@@ -19,8 +19,9 @@ use Rattle.frames.proofs.Theorems.{an-answer, in-order}
 use Rattle.messages.proofs.Theorems.{has-message}
 use Rattle.lines.specs.Paper.Line as paper
 use Rattle.list.specs.Paper.Listing.{Lines, none, line, inside, lastLine, Lists, Input, mostInput, refusedWith, Listing, bad-start, too-long, listed}
+use Rattle.list.specs.Work.Rest.{Rest}
 use Rattle.list.proofs.Laws.Inputs.{begins-or-not}
-use Rattle.list.proofs.Laws.Rest.{refused-none}
+use Rattle.list.proofs.Laws.Rest.{from-start, refused-none}
 
 -- at most so many bytes are left
 a-run : (most k : ℕ) (s : List ℕ) (place : ℕ) → known k ≡ true → place ≤ length s → length s < place + most → (hits : List Hit) × Run k s place hits
@@ -42,11 +43,17 @@ some-lines {s = s} (next {v = v} b q r) =
     let ts = some-lines r in
     (paper.line (v .start) (length (framePart s v)) (m .0) ++ ts .0, line {v = v} (record { message = m .0; stands = m .1; is = refl }) (ts .1))
 
+-- whatever was found before, something is left from a place on
+pub some-rest : (k : ℕ) (s : List ℕ) (place count within : ℕ) → known k ≡ true → place ≤ length s → (t : List ℕ) × Rest k s place count within t
+some-rest k s place count within kn h =
+    let r = a-run (suc (length s)) k s place kn h (omega arith) in
+    let ts = some-lines (in-order (r .1)) in (
+      ts .0 ++ lastLine (count + length (r .0)) (length s - (within + inside (r .0))),
+      record { frames = r .0; run = r .1; lines = ts .0; each = ts .1; is = refl },
+    )
+
 pub some-lists : (k : ℕ) (s : List ℕ) → known k ≡ true → (t : List ℕ) × Lists k s t
-some-lists k s kn =
-    let r = a-run (suc (length s)) k s 0 kn (omega arith) (omega arith) in
-    let ts = some-lines (in-order (r .1)) in
-    (ts .0 ++ lastLine (length (r .0)) (length s - inside (r .0)), record { frames = r .0; run = r .1; lines = ts .0; each = ts .1; is = refl })
+some-lists k s kn = let r = some-rest k s 0 0 0 kn (omega arith) in (r .0, from-start (r .1))
 
 pub some-listing : (s : List ℕ) → (t : List ℕ) × Listing s t
 some-listing s = go (begins-or-not s) (decLe (length s) mostInput)

@@ -3,7 +3,7 @@
 use mathlib.Core.Bool.{true, false}
 use mathlib.Core.List.{List, _++_, append-assoc}
 use mathlib.Core.Path.{_≡_, sym, ap, _∙_, subst}
-use Prim.Native.Nat.{ℕ, _-_, _≤_, _<_}
+use Prim.Native.Nat.{ℕ, _-_, _/_, _≤_, _<_}
 use native.Mathlib.Omega.{arith}
 use lib.Dec.{lit<}
 use lib.ListN.{length, getD}
@@ -13,19 +13,19 @@ use Rattle.digits.specs.Paper.Decimal.{decimal, decimalIn, enough}
 use Rattle.digits.specs.declared.refusal.Refusal.the-variants.{Room}
 use Rattle.digits.proofs.Laws.Parts.{part-rest}
 use Rattle.json.specs.Paper.Json.{number, further, object}
-use Rattle.puts.specs.Paper.Put.{Put}
-use Rattle.puts.specs.Paper.Wrote.{refused}
+use Rattle.puts.specs.Paper.Wrote.{refused, RoomCause, Writes}
+use Rattle.puts.specs.declared.Written.{Written}
 use Rattle.puts.specs.declared.Written.the-variants.{Bytes, Refused}
 use Rattle.puts.proofs.Laws.Sizes.{too-small, large-enough}
 use Rattle.puts.proofs.Laws.Sizes as sizes
 use Rattle.puts.proofs.Laws.Wrote.{wrote-by, too-short, room-for}
 use Rattle.list.specs.Paper.Answers.{WritesListing}
 use Rattle.list.specs.Paper.Listing.{lastLine, Lists, Input, mostInput, refusedWith, bad-start, too-long, listed}
-use Rattle.list.specs.Work.Rest.{PutsLists, PutsListing, Sized, Fits}
-use Rattle.list.proofs.Laws.Inputs.{digit, behind-start}
-use Rattle.list.proofs.Laws.One.{listing-one}
-use Rattle.list.proofs.Laws.Sizes.{listing-most}
-use Rattle.list.proofs.Laws.Some.{some-listing}
+use Rattle.list.specs.Work.Rest.{Listable, Fits, Roomy, PutsLists, WritesLists}
+use Rattle.list.proofs.Laws.Inputs.{digit, behind-start, kind-known}
+use Rattle.list.proofs.Laws.One.{lists-one}
+use Rattle.list.proofs.Laws.Sizes.{lists-most}
+use Rattle.list.proofs.Laws.Some.{some-lists}
 
 -- ---- the pieces of the last line
 
@@ -36,40 +36,45 @@ pub last-line : (n m : ℕ) → ascii "{\"frames\":" ++ (number n ++ (ascii ",\"
 unfolding object further
 last-line n m = sym (ap (λ (x : List ℕ). ascii "{\"frames\":" ++ x) (regroup (number n) (ascii ",\"skipped\":") (number m) (ascii "}") (ascii "\n")))
 
+-- ---- the listing of a capture
+
+module _ {k : ℕ} {s : List ℕ} where
+  -- a room of a size that no listing of so long a capture exceeds
+  pub always-fits : Listable k s → (n : ℕ) → 50 ≤ n → length s ≤ (n - 50) / 32 → Fits k s n true
+  always-fits l n h m = let t = some-lists k s (l .is-kind) in sizes.always-fits (t .0) (t .1) (omega (arith, lists-most (l .short) (t .1)))
+
+  pub roomy : {n : ℕ} → Fits k s n true → Roomy k s n
+  roomy f = record { each = λ t l. large-enough (λ a b. lists-one) f l }
+
+  pub refused-4 : {room : List ℕ} → Fits k s (length room) false → WritesLists k s room (Refused Room) room
+  refused-4 f = record { text = f .text; lists = f .right; written = refused (lit< tt) (too-short (too-small f)) }
+
+  pub all-written : {room later : List ℕ} {n : ℕ} → Fits k s (length room) true → PutsLists k s room later n → WritesLists k s room (Bytes n) later
+  all-written f p =
+      let l = roomy f .each (p .text) (p .lists) in
+      record { text = p .text; lists = p .lists; written = wrote-by (room-for l) (p .put) l }
+
 -- ---- the listing of an input
 
-module _ {s room later : List ℕ} {at next : ℕ} where
-  pub puts-2 : (Input s → ⊥) → Put room later at next (ascii "{\"refused\":2}\n") → PutsListing s room later at next
+module _ {s room later : List ℕ} (r : Written) where
+  pub wrote-2 : (Input s → ⊥) → Writes (RoomCause (length room) 14) (ascii "{\"refused\":2}\n") room r later → WritesListing s room r later
   unfolding object further decimal decimalIn enough
-  puts-2 f p = record { text = refusedWith 2; right = bad-start f; put = p }
+  wrote-2 f w = record { listing = refusedWith 2; lists = bad-start f; written = w }
 
-  pub puts-5 : Input s → mostInput < length s → Put room later at next (ascii "{\"refused\":5}\n") → PutsListing s room later at next
+  pub wrote-5 : Input s → mostInput < length s → Writes (RoomCause (length room) 14) (ascii "{\"refused\":5}\n") room r later → WritesListing s room r later
   unfolding object further decimal decimalIn enough
-  puts-5 i h p = record { text = refusedWith 5; right = too-long i h; put = p }
+  wrote-5 i h w = record { listing = refusedWith 5; lists = too-long i h; written = w }
 
+module _ {s : List ℕ} (i : Input s) (h : length s ≤ mostInput) where
   -- the capture, as the code takes it out of the input
-  pub puts-capture : Input s → length s ≤ mostInput → PutsLists (getD s 0 0 - 48) (part 2 (length s) s) room later at next → PutsListing s room later at next
-  puts-capture i h l =
+  taken-out : part 2 (length s) s ≡ i .capture
+  taken-out = part-rest 2 s ∙ behind-start i
+
+  pub listable : Listable (getD s 0 0 - 48) (part 2 (length s) s)
+  listable = record { is-kind = kind-known i; short = omega (arith, ap length taken-out, ap length (i .is)) }
+
+  pub wrote-capture : {room later : List ℕ} {r : Written} → WritesLists (getD s 0 0 - 48) (part 2 (length s) s) room r later → WritesListing s room r later
+  wrote-capture w =
       let k : getD s 0 0 - 48 ≡ i .kind = omega (arith, digit i) in
-      let e : part 2 (length s) s ≡ i .capture = part-rest 2 s ∙ behind-start i in
-      let x : Lists (i .kind) (part 2 (length s) s) (l .text) = subst (λ (n : ℕ). Lists n (part 2 (length s) s) (l .text)) k (l .right) in
-      record { text = l .text; right = listed i h (subst (λ (c : List ℕ). Lists (i .kind) c (l .text)) e x); put = l .put }
-
--- ---- its size
-
--- a place behind the listing in a room of any size
-pub measured : {s room later : List ℕ} {n : ℕ} → PutsListing s room later 0 n → Sized s n
-measured p = sizes.measured p (omega (arith, listing-most (p .right)))
-
-pub always-fits : (s : List ℕ) (n : ℕ) → 2097202 ≤ n → Fits s n true
-always-fits s n h = let l = some-listing s in sizes.always-fits (l .0) (l .1) (omega (arith, listing-most (l .1)))
-
--- ---- the answer
-
-pub refused-4 : {s room : List ℕ} → Fits s (length room) false → WritesListing s room (Refused Room) room
-refused-4 f = record { listing = f .text; lists = f .right; written = refused (lit< tt) (too-short (too-small f)) }
-
-pub all-written : {s room later : List ℕ} {n : ℕ} → Fits s (length room) true → PutsListing s room later 0 n → WritesListing s room (Bytes n) later
-all-written f p =
-    let l = large-enough (λ a b. listing-one) f (p .right) in
-    record { listing = p .text; lists = p .right; written = wrote-by (room-for l) (p .put) l }
+      let x : Lists (i .kind) (part 2 (length s) s) (w .text) = subst (λ (n : ℕ). Lists n (part 2 (length s) s) (w .text)) k (w .lists) in
+      record { listing = w .text; lists = listed i h (subst (λ (c : List ℕ). Lists (i .kind) c (w .text)) taken-out x); written = w .written }

@@ -15,7 +15,8 @@ use Rattle.lines.specs.Paper.Answers.{LineOf}
 -- "It prints a line a frame": t is the lines of these frames of the capture s; "`at` counts from the capture's start"
 pub data Lines (k : ℕ) (s : List ℕ) : List Hit → List ℕ → Type 0 where
   none : Lines k s [] []
-  line : {v : Hit} {later : List Hit} {t rest : List ℕ} → LineOf k (framePart s v) (v .start) t → Lines k s later rest
+  line : {v : Hit} {later : List Hit} {t rest : List ℕ} → LineOf k (framePart s v) (v .start) t
+      → Lines k s later rest
       → Lines k s (v ∷ later) (t ++ rest)
 
 -- how many bytes the frames have
@@ -25,9 +26,11 @@ inside (v ∷ later) = v .len + inside later
 
 -- "and a last line with the frames and the bytes in no frame"
 abbrev pub lastLine : ℕ → ℕ → List ℕ
-lastLine frames skipped = object (ascii "frames" ∶ number frames ∷ ascii "skipped" ∶ number skipped ∷ []) ++ ascii "\n"
+lastLine frames skipped =
+    object (ascii "frames" ∶ number frames ∷ ascii "skipped" ∶ number skipped ∷ []) ++ ascii "\n"
 
--- t lists the capture s: the lines of the frames that one search after the other finds from its start on, and the last line
+-- t lists the capture s: the lines of the frames that one search after the other finds from its start on, and the
+-- last line
 pub record Lists (k : ℕ) (s t : List ℕ) : Type 0 where
   pub frames : List Hit
   pub run : Run k s 0 frames
@@ -49,8 +52,8 @@ mostInput = 65536
 abbrev pub refusedWith : ℕ → List ℕ
 refusedWith n = object (ascii "refused" ∶ number n ∷ []) ++ ascii "\n"
 
--- t is the listing of the input s. "Bad or missing first two bytes print only `{"refused":2}`, else too long an input only
--- `{"refused":5}`."
+-- t is the listing of the input s. "Bad or missing first two bytes print only `{"refused":2}`, else too long an input
+-- only `{"refused":5}`."
 pub data Listing (s : List ℕ) : List ℕ → Type 0 where
   bad-start : (Input s → ⊥) → Listing s (refusedWith 2)
   too-long : Input s → mostInput < length s → Listing s (refusedWith 5)

@@ -1,16 +1,23 @@
--- A listing in pieces: what is left of it from a place of the capture on, and what is put of it.
+-- A listing in pieces: what is left of it from a place of the capture on, what is put of it, and how long it is.
 -- Assumes nothing.
-use mathlib.Core.Bool.{Bool}
+use mathlib.Core.Bool.{Bool, true}
 use mathlib.Core.List.{List, _++_}
 use mathlib.Core.Path.{_≡_}
 use Prim.Native.Nat.{ℕ, _+_, _-_, _≤_}
 use lib.ListN.{length}
+use Rattle.frames.specs.Paper.Kinds.{known}
 use Rattle.frames.specs.Paper.Runs.{Run}
 use Rattle.frames.specs.Paper.Search.{Hit}
-use Rattle.puts.specs.Paper.Put.{Put}
-use Rattle.puts.specs.Paper.Right.{PutsRight}
+use Rattle.puts.specs.Paper.Put.{Put, last}
+use Rattle.puts.specs.Paper.Wrote.{RoomCause, Writes}
 use Rattle.puts.specs.Work.Right.{SizedRight, FitsRight}
-use Rattle.list.specs.Paper.Listing.{Lines, inside, lastLine, Lists, Listing}
+use Rattle.puts.specs.declared.Written.{Written}
+use Rattle.list.specs.Paper.Listing.{Lines, inside, lastLine, Lists, mostInput}
+
+-- a capture that is listed: its kind is known, and it is not too long
+pub record Listable (k : ℕ) (s : List ℕ) : Type 0 where
+  pub is-kind : known k ≡ true
+  pub short : length s ≤ mostInput
 
 -- t is what is left behind `count` frames with `within` bytes: the lines of the frames that one search after the other finds from the
 -- place on, and the last line of all
@@ -21,30 +28,50 @@ pub record Rest (k : ℕ) (s : List ℕ) (place count within : ℕ) (t : List �
   pub each : Lines k s frames lines
   pub is : t ≡ lines ++ lastLine (count + length frames) (length s - (within + inside frames))
 
--- ---- what is put
-
--- the listing of a capture is put at a place of the room
-abbrev pub PutsLists : ℕ → List ℕ → List ℕ → List ℕ → ℕ → ℕ → Type 0
-PutsLists k s room later at next = PutsRight (Lists k s) room later at next
-
--- the listing of an input is
-abbrev pub PutsListing : List ℕ → List ℕ → List ℕ → ℕ → ℕ → Type 0
-PutsListing s room later at next = PutsRight (Listing s) room later at next
-
--- a loop's turns so far: whatever is left, put from here on, completes the listing of the capture
-pub record Completes (k : ℕ) (s room room₀ : List ℕ) (at next place count within : ℕ) : Type 0 where
+-- a loop's counts: so many frames with so many bytes lie before the place
+pub record Passed (s : List ℕ) (place count within : ℕ) : Type 0 where
   pub place-in : place ≤ length s
   pub few : count ≤ place
   pub within-place : within ≤ place
-  pub same : length room₀ ≡ length room
-  pub whole : (later : List ℕ) (behind : ℕ) (t : List ℕ) → Rest k s place count within t → Put room₀ later next behind t → PutsLists k s room later at behind
 
 -- ---- how long it is
 
--- the listing of an input has n bytes
-abbrev pub Sized : List ℕ → ℕ → Type 0
-Sized s n = SizedRight (Listing s) n
+-- the listing of a capture has n bytes
+abbrev pub Sized : ℕ → List ℕ → ℕ → Type 0
+Sized k s n = SizedRight (Lists k s) n
 
 -- r tells whether a room of n bytes has room for it
-abbrev pub Fits : List ℕ → ℕ → Bool → Type 0
-Fits s n r = FitsRight (Listing s) n r
+abbrev pub Fits : ℕ → List ℕ → ℕ → Bool → Type 0
+Fits k s n r = FitsRight (Lists k s) n r
+
+-- a room of n bytes has
+pub record Roomy (k : ℕ) (s : List ℕ) (n : ℕ) : Type 0 where
+  pub each : (t : List ℕ) → Lists k s t → length t ≤ n
+
+-- a loop's turns so far: with whatever is left, the listing is so long
+pub record Sums (k : ℕ) (s : List ℕ) (sum place count within : ℕ) : Type 0 where
+  pub passed : Passed s place count within
+  pub whole : (t : List ℕ) → Rest k s place count within t → Sized k s (sum + length t)
+
+-- ---- what is put
+
+-- the listing of a capture is put at the front of the room
+pub record PutsLists (k : ℕ) (s room later : List ℕ) (next : ℕ) : Type 0 where
+  pub text : List ℕ
+  pub lists : Lists k s text
+  pub put : Put room later 0 next text
+
+-- a loop's turns so far: the room has room for whatever is left, and that, put from here on, completes the listing
+pub record Completes (k : ℕ) (s room room₀ : List ℕ) (next place count within : ℕ) : Type 0 where
+  pub passed : Passed s place count within
+  pub slice : length room ≤ last
+  pub same : length room₀ ≡ length room
+  pub enough : (t : List ℕ) → Rest k s place count within t → next + length t ≤ length room
+  pub whole : (later : List ℕ) (behind : ℕ) (t : List ℕ) → Rest k s place count within t
+      → Put room₀ later next behind t → PutsLists k s room later behind
+
+-- r is the right answer, and `later` the right room afterwards, of a call that writes the listing of a capture
+pub record WritesLists (k : ℕ) (s room : List ℕ) (r : Written) (later : List ℕ) : Type 0 where
+  pub text : List ℕ
+  pub lists : Lists k s text
+  pub written : Writes (RoomCause (length room) (length text)) text room r later

@@ -4,12 +4,15 @@ use mathlib.Core.Path.{_≡_, refl, sym, _∙_, ap, subst}
 use mathlib.Core.List.{List, [], _∷_, append-assoc}
 use Prim.Native.Nat.{ℕ, _≤_}
 use native.Mathlib.Omega.{arith}
+use denote.Ref.{RefT, now}
 use lib.ListN.{length}
 use Rattle.digits.specs.Paper.Bytes.{part}
-use Rattle.digits.specs.Paper.Refusals.{refusalNumber, order, First, clear, here, after, answers, refuses}
+use Rattle.digits.specs.Paper.Part.{zeroEnds, IsPart}
+use Rattle.digits.specs.Paper.Refusals.{refusalNumber, order, First, clear, here, after}
 use Rattle.digits.specs.declared.refusal.Refusal.{Refusal}
+use Rattle.digits.proofs.Laws.Handed.{same-ends, hands-right, hands-none}
 use Rattle.digits.proofs.Laws.Parts.{part-middle}
-use Rattle.digits.proofs.Laws.Refusals.{answered, cause-of, some-number}
+use Rattle.digits.proofs.Laws.Refusals.{answered, cause-of}
 use Rattle.layouts.specs.Paper.Layout.{Layout, bytesOf}
 use Rattle.layouts.specs.Paper.Layout as layout
 use Rattle.frames.specs.Paper.Kinds.{layoutOf, Frame}
@@ -109,15 +112,22 @@ module _ {k : ℕ} {f : List ℕ} where
           to-is = ends-at ∙ sym (ap payloadTo same);
         }
 
-    -- content: that part
-    pub contents-part : First (WholeCause k f) order 0 → Contents k f (part from to f)
-    contents-part c =
-        let same : contentOf (look its) ≡ its = reads its its-fit .same in
-        record { number = 0; answer = answers (first-decode c) (look its, stands-in (o .frame), the-part ∙ sym (ap payloadIn same)) }
+-- content: that part of the frame
+module _ {k : ℕ} {s r : RefT (List ℕ)} where
+  pub contents-part : {from to : ℕ} → Payloaded k (now s) from to → First (WholeCause k (now s)) order 0 → IsPart s (record { from = from; to = to }) r
+      → Contents k s r
+  contents-part o c i =
+      let same : contentOf (look (its o)) ≡ its o = reads (its o) (its-fit o) .same in
+      hands-right (first-decode c) (
+        look (its o),
+        stands-in (o .frame),
+        same-ends (starts-at o ∙ sym (ap payloadFrom same)) (ends-at o ∙ sym (ap payloadTo same)),
+      )
+      i
 
   -- refused
-  pub contents-nothing : (why : Refusal) → First (WholeCause k f) order (refusalNumber why) → Contents k f []
-  contents-nothing why c = record { number = refusalNumber why; answer = refuses (some-number why) (first-decode c) }
+  pub contents-nothing : (why : Refusal) → First (WholeCause k (now s)) order (refusalNumber why) → IsPart s zeroEnds r → Contents k s r
+  contents-nothing why c = hands-none why (first-decode c)
 
 -- what is tested of the whole, case by case
 module _ {k : ℕ} {f : List ℕ} {r : Whole} (a : TestsWhole k f r) where

@@ -1,12 +1,11 @@
 -- Frames and contents: every frame has a content within its limits, such a content makes a frame, and the same bytes have one content.
 -- Assumes nothing.
 use mathlib.Core.List.{List}
-use mathlib.Core.Path.{_≡_, refl, sym, _∙_, ap, subst}
+use mathlib.Core.Path.{_≡_, refl, _∙_, ap}
 use Prim.Native.Nat.{ℕ}
 use Rattle.checks.specs.Paper.Buses.{nikobusCrc8}
 use Rattle.checks.specs.Paper.Check.{check}
 use Rattle.layouts.proofs.Laws.Made.{link-fit, nest-fit, nibe-fit, homiq-fit}
-use Rattle.layouts.proofs.Theorems.{one-nikobus, one-nest, one-nibe, one-homiq}
 use Rattle.layouts.specs.Paper.Layout.{bytesOf}
 use Rattle.layouts.specs.Paper.Layout as layout
 use Rattle.layouts.specs.Paper.Homiq as homiqs
@@ -15,7 +14,7 @@ use Rattle.layouts.specs.Paper.Nest as nests
 use Rattle.layouts.specs.Paper.Nibe as nibes
 use Rattle.layouts.specs.Paper.Nikobus as nikobuses
 use Rattle.layouts.specs.declared.nest.Direction.the-variants.{Command, Response}
-use Rattle.frames.proofs.Laws.Kinds.{one-kind, as-frame}
+use Rattle.frames.proofs.Laws.Kinds.{one-reading, as-frame}
 use Rattle.frames.specs.Paper.Kinds.{numberOf, layoutOf, Frame}
 use Rattle.frames.specs.Paper.Kinds as kinds
 use Rattle.frames.specs.declared.kinds.Kind.{Kind}
@@ -100,15 +99,6 @@ fit-in NestResponse m l = nest-fits m l
 fit-in Nibe m l = nibe-fit (m .command) (m .content) (l .command) (l .short) (l .bytes)
 fit-in Homiq m l = homiq-fit (wireOf m) (m .crc) l
 
--- no two fields have the same bytes
-one-fields : (kind : Kind) (m n : layoutOf kind .Fields) → layoutOf kind .Limits m → layoutOf kind .Limits n
-    → bytesOf (layoutOf kind) m ≡ bytesOf (layoutOf kind) n → m ≡ n
-one-fields Nikobus m n f g e = one-nikobus m n f g e
-one-fields NestCommand m n f g e = one-nest Command m n f g e
-one-fields NestResponse m n f g e = one-nest Response m n f g e
-one-fields Nibe m n f g e = one-nibe m n e
-one-fields Homiq m n f g e = one-homiq m n f g e
-
 -- ---- and what follows for every kind
 
 module _ {k : ℕ} {f : List ℕ} (r : Frame k f) where
@@ -126,13 +116,7 @@ module _ {k : ℕ} {f : List ℕ} (r : Frame k f) where
 
 -- THE SAME BYTES SAY ONE THING
 pub one-content : {k : ℕ} {f : List ℕ} (r q : Frame k f) → contentAt r ≡ contentAt q
-one-content {f = f} r q = go (r .kind) (q .kind) (one-kind (r .kind) (q .kind) (r .number ∙ sym (q .number))) (r .frame) (q .frame)
-  where
-    go : (a b : Kind) → a ≡ b → (x : layout.Frame (layoutOf a) f) (y : layout.Frame (layoutOf b) f)
-        → contentIn a (x .form .fields) ≡ contentIn b (y .form .fields)
-    go a b e x =
-        subst (λ (b : Kind). (y : layout.Frame (layoutOf b) f) → contentIn a (x .form .fields) ≡ contentIn b (y .form .fields)) e
-        (λ y. ap (contentIn a) (one-fields a (x .form .fields) (y .form .fields) (x .form .limits) (y .form .limits) (sym (x .form .laid) ∙ y .form .laid)))
+one-content = one-reading contentIn
 
 -- A CONTENT WITHIN ITS LIMITS MAKES A FRAME, and that says it
 abbrev pub frame-of : (c : Content) → Fit c → Frame (numberOf (kindOf c)) (laid c)

@@ -4,20 +4,24 @@ use mathlib.Core.Bool.{Bool, true, false, cond, _&&_}
 use mathlib.Core.List.{List, [], _∷_, _++_}
 use mathlib.Core.Path.{_≡_, refl, sym, _∙_, ap, subst}
 use Prim.Native.Nat.{ℕ, zero, suc, _+_, _-_, _≤_, _<_}
+use native.Mathlib.Decide.{decLe}
 use native.Mathlib.Omega.{arith}
 use borrow.Author.Tests.{eq-eqb, ne-eqb}
 use lib.Dec.{eqb}
-use lib.ListN.{length, getD, take, drop, drop-of-length-le, length-append, take-append-drop}
+use denote.Ref.{RefT, now}
+use lib.ListN.{length, getD, take, drop, drop-of-length-le, length-append, length-drop, take-append-drop}
 use lib.Seq.{take-append-seam, drop-append-seam, drop-drop}
 use Rattle.digits.proofs.Laws.Decimal.{decimal-inj}
+use Rattle.digits.proofs.Laws.Handed.{same-ends}
 use Rattle.digits.proofs.Laws.Parts.{part-front, part-rest, next}
 use Rattle.digits.proofs.Unique.{test}
 use Rattle.digits.specs.Paper.Ascii.{ascii}
 use Rattle.digits.specs.Paper.Bytes.{part}
 use Rattle.digits.specs.Paper.Decimal.{decimal}
+use Rattle.digits.specs.Paper.Part.{Ends, IsPart}
 use Rattle.digits.specs.Paper.Read.{Tells, holds, fails}
 use Rattle.layouts.specs.Paper.Chars.{oneOf}
-use Rattle.messages.specs.Paper.Homiq.{upTo, past, fieldAt}
+use Rattle.messages.specs.Paper.Homiq.{upTo, past, fieldAt, fieldsFrom, fieldEnds}
 use Rattle.messages.specs.Paper.Table.{Numbered, Letter}
 use Rattle.messages.specs.Work.Homiq.{same, isNumbered, isLetter, whichOf}
 use Rattle.messages.specs.declared.homiq.Homiq.the-variants.{Output, Input, Shutter, Beat, Homiq as Rest}
@@ -60,40 +64,88 @@ past-field (x ∷ s) = go (eqb x 59) (past-field s)
     go false e = e
 
 -- there is none behind the last
-field-none : (n : ℕ) → fieldAt n [] ≡ []
-unfolding fieldAt upTo past
-field-none zero = refl
-field-none (suc n) = field-none n
+rest-none : (n : ℕ) → fieldsFrom n [] ≡ []
+unfolding fieldsFrom past
+rest-none zero = refl
+rest-none (suc n) = rest-none n
+
+-- a field stands at the front of what is left
+field-first : (n : ℕ) (s : List ℕ) → fieldAt n s ≡ upTo (fieldsFrom n s)
+unfolding fieldAt fieldsFrom
+field-first zero s = refl
+field-first (suc n) s = field-first n (past s)
+
+-- and what is left stands at the end
+left-place : (n : ℕ) (s : List ℕ) → (i : ℕ) × (fieldsFrom n s ≡ drop i s)
+unfolding fieldsFrom
+left-place zero s = (0, refl)
+left-place (suc n) s =
+    let e = left-place n (past s) in
+    let m = suc (length (upTo s)) in
+    (m + e .0, e .1 ∙ ap (drop (e .0)) (past-field s) ∙ drop-drop (e .0) m s)
+
+at-end : (i : ℕ) (s : List ℕ) → drop (length s - length (drop i s)) s ≡ drop i s
+at-end i s = go (decLe i (length s))
+  where
+    go : Dec (i ≤ length s) → drop (length s - length (drop i s)) s ≡ drop i s
+    go (yes h) = let e : length s - length (drop i s) ≡ i = omega (arith, length-drop i s) in ap (λ (j : ℕ). drop j s) e
+    go (no h) =
+        let l : length s ≤ i = omega arith in
+        let k : length s ≤ length s - length (drop i s) = omega (arith, length-drop i s) in
+        drop-of-length-le s k ∙ sym (drop-of-length-le s l)
+
+left-is : (n : ℕ) (s : List ℕ) → drop (length s - length (fieldsFrom n s)) s ≡ fieldsFrom n s
+left-is n s =
+    let e = left-place n s in
+    ap (λ (t : List ℕ). drop (length s - length t) s) (e .1) ∙ at-end (e .0) s ∙ sym (e .1)
+
+-- the field's bytes are those between its ends
+pub field-bytes : (n : ℕ) {s r : RefT (List ℕ)} → IsPart s (fieldEnds n (now s)) r → now r ≡ fieldAt n (now s)
+field-bytes n {s} i = i .bytes ∙ between n (now s)
+  where
+    between : (n : ℕ) (s : List ℕ) → part (fieldEnds n s .from) (fieldEnds n s .to) s ≡ fieldAt n s
+    between n s =
+        let from = length s - length (fieldsFrom n s) in
+        let e : from + length (fieldAt n s) - from ≡ length (fieldAt n s) = omega arith in
+        ap (λ (j : ℕ). take j (drop from s)) e ∙ ap (take (length (fieldAt n s))) (left-is n s)
+        ∙ ap (λ (t : List ℕ). take (length t) (fieldsFrom n s)) (field-first n s) ∙ field-front (fieldsFrom n s) ∙ sym (field-first n s)
 
 -- the loop over the fields: one begins at a place and ends at another, and so many are to be passed
 module _ (s : List ℕ) (from end left : ℕ) (is : end ≡ from + length (upTo (drop from s))) where
-  pub field-next : 0 < left → fieldAt (left - 1) (drop (end + 1) s) ≡ fieldAt left (drop from s)
-  unfolding fieldAt
+  pub field-next : 0 < left → fieldsFrom (left - 1) (drop (end + 1) s) ≡ fieldsFrom left (drop from s)
+  unfolding fieldsFrom
   field-next h = go left h
     where
-      go : (n : ℕ) → 0 < n → fieldAt (n - 1) (drop (end + 1) s) ≡ fieldAt n (drop from s)
+      go : (n : ℕ) → 0 < n → fieldsFrom (n - 1) (drop (end + 1) s) ≡ fieldsFrom n (drop from s)
       go zero h = absurd (omega arith)
       go (suc n) h =
           let k : suc n - 1 ≡ n = omega arith in
           let e : end + 1 ≡ from + suc (length (upTo (drop from s))) = omega arith in
           rw k
-          (ap (fieldAt n)
+          (ap (fieldsFrom n)
           (ap (λ (i : ℕ). drop i s) e ∙ sym (drop-drop (suc (length (upTo (drop from s)))) from s) ∙ sym (past-field (drop from s))))
 
-  -- it ends where the list does: the next would be empty
-  pub field-out : 0 < left → length s ≤ end → part end end s ≡ fieldAt left (drop from s)
-  field-out h k =
-      let z : end - end ≡ 0 = omega arith in
-      let l : length s ≤ end + 1 = omega arith in
-      ap (λ (n : ℕ). take n (drop end s)) z ∙ sym (field-none (left - 1)) ∙ ap (fieldAt (left - 1)) (sym (drop-of-length-le s l)) ∙ field-next h
+  module _ (number : ℕ) (found : fieldsFrom left (drop from s) ≡ fieldsFrom number s) where
+    -- it ends where the list does: nothing is left
+    pub field-out : 0 < left → length s ≡ end → _≡_ {A = Ends} (record { from = end; to = end }) (fieldEnds number s)
+    unfolding upTo
+    field-out h k =
+        let l : length s ≤ end + 1 = omega arith in
+        let e : fieldsFrom number s ≡ [] = sym found ∙ sym (field-next h) ∙ ap (fieldsFrom (left - 1)) (drop-of-length-le s l) ∙ rest-none (left - 1) in
+        let none : fieldAt number s ≡ [] = field-first number s ∙ ap upTo e in
+        let x : length (fieldsFrom number s) ≡ 0 = ap length e in
+        let y : length (fieldAt number s) ≡ 0 = ap length none in
+        same-ends (omega arith) (omega arith)
 
-  -- none is to be passed
-  pub field-is : left ≤ 0 → part from end s ≡ fieldAt left (drop from s)
-  unfolding fieldAt
-  field-is h =
-      let z : left ≡ 0 = omega arith in
-      let e : end - from ≡ length (upTo (drop from s)) = omega arith in
-      rw (z, e) (field-front (drop from s))
+    -- none is to be passed
+    pub field-is : left ≤ 0 → from ≤ length s → _≡_ {A = Ends} (record { from = from; to = end }) (fieldEnds number s)
+    unfolding fieldsFrom
+    field-is h k =
+        let z : left ≡ 0 = omega arith in
+        let e : drop from s ≡ fieldsFrom number s = subst (λ (n : ℕ). fieldsFrom n (drop from s) ≡ fieldsFrom number s) z found in
+        let x : length (drop from s) ≡ length (fieldsFrom number s) = ap length e in
+        let y : length (upTo (drop from s)) ≡ length (fieldAt number s) = ap (λ (t : List ℕ). length (upTo t)) e ∙ sym (ap length (field-first number s)) in
+        same-ends (omega (arith, length-drop from s)) (omega (arith, length-drop from s))
 
 -- ---- a mark and a number
 

@@ -1,5 +1,7 @@
 -- `messages::content` meets its contract: where the whole is one frame, the part is its payload.
 -- Assumes nothing.
+use mathlib.Core.Path.{refl}
+use native.Mathlib.Nat.{sub-self}
 use borrow.Author.Needs.{needs}
 use Rattle.messages.proofs.Laws.Decode.{inside, contents-part, contents-nothing, one-frame, no-first, first-of}
 use Rattle.messages.proofs.content.Statement.{statement}
@@ -18,10 +20,13 @@ returns : tie.Need-returns
 returns c =
     let a = c .before .before .before .before .one-frame .ensures in
     let e = c .before .before .from .given .1 in
-    contents-part (one-frame a e) (no-first a e)
+    contents-part (one-frame a e) (no-first a e) (record { bytes = refl; place = refl })
 
+-- `sub-self`: a part from any place to itself is empty, so that only its place tells a wrong one
 returns-2 : tie.Need-returns-2
-returns-2 c = contents-nothing (c .before .before .why .given .0 .0) (first-of (c .before .before .before .before .one-frame .ensures) (c .before .before .why .given .1))
+returns-2 c =
+    let a = c .before .before .before .before .one-frame .ensures in
+    contents-nothing (c .before .before .why .given .0 .0) (first-of a (c .before .before .why .given .1)) (record { bytes = search (needs, sub-self); place = refl })
 
 pub content-spec : {M : Type 1} → statement M
 content-spec =
@@ -32,6 +37,8 @@ content-spec =
     sub-result
     part-result-start
     part-result-end
+    (λ c. search needs)
+    (λ c. search needs)
     (λ c. search needs)
     (λ c. search needs)
     returns

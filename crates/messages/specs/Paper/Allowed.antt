@@ -1,5 +1,5 @@
--- 01: "Link, text, response, nibe and homiq may not be encoded with a content that a message above them in the table has". The promise of
--- `allowed`: whether a message, with what stands beside it, is one of the table.
+-- 01: "Link, text, response, nibe and homiq may not be encoded with a content that a message above them in the table
+-- has". The promise of `allowed`: whether a message, with what stands beside it, is one of the table.
 -- Assumes nothing.
 use mathlib.Core.List.{List}
 use Prim.Native.Nat.{ℕ}
@@ -11,8 +11,8 @@ use Rattle.messages.specs.declared.Message.{Message as Coded}
 use Rattle.messages.specs.declared.Standing.{Standing}
 use Rattle.messages.specs.declared.Standing.the-variants.{Good as InTable, Refused}
 
--- why the message that is meant is none of the table. 5: "a field .. outside its limits", "not held by its width"; 6: "a message with the
--- content of one above it in the table"
+-- why the message that is meant is none of the table. 5: "a field .. outside its limits", "not held by its width"; 6:
+-- "a message with the content of one above it in the table"
 pub data StandingCause (Means : Message → Type 0) : ℕ → Type 0 where
   outside : ((m : Message) → Means m → Limits m → ⊥) → StandingCause Means 5
   taken : {m : Message} → Means m → Above m → StandingCause Means 6

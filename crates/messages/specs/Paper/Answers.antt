@@ -1,14 +1,15 @@
 -- The promises: decode, the content beside a message, and find.
 -- Assumes nothing.
 use mathlib.Core.Bool.{false}
-use mathlib.Core.List.{List, []}
+use mathlib.Core.List.{List}
 use mathlib.Core.Option.{Option, none, some}
 use mathlib.Core.Path.{_≡_}
 use Prim.Native.Nat.{ℕ, _-_}
+use denote.Ref.{RefT, now}
+use Rattle.digits.specs.Paper.Part.{Ends, zeroEnds, HandsPart}
 use Rattle.digits.specs.Paper.Refusals.{refusalNumber, Answers}
 use Rattle.frames.specs.Paper.Kinds.{known, Frame}
 use Rattle.frames.specs.Paper.Search.{Hit, zeroHit, Leftmost, SearchCause, framePart}
-use Rattle.frames.specs.Paper.Whole.{Ends, zeroEnds}
 use Rattle.messages.specs.Paper.Content.{contentAt, payloadIn, payloadFrom, payloadTo}
 use Rattle.messages.specs.Paper.Message.{Message}
 use Rattle.messages.specs.Paper.Says.{Says}
@@ -60,17 +61,22 @@ DecodedTo k f v = (e : Coded) × (v .0 ≡ some e) × Said k f e (v .1 .from) (v
 abbrev pub Decodes : ℕ → List ℕ → Decoded → Type 0
 Decodes k f r = Answers zeroDecoded (DecodeCause k f) (DecodedTo k f) (decodedNumber r) (decodedValue r)
 
--- ---- content: what stands beside the message of a frame, "handed back as that part of the caller's buffer"; empty where refused
+-- ---- content: what stands beside the message of a frame, "handed back as that part of the caller's buffer"
 
-pub record Contents (k : ℕ) (f p : List ℕ) : Type 0 where
-  pub number : ℕ
-  pub answer : Answers [] (DecodeCause k f)
-      (λ q. (m : Message) × (Stands k f m) × (q ≡ payloadIn (contentOf m))) number p
+-- where the payload of a message's frame begins and ends
+abbrev pub contentEnds : Message → Ends
+contentEnds m = record { from = payloadFrom (contentOf m); to = payloadTo (contentOf m) }
+
+-- r is that part of the frame
+abbrev pub Contents : ℕ → RefT (List ℕ) → RefT (List ℕ) → Type 0
+Contents k frame r =
+    HandsPart (DecodeCause k (now frame))
+    (λ e. (m : Message) × (Stands k (now frame) m) × (e ≡ contentEnds m)) frame r
 
 -- ---- find: the search and the decoder in one
 
--- the refusal number and the values of an answer: the message of the frame that is found, and what the search finds; of a refusal none,
--- and zeros
+-- the refusal number and the values of an answer: the message of the frame that is found, and what the search finds;
+-- of a refusal none, and zeros
 abbrev pub seenNumber : Seen → ℕ
 seenNumber (At start len from to e) = 0
 seenNumber (Unseen why) = refusalNumber why

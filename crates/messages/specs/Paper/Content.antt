@@ -11,7 +11,8 @@ use Rattle.frames.specs.Paper.Kinds.{layoutOf, Frame}
 use Rattle.frames.specs.declared.kinds.Kind.{Kind}
 use Rattle.frames.specs.declared.kinds.Kind.the-variants.{Nikobus, NestCommand, NestResponse, Nibe, Homiq}
 
--- a link's bytes, a press's digits, a tail; the id and the payload of a command or a response; Nibe's command and data; Homiq's six fields
+-- a link's bytes, a press's digits, a tail; the id and the payload of a command or a response; Nibe's command and
+-- data; Homiq's six fields
 pub data Content : Type 0 where
   link : (payload : List ℕ) → Content
   press : (digits : List ℕ) → Content

@@ -85,4 +85,5 @@ meantValue (Refused why) = noneMeant
 -- r is the right answer
 abbrev pub Means : (Content → Type 0) → Meant → Type 0
 Means With r =
-    Answers noneMeant (MeantCause With) (λ v. (e : Coded) × (v ≡ some e) × MessageWith With e) (meantNumber r) (meantValue r)
+    Answers noneMeant (MeantCause With) (λ v. (e : Coded) × (v ≡ some e) × MessageWith With e) (meantNumber r)
+    (meantValue r)

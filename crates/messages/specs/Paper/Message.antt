@@ -7,8 +7,8 @@ use lib.IntN.{ℤ}
 use Rattle.digits.specs.Paper.Ascii.{ascii}
 use Rattle.layouts.specs.Paper.Made.{Wire}
 
--- The messages of the table, in its order, with their fields. (`data` is a word of the language: what the listing calls so is a
--- `payload` or a `content` here.) Homiq's messages all have the six fields from CMD to TYPE.
+-- The messages of the table, in its order, with their fields. (`data` is a word of the language: what the listing
+-- calls so is a `payload` or a `content` here.) Homiq's messages all have the six fields from CMD to TYPE.
 pub data Message : Type 0 where
   read : (group address : ℕ) → Message
   set : (group address : ℕ) (out : List ℕ) → Message

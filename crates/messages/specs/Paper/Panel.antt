@@ -10,7 +10,7 @@ use lib.ListN.{length}
 use Rattle.digits.specs.Paper.Refusals.{refusalNumber, Answers}
 use Rattle.numbers.specs.Paper.Panel.{ClimatePair}
 use Rattle.numbers.specs.declared.panel.Climate.{Climate as Counts}
-use Rattle.messages.specs.Paper.Table.{vIn, vOp, vBat}
+use Rattle.messages.specs.Paper.Table.{leastState, vIn, vOp, vBat}
 use Rattle.messages.specs.declared.nest.Pair.{Pair}
 use Rattle.messages.specs.declared.nest.Pair.the-variants.{Is, Refused}
 use Rattle.messages.specs.declared.nest.Response.{Response}
@@ -50,7 +50,7 @@ ShowsPair e r = Answers zeroCounts (PairCause e) (PairOf e) (pairNumber r) (pair
 
 -- 5: "16 bytes or more"
 pub data VoltsCause (p : List ℕ) : ℕ → Type 0 where
-  short : length p < 16 → VoltsCause p 5
+  short : length p < leastState → VoltsCause p 5
 
 pub record Voltages : Type 0 where
   pub vIn : ℕ

@@ -8,14 +8,19 @@ use Rattle.digits.specs.Paper.Hex.{hexBytes}
 use Rattle.layouts.specs.Paper.Made.{Wire, Payload}
 use Rattle.frames.specs.declared.kinds.Kind.{Kind}
 use Rattle.frames.specs.declared.kinds.Kind.the-variants as kinds
-use Rattle.messages.specs.Paper.Message.{Message, read, set, answer, press, tail, link, command, climate, state, break, end, text, response, ask, reply, put, done, nibe, output, input, shutter, beat, homiq}
+use Rattle.messages.specs.Paper.Message.{Message, read, set, answer, press, tail, link, command, climate}
+use Rattle.messages.specs.Paper.Message.{state, break, end, text, response, ask, reply, put, done, nibe}
+use Rattle.messages.specs.Paper.Message.{output, input, shutter, beat, homiq}
 use Rattle.messages.specs.declared.Message.{Message as Coded}
-use Rattle.messages.specs.declared.Message.the-variants.{Nikobus as OnNikobus, Command, Response as AsResponse, Nibe as OnNibe, Homiq as OnHomiq}
+use Rattle.messages.specs.declared.Message.the-variants.{Nikobus as OnNikobus, Command}
+use Rattle.messages.specs.declared.Message.the-variants.{Response as AsResponse, Nibe as OnNibe}
+use Rattle.messages.specs.declared.Message.the-variants.{Homiq as OnHomiq}
 use Rattle.messages.specs.declared.nikobus.Six.{Six}
 use Rattle.messages.specs.declared.nikobus.Nikobus.{Nikobus}
 use Rattle.messages.specs.declared.nikobus.Nikobus.the-variants.{Read, Set, Answer, Press, Tail, Link}
 use Rattle.messages.specs.declared.nest.Response.{Response}
-use Rattle.messages.specs.declared.nest.Response.the-variants.{Climate, State, Break, End, Text, Response as Other}
+use Rattle.messages.specs.declared.nest.Response.the-variants.{Climate, State, Break, End, Text}
+use Rattle.messages.specs.declared.nest.Response.the-variants.{Response as Other}
 use Rattle.messages.specs.declared.nibe.Nibe.{Nibe}
 use Rattle.messages.specs.declared.nibe.Nibe.the-variants.{Ask, Reply, Put, Done, Nibe as Plain}
 use Rattle.messages.specs.declared.homiq.Homiq.{Homiq}
@@ -62,7 +67,8 @@ ofHomiq Rest w = homiq w
 pub data SaysNikobus : Nikobus → List ℕ → Message → Type 0 where
   digits : {s p : List ℕ} {m : Message} {e : Nikobus} → e ≡ Link → Bytes p → s ≡ hexBytes p → m ≡ link p
       → SaysNikobus e s m
-  fixed : {s : List ℕ} {m : Message} {e : Nikobus} → (e ≡ Link → ⊥) → m ≡ ofNikobus e [] → SaysNikobus e s m
+  fixed : {s : List ℕ} {m : Message} {e : Nikobus} → (e ≡ Link → ⊥) → m ≡ ofNikobus e []
+      → SaysNikobus e s m
 
 -- m is a Homiq message with s beside it: CMD to TYPE
 pub record SaysHomiq (e : Homiq) (s : List ℕ) (m : Message) : Type 0 where

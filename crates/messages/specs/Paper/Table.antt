@@ -1,4 +1,5 @@
--- 01, "Search, messages, commands": the table. A message's line gives the content of its frame; its bytes are those of the layout.
+-- 01, "Search, messages, commands": the table. A message's line gives the content of its frame; its bytes are those
+-- of the layout.
 -- Assumes nothing.
 use mathlib.Core.Bool.{true, cond}
 use mathlib.Core.List.{List, [], _∷_, _++_}
@@ -10,15 +11,19 @@ use lib.ListN.{length, getD}
 use Rattle.digits.specs.Paper.Ascii.{ascii}
 use Rattle.digits.specs.Paper.Bytes.{Bytes}
 use Rattle.digits.specs.Paper.Decimal.{decimal}
-use Rattle.digits.specs.Paper.LowFirst.{Held, lowFirst}
+use Rattle.digits.specs.Paper.LowFirst.{Held, SixteenBits, lowFirst}
 use Rattle.numbers.specs.Paper.ByteValues.{Holds, valueBytes}
 use Rattle.layouts.specs.Paper.Chars.{all, isHex, oneOf}
 use Rattle.layouts.specs.Paper.Homiq as homiqs
 use Rattle.layouts.specs.Paper.Made.{Wire, homiqOf}
-use Rattle.layouts.specs.Paper.Nibe.{commands}
+use Rattle.layouts.specs.Paper.Nest as nests
+use Rattle.layouts.specs.Paper.Nibe as nibes
+use Rattle.layouts.specs.Paper.Nikobus as nikobuses
 use Rattle.messages.specs.Paper.Content.{Content, laid}
 use Rattle.messages.specs.Paper.Content as content
-use Rattle.messages.specs.Paper.Message.{Message, read, set, answer, press, tail, link, command, climate, state, break, end, text, response, ask, reply, put, done, nibe, output, input, shutter, beat, homiq, row}
+use Rattle.messages.specs.Paper.Message.{Message, read, set, answer, press, tail, link, command, climate}
+use Rattle.messages.specs.Paper.Message.{state, break, end, text, response, ask, reply, put, done, nibe}
+use Rattle.messages.specs.Paper.Message.{output, input, shutter, beat, homiq, row}
 
 -- "payload 12 or 17 (group 1, 2)", "15 or 16 (group 1, 2)": the code of a group
 abbrev pub codeOf : ℕ → ℕ → ℕ → ℕ
@@ -69,11 +74,15 @@ pub record SixBytes (out : List ℕ) : Type 0 where
   pub six : length out ≡ 6
   pub bytes : Bytes out
 
--- "1 to 122 bytes"; "payload 0 to 1,024 bytes"; the length of Nibe's data is one byte
+-- so many bytes: a payload or data, within the limits of its layout
 pub record Sized (least most : ℕ) (p : List ℕ) : Type 0 where
   pub enough : least ≤ length p
   pub short : length p ≤ most
   pub bytes : Bytes p
+
+-- "id 000B, 16 bytes or more"
+abbrev pub leastState : ℕ
+leastState = 16
 
 -- "id 0001, 0018 or 0019"
 abbrev pub textIds : List ℕ
@@ -97,26 +106,26 @@ pub record Sends (Cmd Val : List ℕ → Type 0) (w : Wire) : Type 0 where
   pub cmd : Cmd (w .cmd)
   pub val : Val (w .val)
 
--- each message's limits
+-- each message's limits: those of its layout, and of the table; addresses and registers have 16 bits
 abbrev pub Limits : Message → Type 0
-Limits (read g a) = Group g × (a < 65536)
-Limits (set g a out) = Group g × (a < 65536) × SixBytes out
-Limits (answer a third out) = (a < 65536) × (third < 256) × SixBytes out
-Limits (press d) = (length d ≡ 6) × T (all isHex d)
+Limits (read g a) = Group g × SixteenBits a
+Limits (set g a out) = Group g × SixteenBits a × SixBytes out
+Limits (answer a third out) = SixteenBits a × (third < 256) × SixBytes out
+Limits (press d) = (length d ≡ nikobuses.pressDigits) × T (all isHex d)
 Limits tail = Unit
-Limits (link p) = Sized 1 122 p
-Limits (command i p) = (i < 65536) × Sized 0 1024 p
-Limits (climate t h) = Holds 2 true t × (h < 65536)
-Limits (state p) = Sized 16 1024 p
+Limits (link p) = Sized nikobuses.leastPayload nikobuses.mostPayload p
+Limits (command i p) = SixteenBits i × Sized nests.leastPayload nests.mostPayload p
+Limits (climate t h) = Holds 2 true t × SixteenBits h
+Limits (state p) = Sized leastState nests.mostPayload p
 Limits break = Unit
 Limits end = Unit
-Limits (text i p) = T (oneOf textIds i) × Sized 0 1024 p
-Limits (response i p) = (i < 65536) × Sized 0 1024 p
-Limits (ask r) = r < 65536
-Limits (reply r w v) = (r < 65536) × Held w v
-Limits (put r w v) = (r < 65536) × Held w v
+Limits (text i p) = T (oneOf textIds i) × Sized nests.leastPayload nests.mostPayload p
+Limits (response i p) = SixteenBits i × Sized nests.leastPayload nests.mostPayload p
+Limits (ask r) = SixteenBits r
+Limits (reply r w v) = SixteenBits r × Held w v
+Limits (put r w v) = SixteenBits r × Held w v
 Limits (done ok) = Unit
-Limits (nibe c d) = T (oneOf commands c) × Sized 0 255 d
+Limits (nibe c d) = T (oneOf nibes.commands c) × Sized 0 nibes.mostData d
 Limits (output w) = Sends (Numbered (ascii "O.") 9) (Letter (ascii "01")) w
 Limits (input w) = Sends (Numbered (ascii "I.") 15) (Letter (ascii "01")) w
 Limits (shutter w) = Sends (λ cmd. cmd ≡ ascii "UD") (Letter (ascii "uds")) w
@@ -140,7 +149,8 @@ pub record Good (m : Message) : Type 0 where
   pub limits : Limits m
   pub free : Above m → ⊥
 
--- "State's voltages are read from its payload": "Vin at 8 (hundredths), Vop at 10, Vbat at 12 (thousandths), u16", low byte first
+-- "State's voltages are read from its payload": "Vin at 8 (hundredths), Vop at 10, Vbat at 12 (thousandths), u16",
+-- low byte first
 abbrev pub u16At : ℕ → List ℕ → ℕ
 u16At i p = getD p i 0 + 256 * getD p (i + 1) 0
 

@@ -28,7 +28,8 @@ use Rattle.numbers.specs.declared.panel.Shown.the-variants.{Is as IsShow
 
 -- ---- text::write: why the text of z at d decimals is not written into a room of n bytes
 
--- 01, "Refusal numbers": 7 "decimals .. not as above"; 5 "a raw number out of range"; 4 "lent room too short for the answer"
+-- 01, "Refusal numbers": 7 "decimals .. not as above"; 5 "a raw number out of range"; 4 "lent room too short for the
+-- answer"
 pub data TextCause (z : ℤ) (d n : ℕ) : ℕ → Type 0 where
   decimals : mostDecimals < d → TextCause z d n 7
   range : (Raw z → ⊥) → TextCause z d n 5

@@ -1,4 +1,5 @@
--- 01, Numbers: "Byte values have width 1, 2 or 4, signed (two's complement) or not"; Messages: "numbers are low byte first".
+-- 01, Numbers: "Byte values have width 1, 2 or 4, signed (two's complement) or not"; Messages: "numbers are low byte
+-- first".
 -- Assumes nothing.
 use Prim.Native.Nat.{ℕ, suc, _-_, _/_, _^_}
 use mathlib.Core.Bool.{Bool, true, false}

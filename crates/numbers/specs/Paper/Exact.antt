@@ -1,4 +1,5 @@
--- Demand 2: "Each number's decimal text is exact": what a text says by its digits alone, each ten times the one behind it, is the number.
+-- Demand 2: "Each number's decimal text is exact": what a text says by its digits alone, each ten times the one
+-- behind it, is the number.
 -- Assumes nothing.
 use mathlib.Core.Path.{_≡_}
 use mathlib.Core.List.{List, [], _∷_, _++_}
@@ -27,8 +28,8 @@ abbrev pub pointed : List ℕ → List ℕ
 pointed [] = []
 pointed (c ∷ s) = ascii "." ++ (c ∷ s)
 
--- t is z / 10 ^ d, and nothing is lost: a minus where z is below zero, then digits with a point before the last d; all of them, without the
--- point, are worth the magnitude of z
+-- t is z / 10 ^ d, and nothing is lost: a minus where z is below zero, then digits with a point before the last d;
+-- all of them, without the point, are worth the magnitude of z
 pub record Exact (z : ℤ) (d : ℕ) (t : List ℕ) : Type 0 where
   pub whole : List ℕ
   pub behind : List ℕ

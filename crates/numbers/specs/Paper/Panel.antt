@@ -1,5 +1,5 @@
--- 01, Numbers: "For the wall panel a value is a single float where it fits and a double otherwise, raw and not divided. A climate
--- message goes to the panel as a pair of singles, raw."
+-- 01, Numbers: "For the wall panel a value is a single float where it fits and a double otherwise, raw and not
+-- divided. A climate message goes to the panel as a pair of singles, raw."
 -- Assumes nothing.
 use mathlib.Core.Path.{_≡_}
 use mathlib.Core.Bool.{cond}

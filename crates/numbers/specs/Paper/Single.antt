@@ -1,5 +1,5 @@
--- 01, Numbers: "A raw number fits a single when it is zero or when the bits of its magnitude, without leading and trailing zeros,
--- number at most 24."
+-- 01, Numbers: "A raw number fits a single when it is zero or when the bits of its magnitude, without leading and
+-- trailing zeros, number at most 24."
 -- Assumes nothing.
 use Prim.Native.Nat.{ℕ, suc}
 use mathlib.Core.Bool.{Bool, true, false, _||_}
@@ -17,7 +17,8 @@ fromFirstOne [] = []
 fromFirstOne (true ∷ bs) = true ∷ bs
 fromFirstOne (false ∷ bs) = fromFirstOne bs
 
--- the bits of a magnitude, without its trailing zeros and then without its leading ones. (A raw number's magnitude has 32 bits.)
+-- the bits of a magnitude, without its trailing zeros and then without its leading ones. (A raw number's magnitude
+-- has 32 bits.)
 unfoldable pub significantBits : ℕ → List Bool
 significantBits n = fromFirstOne (reverse (fromFirstOne (lows 32 n)))
 

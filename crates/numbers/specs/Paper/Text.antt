@@ -1,5 +1,5 @@
--- 01, Numbers: "Its text has a whole part of one digit or without leading zero, exactly that many digits after the point, no point
--- for 0 decimals, and no minus on zero".
+-- 01, Numbers: "Its text has a whole part of one digit or without leading zero, exactly that many digits after the
+-- point, no point for 0 decimals, and no minus on zero".
 -- Assumes nothing.
 use Prim.Native.Nat.{ℕ, zero, suc, _/_, _%_, _^_, _≤_}
 use mathlib.Core.Bool.{Bool, true, false}

@@ -4,19 +4,12 @@ use mathlib.Core.Bool.{true, false}
 use mathlib.Core.List.{List}
 use mathlib.Core.Path.{_≡_, sym, ap, _∙_}
 use Prim.Native.Nat.{ℕ, _≤_, _<_}
-use native.Mathlib.Omega.{arith}
 use lib.Dec.{leb}
 use lib.ListN.{length}
 use borrow.Author.Tests.{leb-true, leb-false, le-leb}
-use Rattle.puts.specs.Paper.Put.{last}
-use Rattle.puts.specs.Paper.Right.{PutsRight}
 use Rattle.puts.specs.Work.Right.{SizedRight, FitsRight}
 
 module _ {Right : List ℕ → Type 0} where
-  -- a place behind them in a room of any size, where they end before the largest place
-  pub measured : {room later : List ℕ} {n : ℕ} (p : PutsRight Right room later 0 n) → length (p .text) ≤ last → SizedRight Right n
-  measured p l = record { text = p .text; right = p .right; size = omega (arith, p .put .behind) }
-
   -- a room of a size that they never exceed
   pub always-fits : {n : ℕ} (t : List ℕ) → Right t → length t ≤ n → FitsRight Right n true
   always-fits {n} t x l = record { text = t; right = x; fits = sym (le-leb (length t) n l) }

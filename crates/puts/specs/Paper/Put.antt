@@ -10,8 +10,8 @@ use lib.Seq.{sets}
 abbrev pub last : ℕ
 last = 18446744073709551615
 
--- `sets room at bs` is the room with the bytes bs from the place `at` on; what would stand behind its end is left out. A place
--- behind the largest is the largest. (A room is a slice, so its length is a `usize`'s.)
+-- `sets room at bs` is the room with the bytes bs from the place `at` on; what would stand behind its end is left
+-- out. A place behind the largest is the largest. (A room is a slice, so its length is a `usize`'s.)
 pub record Put (room later : List ℕ) (at next : ℕ) (bs : List ℕ) : Type 0 where
   pub slice : length room ≤ last
   pub holds : later ≡ sets room at bs

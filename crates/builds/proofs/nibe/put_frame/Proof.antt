@@ -37,8 +37,10 @@ same-length : tie.Need-same-length
 same-length c = search needs
 
 returns : tie.Need-returns
-returns c = let s = c .before .before .before .before .before .before .before .before .before .before .before .before .before .before .before .before .before .before in
-    puts-as (nibe-whole (s .args .command) (s .args .content .now) _ _ _ (c .before .before .before .before .before .before .before .before .before .before .before .before .before .before .before .new .ensures) (c .before .before .before .before .before .before .before .before .before .before .before .before .before .before .byte .ensures) (c .before .before .before .before .before .before .before .before .before .before .before .before .before .bytes .ensures))
+returns c = let known = c .before .before .before .before .before .before .before .before .before .before .before .before .before .before .before .before .before .shared-slice-known in
+    let summed = c .before .before .before .before .before .before .before .before .before .before .before .before .before in
+    let s = c .before .before .before .before .before .before .before .before .before .before .before .before .before .before .before .before .before .before in
+    puts-as (nibe-whole (s .args .command) (s .args .content .now) _ _ _ (summed .before .before .new .ensures) (summed .before .byte .ensures) (summed .bytes .ensures) (s .pre) (record { each = λ i. known .given i .fits }))
     ((c .before .before .before .before .before .before .before .before .before .before .bytes2 .ensures then c .before .before .before .before .before .before .bytes3 .ensures) then c .before .before .byte2 .ensures)
 
 pub put-frame-spec : {M : Type 1} → statement M

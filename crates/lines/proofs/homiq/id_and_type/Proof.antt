@@ -4,6 +4,7 @@ use mathlib.Core.Path.{ap, _∙_}
 use lib.ListN.{length}
 use Rattle.json.specs.Paper.Json.{chars}
 use Rattle.messages.specs.Paper.Homiq.{fieldAt}
+use Rattle.messages.proofs.Laws.HomiqLook.{field-bytes}
 use Rattle.puts.proofs.Laws.Puts.{_then_, puts-as}
 use Rattle.lines.proofs.Laws.Put.{last-put}
 use Rattle.lines.specs.Work.Put.{commaed}
@@ -13,16 +14,16 @@ use Rattle.lines.proofs.homiq.id_and_type.Tie as tie
 
 behind-requires : tie.Need-behind-requires
 unfolding fieldAt
-behind-requires c κs = ap length (c .before .before .before .before .before .before .before .before .before .field .ensures)
+behind-requires c κs = ap length (field-bytes 0 (c .before .before .before .before .before .before .before .before .before .field .ensures))
 
 returns : tie.Need-returns
 unfolding fieldAt commaed
 returns c =
     let d = c .before .before .before .before .before .before .before .before .before in
     let a = d .before .before .before .before .before .before .before .before in
-    let type = d .field2 .ensures ∙ ap (fieldAt 0) (d .before .behind .ensures) in
+    let type = field-bytes 0 (d .field2 .ensures) ∙ ap (fieldAt 0) (d .before .behind .ensures) in
     a .bytes .ensures
-    then puts-as (a .before .before .before .field .ensures) (d .before .before .before .before .bytes2 .ensures)
+    then puts-as (field-bytes 0 (a .before .before .before .field .ensures)) (d .before .before .before .before .bytes2 .ensures)
     then last-put ((c .before .before .before .before .before .before .bytes3 .ensures) then puts-as (ap chars type) (c .before .before .chars .ensures))
 
 pub id-and-type-spec : {M : Type 1} → statement M

@@ -7,6 +7,7 @@ use lib.ListN.{length}
 use Rattle.digits.specs.Paper.Ascii.{ascii}
 use Rattle.json.specs.Paper.Json.{_∶_, chars}
 use Rattle.messages.specs.Paper.Homiq.{past, fieldAt}
+use Rattle.messages.proofs.Laws.HomiqLook.{field-bytes}
 use Rattle.puts.proofs.Laws.Puts.{_then_, puts-as, put-length}
 use Rattle.lines.specs.Work.Put.{commaed}
 use borrow.Author.Needs.{needs}
@@ -27,7 +28,7 @@ chars-requires c κs = search needs
 
 behind-requires : tie.Need-behind-requires
 unfolding fieldAt
-behind-requires c κs = ap length (c .before .before .before .before .before .field .ensures)
+behind-requires c κs = ap length (field-bytes 0 (c .before .before .before .before .before .field .ensures))
 
 field-requires-2 : tie.Need-field-requires-2
 field-requires-2 c κs = search needs
@@ -40,7 +41,7 @@ chars-requires-2 c κs = search needs
 
 behind-requires-2 : tie.Need-behind-requires-2
 unfolding fieldAt
-behind-requires-2 c κs = ap length (c .before .before .before .before .before .field2 .ensures)
+behind-requires-2 c κs = ap length (field-bytes 0 (c .before .before .before .before .before .field2 .ensures))
 
 field-requires-3 : tie.Need-field-requires-3
 field-requires-3 c κs = search needs
@@ -53,7 +54,7 @@ chars-requires-3 c κs = search needs
 
 behind-requires-3 : tie.Need-behind-requires-3
 unfolding fieldAt
-behind-requires-3 c κs = ap length (c .before .before .before .before .before .field3 .ensures)
+behind-requires-3 c κs = ap length (field-bytes 0 (c .before .before .before .before .before .field3 .ensures))
 
 field-requires-4 : tie.Need-field-requires-4
 field-requires-4 c κs = search needs
@@ -66,7 +67,7 @@ chars-requires-4 c κs = search needs
 
 behind-requires-4 : tie.Need-behind-requires-4
 unfolding fieldAt
-behind-requires-4 c κs = ap length (c .before .before .before .before .before .field4 .ensures)
+behind-requires-4 c κs = ap length (field-bytes 0 (c .before .before .before .before .before .field4 .ensures))
 
 id-and-type-requires : tie.Need-id-and-type-requires
 id-and-type-requires c κs = search needs
@@ -74,13 +75,13 @@ id-and-type-requires c κs = search needs
 returns : tie.Need-returns
 unfolding fieldAt commaed
 returns c =
-    let first = c .before .before .before .before .before .before .before .before .before .before .before .before .before .before .before .before .before .before .before .before .before .before .before .before .before .before .before .before .before .before .before .field .ensures in
+    let first = field-bytes 0 (c .before .before .before .before .before .before .before .before .before .before .before .before .before .before .before .before .before .before .before .before .before .before .before .before .before .before .before .before .before .before .before .field .ensures) in
     let from-2 = c .before .before .before .before .before .before .before .before .before .before .before .before .before .before .before .before .before .before .before .before .before .before .before .before .before .behind .ensures in
-    let second = c .before .before .before .before .before .before .before .before .before .before .before .before .before .before .before .before .before .before .before .before .before .before .before .before .field2 .ensures ∙ ap (fieldAt 0) from-2 in
+    let second = field-bytes 0 (c .before .before .before .before .before .before .before .before .before .before .before .before .before .before .before .before .before .before .before .before .before .before .before .before .field2 .ensures) ∙ ap (fieldAt 0) from-2 in
     let from-3 = c .before .before .before .before .before .before .before .before .before .before .before .before .before .before .before .before .before .before .behind2 .ensures ∙ ap past from-2 in
-    let third = c .before .before .before .before .before .before .before .before .before .before .before .before .before .before .before .before .before .field3 .ensures ∙ ap (fieldAt 0) from-3 in
+    let third = field-bytes 0 (c .before .before .before .before .before .before .before .before .before .before .before .before .before .before .before .before .before .field3 .ensures) ∙ ap (fieldAt 0) from-3 in
     let from-4 = c .before .before .before .before .before .before .before .before .before .before .before .behind3 .ensures ∙ ap past from-3 in
-    let fourth = c .before .before .before .before .before .before .before .before .before .before .field4 .ensures ∙ ap (fieldAt 0) from-4 in
+    let fourth = field-bytes 0 (c .before .before .before .before .before .before .before .before .before .before .field4 .ensures) ∙ ap (fieldAt 0) from-4 in
     let from-5 = c .before .before .before .before .behind4 .ensures ∙ ap past from-4 in
     c .before .before .before .before .before .before .before .before .before .before .before .before .before .before .before .before .before .before .before .before .before .before .before .before .before .before .before .before .before .before .before .before .before .before .name .ensures
     then puts-as (ap (λ (x : List ℕ). ascii ",\"cmd\":" ++ chars x) first) (c .before .before .before .before .before .before .before .before .before .before .before .before .before .before .before .before .before .before .before .before .before .before .before .before .before .before .before .before .chars .ensures)

@@ -261,12 +261,18 @@ pub fn lines() -> Vec<Function> {
         ),
         function(
             "lines::next",
-            20,
-            &["ok", "refused 2", "refused 3", "refused 1"],
+            40,
+            &["ok", "refused 2", "refused 3", "refused 1", "refused 4"],
             |r| {
                 let [kind, capture, place] = searched(any_kind(r), r).try_into().unwrap();
                 words([kind, capture, place, room(), at()])
             },
+        ),
+        function(
+            "lines::measure",
+            16,
+            &["ok", "refused 2", "refused 3", "refused 1"],
+            |r| searched(any_kind(r), r),
         ),
         function("list::write", 14, &["ok", "refused 4"], |r| {
             words([hex(&listing_input(r)), room()])

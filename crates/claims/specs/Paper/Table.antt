@@ -1,0 +1,14 @@
+pub mod Book
+pub mod Builds
+pub mod Checks
+pub mod Commands
+pub mod Digits
+pub mod Frames
+pub mod Host
+pub mod Json
+pub mod Layouts
+pub mod Lines
+pub mod List
+pub mod Messages
+pub mod Numbers
+pub mod Puts

@@ -1,0 +1,107 @@
+-- The public functions of `book`.
+-- Assumes nothing.
+use mathlib.Core.List.{List, [], _∷_}
+use mathlib.Core.Path.{_≡_}
+use Prim.Native.Nat.{ℕ}
+use denote.Ref.{RefT, now}
+use lib.ListN.{length}
+use Rattle.puts.specs.declared.Written.{Written}
+use Rattle.book.specs.Paper.Answers.{AddCause, Adds, BookLines, Counts, EntryCause, EntryLine, EntryLineCause}
+use Rattle.book.specs.Paper.Answers.{EntryOf, ListCause, OpenCause, Told, keptNumber, keptTold, openedCount}
+use Rattle.book.specs.Paper.Answers.{openedNumber, toldEnds, zeroTold}
+use Rattle.book.specs.declared.Kept.{Kept}
+use Rattle.book.specs.declared.Opened.{Opened}
+use Rattle.claims.specs.Paper.Claim.{fronts, Claim, refuses, hands}
+
+-- How many entries a book has.
+pub record OpeningArgs : Type 0 where
+  pub book : List ℕ
+
+abbrev pub opening : Claim Opened
+opening =
+    record {
+      name = "book::open";
+      Args = OpeningArgs;
+      refusals = 8 ∷ [];
+      Cause = λ a. OpenCause (a .book);
+      form = refuses openedNumber openedCount 0 (λ a. Counts (a .book));
+    }
+
+-- The entry of a number, counted from 0.
+pub record EntryArgs : Type 0 where
+  pub book : List ℕ
+  pub number : ℕ
+
+abbrev pub entry : Claim Kept
+entry =
+    record {
+      name = "book::entry";
+      Args = EntryArgs;
+      refusals = 8 ∷ 3 ∷ [];
+      Cause = λ a. EntryCause (a .book) (a .number);
+      form = refuses keptNumber keptTold zeroTold (λ a. EntryOf (a .book) (a .number));
+    }
+
+-- That entry's frame, as a part of the book; empty for a refusal.
+pub record FrameArgs : Type 0 where
+  pub book : RefT (List ℕ)
+  pub number : ℕ
+
+abbrev pub frame : Claim (RefT (List ℕ))
+frame =
+    record {
+      name = "book::frame";
+      Args = FrameArgs;
+      refusals = 8 ∷ 3 ∷ [];
+      Cause = λ a. EntryCause (now (a .book)) (a .number);
+      form = hands (λ a. a .book)
+          (λ a e. (v : Told) × (EntryOf (now (a .book)) (a .number) v) × (e ≡ toldEnds v));
+    }
+
+-- Writes that entry's line from the front of the room, `at` being the entry's offset.
+pub record LineArgs : Type 0 where
+  pub book : List ℕ
+  pub number : ℕ
+  pub room : List ℕ
+
+abbrev pub line : Claim Written
+line =
+    record {
+      name = "book::line";
+      Args = LineArgs;
+      refusals = 8 ∷ 3 ∷ 4 ∷ [];
+      Cause = λ a. EntryLineCause (a .book) (a .number) (length (a .room));
+      form = fronts (λ a. a .room) (λ a. EntryLine (a .book) (a .number));
+    }
+
+-- Writes the lines of all entries from the front of the room.
+pub record ListArgs : Type 0 where
+  pub book : List ℕ
+  pub room : List ℕ
+
+abbrev pub list : Claim Written
+list =
+    record {
+      name = "book::list";
+      Args = ListArgs;
+      refusals = 8 ∷ 4 ∷ [];
+      Cause = λ a. ListCause (a .book) (length (a .room));
+      form = fronts (λ a. a .room) (λ a. BookLines (a .book));
+    }
+
+-- Writes the whole new book, with an entry more, from the front of the room.
+pub record AddArgs : Type 0 where
+  pub book : List ℕ
+  pub kind : ℕ
+  pub frame : List ℕ
+  pub room : List ℕ
+
+abbrev pub add : Claim Written
+add =
+    record {
+      name = "book::add";
+      Args = AddArgs;
+      refusals = 8 ∷ 2 ∷ 5 ∷ 4 ∷ [];
+      Cause = λ a. AddCause (a .book) (record { kind = a .kind; frame = a .frame }) (length (a .room));
+      form = fronts (λ a. a .room) (λ a. Adds (a .book) (record { kind = a .kind; frame = a .frame }));
+    }

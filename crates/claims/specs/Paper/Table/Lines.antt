@@ -1,0 +1,111 @@
+-- The public functions of `lines`.
+-- Assumes nothing.
+use mathlib.Core.List.{List, [], _∷_}
+use Prim.Native.Nat.{ℕ, _-_}
+use lib.ListN.{length}
+use Rattle.puts.specs.Paper.Wrote.{writtenCount, writtenRefusal}
+use Rattle.puts.specs.declared.Written.{Written}
+use Rattle.frames.specs.Paper.Search.{SearchCause}
+use Rattle.messages.specs.Paper.Says.{Says}
+use Rattle.messages.specs.declared.Message.{Message}
+use Rattle.messages.specs.declared.Tag.{Tag}
+use Rattle.lines.specs.Paper.Answers.{HasContent, LineCause, LineOf, NextCause, NextLine, NextSize, PutSaid}
+use Rattle.lines.specs.Paper.Answers.{SaidCause, listedNumber, listedPlaced, measuredNumber, measuredSize}
+use Rattle.lines.specs.Paper.Answers.{zeroPlaced, zeroSize}
+use Rattle.lines.specs.declared.Listed.{Listed}
+use Rattle.lines.specs.declared.Measured.{Measured}
+use Rattle.claims.specs.Paper.Claim.{fronts, Claim, refuses, writes}
+
+-- Writes the line of one frame, which stands at a place of a capture, from the front of the room.
+pub record WriteArgs : Type 0 where
+  pub kind : ℕ
+  pub frame : List ℕ
+  pub at : ℕ
+  pub room : List ℕ
+
+abbrev pub write : Claim Written
+write =
+    record {
+      name = "lines::write";
+      Args = WriteArgs;
+      refusals = 2 ∷ 5 ∷ 4 ∷ [];
+      Cause = λ a. LineCause (a .kind) (a .frame) (a .at) (length (a .room));
+      form = fronts (λ a. a .room) (λ a. LineOf (a .kind) (a .frame) (a .at));
+    }
+
+-- Puts the line of the frame with the smallest start at or after a place of the capture, at a place of the room: all
+-- of it, or none where too little of the room is left behind that place.
+pub record NextArgs : Type 0 where
+  pub kind : ℕ
+  pub capture : List ℕ
+  pub place : ℕ
+  pub room : List ℕ
+  pub to : ℕ
+
+abbrev pub next : Claim Listed
+next =
+    record {
+      name = "lines::next";
+      Args = NextArgs;
+      refusals = 2 ∷ 3 ∷ 4 ∷ 1 ∷ [];
+      Cause = λ a. NextCause (a .kind) (a .capture) (a .place) (length (a .room) - a .to);
+      form = writes listedNumber listedPlaced zeroPlaced (λ a. a .room)
+          (λ a. NextLine (a .kind) (a .capture) (a .place) (a .room) (a .to));
+    }
+
+-- How long the line is that `next` puts, with the start and the length of its frame.
+pub record MeasureArgs : Type 0 where
+  pub kind : ℕ
+  pub capture : List ℕ
+  pub place : ℕ
+
+abbrev pub measure : Claim Measured
+measure =
+    record {
+      name = "lines::measure";
+      Args = MeasureArgs;
+      refusals = 2 ∷ 3 ∷ 1 ∷ [];
+      Cause = λ a. SearchCause (a .kind) (a .capture) (a .place);
+      form = refuses measuredNumber measuredSize zeroSize (λ a. NextSize (a .kind) (a .capture) (a .place));
+    }
+
+-- Puts the line of a message, with its content beside it, at a place of the room: all of it, or none where too little
+-- of the room is left behind that place.
+pub record OfArgs : Type 0 where
+  pub message : Message
+  pub content : List ℕ
+  pub at : ℕ
+  pub len : ℕ
+  pub room : List ℕ
+  pub to : ℕ
+
+abbrev pub of : Claim Written
+of =
+    record {
+      name = "lines::of";
+      Args = OfArgs;
+      refusals = 5 ∷ 4 ∷ [];
+      Cause = λ a. SaidCause (Says (a .message) (a .content)) (a .at) (a .len) (length (a .room) - a .to);
+      form = writes writtenRefusal writtenCount 0 (λ a. a .room)
+          (λ a. PutSaid (Says (a .message) (a .content)) (a .at) (a .len) (a .room) (a .to));
+    }
+
+-- Puts the line of a content, as `of` puts that of a message.
+pub record OfContentArgs : Type 0 where
+  pub tag : Tag
+  pub payload : List ℕ
+  pub at : ℕ
+  pub len : ℕ
+  pub room : List ℕ
+  pub to : ℕ
+
+abbrev pub of-content : Claim Written
+of-content =
+    record {
+      name = "lines::of_content";
+      Args = OfContentArgs;
+      refusals = 5 ∷ 4 ∷ [];
+      Cause = λ a. SaidCause (HasContent (a .tag) (a .payload)) (a .at) (a .len) (length (a .room) - a .to);
+      form = writes writtenRefusal writtenCount 0 (λ a. a .room)
+          (λ a. PutSaid (HasContent (a .tag) (a .payload)) (a .at) (a .len) (a .room) (a .to));
+    }
