@@ -1,10 +1,9 @@
-# To be sourced, from the repository's root: how to build and run a C program over an archive that `rt staticlib` wrote. The
-# archive is for x86-64, and so is the program: on Arm it runs under the kit's emulator. The compiler, the linker and the C
-# library are the kit's own, so nothing has to be installed, and Rattle and C are compiled by the same compiler.
-
-kit=$(dirname "$(dirname "$(readlink -f "$(command -v rt)")")")
-tools=$kit/on/$(uname -m)/toolchain/bin
-lib=$kit/toolchain/lib
+# To be sourced, from the repository's root: how to build and run a C program over archives for C (`archives`, of scripts/programs.sh).
+# They are for x86-64, and so is the program. The compiler, the linker and the C library are the kit's own, so nothing has to be
+# installed, and Rattle and C are compiled by the same compiler.
+root=$PWD
+. scripts/programs.sh
+find_kit
 
 # build OUT SOURCE ARCHIVE..: warnings are errors. scripts/headers has the few declarations of C's library that our files need, since
 # the kit's compiler comes without headers.
@@ -15,14 +14,4 @@ build() {
         "$tools/ld.lld" -pie -dynamic-linker "$lib/ld-linux-x86-64.so.2" -rpath "$lib" -o "$out" \
             "$lib/Scrt1.o" "$lib/crti.o" "$lib/crtbeginS.o" "$out.o" "$@" \
             "$lib/libc.so.6" "$lib/libc_nonshared.a" "$lib/ld-linux-x86-64.so.2" "$lib/libgcc.a" "$lib/crtendS.o" "$lib/crtn.o"
-}
-
-# What stands before a program and its arguments: nothing, or on another processor the emulator, which starts the kit's own loader,
-# since a program that `rt` linked names one that is not there.
-emulator=()
-[ "$(uname -m)" = x86_64 ] || emulator=("$tools/qemu-x86_64" "$lib/ld-linux-x86-64.so.2" --library-path "$lib")
-
-# run PROGRAM ARGUMENTS..
-run() {
-    "${emulator[@]}" "$@"
 }

@@ -1,9 +1,8 @@
 """Requests to the program `calls` and its answers, as docs/CALLS.md says that they are written; and the program, built and run."""
-import os
 import subprocess
-import sys
 
-ROOT = os.path.join(os.path.dirname(os.path.abspath(__file__)), "..")
+import proved
+
 FILLED = b"\xee"
 # a message's fields in their order, under the names of table.py; the others have none
 FIELDS = {
@@ -62,17 +61,8 @@ def in_room(made, room, to=0, values=()):
     return "%s room %s+%d" % (answer(made if refused else values or (len(made),)), word(front), room - len(front))
 
 
-def build():
-    """Proves and builds the program, where that has not been done."""
-    os.makedirs(os.path.join(ROOT, "target"), exist_ok=True)
-    done = subprocess.run(["rt", "check", "calls"], cwd=ROOT, stdout=subprocess.PIPE, stderr=subprocess.STDOUT, check=False)
-    if done.returncode != 0:
-        sys.stdout.buffer.write(done.stdout)
-        sys.exit(1)
-
-
 def run(requests):
-    """The program's answers; on Arm under the kit's emulator."""
-    script = ". scripts/x86-64.sh && run target/bin/calls"
+    """The proved program's answers; on Arm under the kit's emulator."""
+    words = ["bash", "-c", '. scripts/run.sh && run "$0"', proved.program("calls")]
     given = "".join(line + "\n" for line in requests).encode("ascii")
-    return subprocess.run(["bash", "-c", script], cwd=ROOT, input=given, stdout=subprocess.PIPE, check=True).stdout.decode("ascii").splitlines()
+    return subprocess.run(words, cwd=proved.ROOT, input=given, stdout=subprocess.PIPE, check=True).stdout.decode("ascii").splitlines()

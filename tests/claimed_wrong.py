@@ -14,7 +14,11 @@ import sys
 import tempfile
 from typing import NamedTuple
 
-ROOT = pathlib.Path(__file__).resolve().parent.parent
+sys.dont_write_bytecode = True  # or Python leaves a folder beside those that are imported
+
+import proved
+
+ROOT = proved.ROOT
 
 
 class Edit(NamedTuple):
@@ -114,6 +118,7 @@ def seen_by_prover(edits):
 
 
 def main():
+    proved.lock()
     tried = [edit for edit in EDITS if edit.row]
     wrong = list(seen_by_test(EDITS)) + list(seen_by_prover(tried))
     for line in wrong:

@@ -30,6 +30,7 @@ sys.dont_write_bytecode = True  # or Python leaves a folder beside those that ar
 import examples
 import lines
 import paper
+import proved
 import rows
 import table
 
@@ -523,16 +524,10 @@ done
 
 
 def program():
-    """The program; proved and built, where that has not been done and none is named."""
+    """The proved program, or another that is named instead."""
+    proved.lock()
     named = os.environ.get("BOLSTERWEFT_LISTING")
-    if named:
-        return os.path.abspath(named)
-    os.makedirs(os.path.join(ROOT, "target"), exist_ok=True)
-    done = subprocess.run(["rt", "check", "listing"], cwd=ROOT, stdout=subprocess.PIPE, stderr=subprocess.STDOUT, check=False)
-    if done.returncode != 0:
-        sys.stdout.buffer.write(done.stdout)
-        sys.exit(1)
-    return os.path.join(ROOT, "target", "bin", "listing")
+    return os.path.abspath(named) if named else str(proved.program("listing"))
 
 
 def read(path):

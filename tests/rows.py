@@ -631,7 +631,6 @@ def main(arguments):
             with open(name, "w", encoding="ascii") as f:
                 f.writelines(line + "\n" for line in lines)
         return 0
-    calls.build()
     own = [*known(), *reached(cases, exchanges)]
     wrong = compare(cases, exchanges, calls.run(requests))
     tests = {case.test for case in cases}

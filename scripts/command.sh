@@ -1,0 +1,39 @@
+# To be sourced by the commands in bin/, with `root` set to the repository: how they take options, fail and end.
+#
+# Status 0: done. 1: refused or failed, and the reason is on standard error. 2: wrong usage, and what is wrong is on standard error.
+# Options come before all other arguments: --help (or -h) and --version; `--` ends them. A command defines `usage`, which prints its
+# help, and may define `about`, which prints what --version says behind the version.
+set -uo pipefail
+. "$root/scripts/say.sh"
+
+# what a person types: bin/list in the repository, and the name alone if it is installed
+command=$self
+[ "$self" = "bolsterweft-${self#bolsterweft-}" ] || command=bin/$self
+
+misused() {
+    say "$@"
+    printf 'See %s --help.\n' "$command" >&2
+    exit 2
+}
+
+about() { :; }
+
+# options ARGUMENTS..: answers --help and --version; sets `words` to the arguments behind the options.
+options() {
+    words=("$@")
+    case ${1-} in
+    -h | --help)
+        [ $# -eq 1 ] || misused "$1 stands alone"
+        usage
+        exit
+        ;;
+    --version)
+        [ $# -eq 1 ] || misused "$1 stands alone"
+        printf '%s (Bolsterweft) %s\n' "$self" "$(cat -- "$root/VERSION")"
+        about
+        exit
+        ;;
+    --) words=("${@:2}") ;;
+    -?*) misused "unknown option: $1" ;;
+    esac
+}
