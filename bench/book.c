@@ -25,15 +25,15 @@ static usize make(usize bytes) {
     return full_size = bind_draft(&draft, full);
 }
 
-static struct written by_proof, by_c;
+static struct bolsterweft_count by_proof, by_c;
 
-static void add_ours(void) { by_proof = probe_book_add(book, size, last.kind, last.frame, last.length, proved, sizeof proved); }
+static void add_ours(void) { by_proof = bolsterweft_book_add(book, size, last.kind, last.frame, last.length, proved, sizeof proved); }
 static void add_theirs(void) { by_c = book_add_in_c(book, size, last.kind, last.frame, last.length, in_c, sizeof in_c); }
-static void list_ours(void) { by_proof = probe_book_list(full, full_size, proved, sizeof proved); }
+static void list_ours(void) { by_proof = bolsterweft_book_list(full, full_size, proved, sizeof proved); }
 
 static void list_theirs(void) {
-    struct opened o = book_open_in_c(full, full_size);
-    by_c = (struct written){o.refusal, o.refusal ? 0 : (usize)(put_book_lines(in_c, full, o.count) - in_c)};
+    struct bolsterweft_entries o = book_open_in_c(full, full_size);
+    by_c = (struct bolsterweft_count){o.refusal, o.refusal ? 0 : (usize)(put_book_lines(in_c, full, o.count) - in_c)};
 }
 
 static int same(void) {

@@ -4,21 +4,14 @@
 #include "../tests/messages_made.h"
 #include "table.h"
 
-enum { ROOM = 2097202 };
-
-/* crates/probe_list: list::write by C's calling convention */
-struct probe_written {
-    u32 refusal;
-    usize length;
-};
-struct probe_written probe_list(const u8 *input, usize n, u8 *room, usize m);
+enum { ROOM = BOLSTERWEFT_LIST_ROOM };
 
 static u8 input[FULL], proved[ROOM], in_c[ROOM];
 static usize size;
-static struct probe_written by_proof;
+static struct bolsterweft_count by_proof;
 static usize by_c;
 
-static void ours(void) { by_proof = probe_list(input, size, proved, ROOM); }
+static void ours(void) { by_proof = bolsterweft_list(input, size, proved, ROOM); }
 static void theirs(void) { by_c = list_in_c(input, size, in_c); }
 static int same(void) { return by_proof.refusal == 0 && by_proof.length == by_c && memcmp(proved, in_c, by_c) == 0; }
 

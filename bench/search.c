@@ -1,5 +1,4 @@
 /* The search for all frames of a buffer, one after the other, against a search in C by the same rules. */
-#include "../include/bolsterweft.h"
 #include "../tests/frames_in_c.h"
 #include "../tests/longest.h"
 #include "table.h"
@@ -29,7 +28,7 @@ IN_C(c_response, response_length)
 IN_C(c_nibe, nibe_length)
 IN_C(c_homiq, homiq_length)
 
-static struct bolsterweft_found in_c(u8 which, const u8 *s, usize n, usize place) {
+static struct bolsterweft_found in_c(u32 which, const u8 *s, usize n, usize place) {
     switch (which) {
     case 1:
         return c_nikobus(s, n, place);
@@ -44,7 +43,7 @@ static struct bolsterweft_found in_c(u8 which, const u8 *s, usize n, usize place
     }
 }
 
-typedef struct bolsterweft_found search(u8 which, const u8 *s, usize n, usize place);
+typedef struct bolsterweft_found search(u32 which, const u8 *s, usize n, usize place);
 
 static struct all all_frames(search *find) {
     struct all a = {0, 0};

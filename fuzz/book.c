@@ -3,56 +3,40 @@
 #include "fenced.h"
 #include "mend.h"
 
-enum { SOME = 0xEE };
-
-static int same_written(struct written a, struct written b) { return a.refusal == b.refusal && a.length == b.length; }
-
-/* A call that writes, in a room of a length: what it answers, what it wrote, and that it wrote nothing else. */
-static void agree_written(struct written w, const u8 *room, struct written c, const u8 *in_c, usize m, const char *what) {
-    agree(same_written(w, c) && !memcmp(room, in_c, w.length) && all_same(room + w.length, m - w.length, SOME), what);
-}
-
-static void try_line(const u8 *book, usize n, usize number, usize m) {
+static void try_line(const u8 *book, usize n, u32 number, usize m) {
     static u8 in_c[LINES_ROOM];
     u8 *room = fenced(1, m, SOME);
-    struct written c = book_line_in_c(book, n, number, in_c, m);
-    agree_written(probe_book_line(book, n, number, room, m), room, c, in_c, m, "an entry's line");
+    struct bolsterweft_count c = book_line_in_c(book, n, number, in_c, m);
+    agree_written(bolsterweft_book_line(book, n, number, room, m), room, c, in_c, m, "an entry's line");
 }
 
 static void try_list(const u8 *book, usize n, usize m) {
     static u8 in_c[LINES_ROOM];
     u8 *room = fenced(1, m, SOME);
-    struct written c = book_list_in_c(book, n, in_c, m);
-    agree_written(probe_book_list(book, n, room, m), room, c, in_c, m, "the book's lines");
+    struct bolsterweft_count c = book_list_in_c(book, n, in_c, m);
+    agree_written(bolsterweft_book_list(book, n, room, m), room, c, in_c, m, "the book's lines");
 }
 
-static void try_add(const u8 *book, usize n, u8 kind, const u8 *frame, usize k, usize m) {
+static void try_add(const u8 *book, usize n, u32 kind, const u8 *frame, usize k, usize m) {
     static u8 in_c[MOST_BYTES + 2048];
     u8 *room = fenced(1, m, SOME);
-    struct written c = book_add_in_c(book, n, kind, frame, k, in_c, m);
-    agree_written(probe_book_add(book, n, kind, frame, k, room, m), room, c, in_c, m, "an entry added");
+    struct bolsterweft_count c = book_add_in_c(book, n, kind, frame, k, in_c, m);
+    agree_written(bolsterweft_book_add(book, n, kind, frame, k, room, m), room, c, in_c, m, "an entry added");
 }
 
-static void try_entry(const u8 *book, usize n, usize number) {
-    struct kept e = probe_book_entry(book, n, number), c = book_entry_in_c(book, n, number);
-    agree(e.refusal == c.refusal && e.kind == c.kind && e.offset == c.offset && e.from == c.from && e.to == c.to, "an entry");
+static void try_entry(const u8 *book, usize n, u32 number) {
+    struct bolsterweft_entry e = bolsterweft_book_entry(book, n, number), c = book_entry_in_c(book, n, number);
+    agree(e.refusal == c.refusal && e.kind == c.kind && e.offset == c.offset && e.frame_start == c.frame_start && e.frame_length == c.frame_length, "an entry");
     try_line(book, n, number, 8 * n + 40);
 }
 
-int LLVMFuzzerTestOneInput(const u8 *data, usize size) {
-    if (size < 3)
-        return 0;
-    usize k = u16_at(data + 1) % 1100;
-    if (k > size - 3)
-        k = size - 3;
-    const u8 *frame = fenced_copy(2, data + 3, k), *book = fenced_copy(0, data + 3 + k, size - 3 - k);
-    u8 kind = data[0] % 8;
-    usize n = size - 3 - k;
-    struct opened o = probe_book_open(book, n), c = book_open_in_c(book, n);
+static void try_book(const u8 *book, usize n, u32 kind, const u8 *frame, usize k) {
+    struct bolsterweft_entries o = bolsterweft_book_open(book, n), c = book_open_in_c(book, n);
     agree(o.refusal == c.refusal && o.count == c.count, "opening");
-    for (usize i = 0; i <= c.count && i < 5; i++)
+    for (u32 i = 0; i <= c.count && i < 5; i++)
         try_entry(book, n, i);
-    try_entry(book, n, c.count);
+    try_entry(book, n, (u32)c.count);
+    try_entry(book, n, 65536);
     try_list(book, n, 8 * n + 40 * c.count);
     static u8 lines[LINES_ROOM];
     usize length = book_list_in_c(book, n, lines, LINES_ROOM).length;
@@ -61,6 +45,19 @@ int LLVMFuzzerTestOneInput(const u8 *data, usize size) {
         try_list(book, n, length - 1);
     try_add(book, n, kind, frame, k, n + k + 7);
     try_add(book, n, kind, frame, k, n + k + 6);
+    try_add(book, n, kind + 256, frame, k, n + k + 7);
+}
+
+int LLVMFuzzerTestOneInput(const u8 *data, usize size) {
+    if (size < 3)
+        return 0;
+    usize k = u16_at(data + 1) % 1100;
+    if (k > size - 3)
+        k = size - 3;
+    for (fence = 0; fence < SIDES; fence++) {
+        const u8 *frame = fenced_copy(2, data + 3, k), *book = fenced_copy(0, data + 3 + k, size - 3 - k);
+        try_book(book, size - 3 - k, data[0] % 8, frame, k);
+    }
     return 0;
 }
 

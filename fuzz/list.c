@@ -1,67 +1,91 @@
-/* The listing and the search against those in plain C. The input is that of the program `listing`. */
-#include "../include/bolsterweft.h"
+/* The listing, the search, the lines and the acknowledgement against those in plain C. The input is that of the program `listing`. */
 #include "../tests/lines_in_c.h"
 #include "fenced.h"
 #include "mend.h"
 
-enum { ROOM = 2097202, SOME = 0xEE };
+enum { LONG = 4096 };
 
-/* crates/probe_list: list::write by C's calling convention */
-struct probe_written {
-    u32 refusal;
-    usize length;
-};
-struct probe_written probe_list(const u8 *input, usize n, u8 *room, usize m);
+static u8 in_c[BOLSTERWEFT_LIST_ROOM + 64];
 
-static void try_list(const u8 *input, usize n) {
-    static u8 in_c[ROOM + 64];
-    usize length = list_in_c(input, n, in_c);
-    u8 *room = fenced(1, length, SOME);
-    struct probe_written w = probe_list(input, n, room, length);
-    agree(w.refusal == 0 && w.length == length && !memcmp(room, in_c, length), "the listing");
-    room = fenced(1, length - 1, SOME);
-    w = probe_list(input, n, room, length - 1);
-    agree(w.refusal == 4 && w.length == 0 && all_same(room, length - 1, SOME), "a room that is a byte too short");
+static void try_list(const u8 *input, usize n, usize m) {
+    u8 *room = fenced(1, m, SOME);
+    struct bolsterweft_count c = list_call_in_c(input, n, in_c, m);
+    agree_written(bolsterweft_list(input, n, room, m), room, c, in_c, m, "the listing");
 }
 
-/* The first frame at or behind a place, its length told; the capture's end where there is none. */
-static usize first_in_c(u8 kind, const u8 *s, usize m, usize place, usize *length) {
-    *length = 0;
-    while (place < m && !(*length = length_in_c(kind, s + place, m - place)))
-        place++;
-    return place;
+static void try_line(u32 kind, const u8 *f, usize n, usize at, usize m) {
+    u8 *room = fenced(1, m, SOME);
+    struct bolsterweft_count c = line_in_c(kind, f, n, at, in_c, m);
+    agree_written(bolsterweft_line(kind, f, n, at, room, m), room, c, in_c, m, "a line");
 }
 
-static void try_one_frame(u8 kind, const u8 *s, usize n) {
-    struct bolsterweft_ends e = bolsterweft_one_frame(kind, s, n);
-    int right = n > 0 && length_in_c(kind, s, n) == n;
-    agree(e.refusal == (right ? 0 : 5) && e.payload_to <= n && e.payload_from <= e.payload_to, "one frame");
+static void try_next(u32 kind, const u8 *s, usize n, usize place, usize m) {
+    u8 *room = fenced(1, m, SOME);
+    struct bolsterweft_listed c = line_next_in_c(kind, s, n, place, in_c, m), l = bolsterweft_line_next(kind, s, n, place, room, m);
+    agree(l.refusal == c.refusal && l.start == c.start && l.length == c.length && l.line_length == c.line_length, "the next frame");
+    agree(!memcmp(room, in_c, l.line_length) && all_same(room + l.line_length, m - l.line_length, SOME), "the next line");
 }
 
-static void try_search(u8 kind, const u8 *s, usize m) {
-    usize place = 0, n;
-    for (;;) {
-        usize start = first_in_c(kind, s, m, place, &n);
-        struct bolsterweft_found f = bolsterweft_search(kind, s, m, place);
-        if (!n) {
-            agree(f.refusal == 1 && f.start == 0 && f.length == 0, "no frame");
+static void try_acknowledge(const u8 *f, usize n, usize m) {
+    u8 *room = fenced(1, m, SOME);
+    struct bolsterweft_count c = acknowledge_in_c(f, n, in_c, m);
+    agree_written(bolsterweft_acknowledge(f, n, room, m), room, c, in_c, m, "the acknowledgement");
+}
+
+static void try_one_frame(u32 kind, const u8 *s, usize n) {
+    struct bolsterweft_payload p = bolsterweft_one_frame(kind, s, n), c = one_frame_in_c(kind, s, n);
+    agree(p.refusal == c.refusal && p.payload_start == c.payload_start && p.payload_length == c.payload_length, "one frame");
+}
+
+/* Bytes that may be one frame, alone behind their fence: whether they are, their line and their acknowledgement, in rooms that just suffice
+   and in rooms that do not. */
+static void try_bytes(u32 kind, const u8 *s, usize n, usize at) {
+    const u8 *f = fenced_copy(2, s, n);
+    usize length = line_in_c(kind, f, n, at, in_c, sizeof in_c).length, answer = acknowledge_in_c(f, n, in_c, sizeof in_c).length;
+    try_one_frame(kind, f, n);
+    try_line(kind, f, n, at, length);
+    try_acknowledge(f, n, answer);
+    if (length)
+        try_line(kind, f, n, at, length - 1);
+    if (answer)
+        try_acknowledge(f, n, answer - 1);
+}
+
+/* Of a long capture some frames stand for all: those from a place on. */
+static void try_frames(u32 kind, const u8 *s, usize m) {
+    usize place = m > LONG ? s[m / 2] * m / 256 : 0;
+    for (int frames = 0; frames < (m > LONG ? 8 : 64); frames++) {
+        struct bolsterweft_found c = search_in_c(kind, s, m, place), f = bolsterweft_search(kind, s, m, place);
+        agree(f.refusal == c.refusal && f.start == c.start && f.length == c.length, "a frame");
+        agree(f.payload_start == c.payload_start && f.payload_length == c.payload_length, "a payload");
+        usize length = line_next_in_c(kind, s, m, place, in_c, sizeof in_c).line_length;
+        try_next(kind, s, m, place, length);
+        if (c.refusal)
             break;
-        }
-        agree(f.refusal == 0 && f.start == start && f.length == n, "a frame");
-        try_one_frame(kind, s + start, n);
-        try_one_frame(kind, s + start, n - 1);
-        if (start + n < m)
-            try_one_frame(kind, s + start, n + 1);
-        place = start + n;
+        try_next(kind, s, m, place, length - 1);
+        try_bytes(kind, s + c.start, c.length, c.start << frames);
+        try_bytes(kind, s + c.start, c.length - 1, 0);
+        if (c.start + c.length < m)
+            try_bytes(kind, s + c.start, c.length + 1, 0);
+        place = c.start + c.length;
     }
     agree(bolsterweft_search(kind, s, m, m + 1).refusal == 3, "a place beyond the length");
+    try_next(kind, s, m, m + 1, 99);
+    try_next(kind + 256, s, m, 0, 99);
 }
 
+/* A long input is tried with one fence, which its length chooses. */
 int LLVMFuzzerTestOneInput(const u8 *data, usize n) {
-    const u8 *input = fenced_copy(0, data, n);
-    try_list(input, n);
-    if (n >= 2 && input[0] >= '1' && input[0] <= '5')
-        try_search(input[0] - '0', input + 2, n - 2);
+    usize length = list_in_c(data, n, in_c);
+    for (fence = 0; fence < SIDES; fence++) {
+        if (n > LONG && fence != n % SIDES)
+            continue;
+        const u8 *input = fenced_copy(0, data, n);
+        try_list(input, n, length);
+        try_list(input, n, length - 1);
+        if (n >= 2 && input[0] >= '1' && input[0] <= '5')
+            try_frames((u32)(data[0] - '0'), fenced_copy(0, data + 2, n - 2), n - 2);
+    }
     return 0;
 }
 

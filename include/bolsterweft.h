@@ -1,26 +1,43 @@
-/* Bolsterweft for C: frames of four home buses in a buffer, and numbers as exact decimal text.
+/* Bolsterweft for C: frames of four home buses (Nikobus, Nest, Nibe, Homiq), their lines of JSON, capture books, exact numbers.
  *
- * Every function accepts all values of its numbers, ends, and does nothing undefined, as long as the caller keeps to what is
- * written below. It answers, or it refuses. The answer is a struct by value; its first member, `refusal`, is 0 for an answer
- * and otherwise one number of the table, and then all other members are 0 and no byte that was lent has changed.
+ * Platform: x86-64 Linux, System V calling convention. The header compiles as C89, C99, C11, C17 and C++11 or later. Link
+ * with libbolsterweft.a (`cc program.c -lbolsterweft`). Of the C library the archive needs `memcpy` and `memset` alone.
  *
- *   refusal  cause
- *   1        no frame from that place on
- *   2        the kind is not 1 to 5
- *   3        the place is beyond the buffer's length
- *   4        the lent room is too short for the answer
- *   5        not one frame of the kind; a raw number out of range
- *   7        decimals or a number text not as described, or a text whose number is out of range
  *
- * Where several causes apply, the one that is tested first counts: 2, 3, 7, 5, 4, 1. (6 and 8 are refusals of messages and
- * capture books, which are not called from C.)
+ * WHAT EVERY CALL DOES
  *
- * What the caller owes: a pointer and a length together stand for so many bytes that can be read (and, where the pointer is
- * not const, written), and that nobody else changes during the call. A length of 0 may come with any pointer, NULL too. A room
- * that is lent for writing does not overlap anything else that the call is given. Nothing is kept after the call. The functions
- * hold no state: calls on different threads do not disturb one another.
+ * A call answers, or it refuses. The answer is a struct by value. Its first member, `refusal`, is 0 if the call answers, and
+ * otherwise one number of `enum bolsterweft_refusal`. A call that refuses sets all other members to 0 and alters no byte that was
+ * lent to it. If several causes apply, the one that is tested first counts; each function below lists its refusals in that order.
  *
- * The library is for x86-64 Linux (System V calling convention). `rt staticlib host` writes target/staticlib/libhost.a.
+ * Every call accepts all values of its numbers (a kind of 260 is refused, and is not taken for 4), ends, and does nothing undefined.
+ * That and what each call answers is proved: docs/PROMISES.md says what, docs/ASSUMPTIONS.md what the proof assumes. No call
+ * allocates, locks or prints. `Stack` is what a call and all that it calls take at the deepest, rounded up to a multiple of 64 bytes.
+ *
+ *
+ * WHAT THE CALLER OWES
+ *
+ *   - A pointer and the length behind it stand for so many bytes that can be read, and that nobody else changes during the call.
+ *   - A `room` and its length stand for so many bytes that can also be written. It need not be initialised.
+ *   - A room overlaps nothing else that the same call is given. To add to a book, for example, two buffers are needed.
+ *   - If a length is 0, its pointer may be anything, NULL too.
+ *
+ * Nothing is kept after a call, and the library has no state. So calls on several threads do not disturb one another, and a call
+ * from a signal handler is safe.
+ *
+ *
+ * TEXT HAS NO NUL
+ *
+ * No call writes a NUL behind a text or a line. The answer's `length` says how many bytes were written; all bytes of the room
+ * behind them are left as they were. So print a text by `printf("%.*s", (int)length, (const char *)room)` or by `fwrite`, and
+ * never by `%s`. A text that is read, too, is a pointer and a length, and a NUL in it is one of its bytes.
+ *
+ *
+ * THE EXAMPLES
+ *
+ * In the examples below `capture` is an array of the bytes C0 69 C0 69 02 64 00 66; `nibe` of its last six, which are a frame;
+ * `homiq` of the frame `<;I.3;1;0H;0;42;s;134;>` CR LF; `book` of a book that has the frame D5 AA 96 FF 00 00 00 A3 4B as its only
+ * entry. `room` is `uint8_t room[BOLSTERWEFT_LINE_ROOM]`. The comment at an example's end is what it prints.
  */
 #ifndef BOLSTERWEFT_H
 #define BOLSTERWEFT_H
@@ -32,63 +49,262 @@
 extern "C" {
 #endif
 
+/* The version that this header is of: 10000 * major + 100 * minor + patch. Compare it with `bolsterweft_version()` once, as the
+ * program starts: if they differ, header and archive are not a pair, and the structs below may not be those of the archive. */
+#define BOLSTERWEFT_VERSION 10100
+
 /* The kinds: a bus and a direction. */
-enum {
-    BOLSTERWEFT_NIKOBUS = 1,
-    BOLSTERWEFT_NEST_COMMAND = 2,
-    BOLSTERWEFT_NEST_RESPONSE = 3,
-    BOLSTERWEFT_NIBE = 4,
-    BOLSTERWEFT_HOMIQ = 5
+enum bolsterweft_kind {
+    BOLSTERWEFT_NIKOBUS = 1,       /* the Nikobus serial line */
+    BOLSTERWEFT_NEST_COMMAND = 2,  /* what is sent to the Nest backplate */
+    BOLSTERWEFT_NEST_RESPONSE = 3, /* what the Nest backplate sends */
+    BOLSTERWEFT_NIBE = 4,          /* the Nibe pump's RS-485 line */
+    BOLSTERWEFT_HOMIQ = 5          /* the Homiq line */
 };
 
-/* The refusals. */
-enum {
-    BOLSTERWEFT_NO_FRAME = 1,
-    BOLSTERWEFT_NO_KIND = 2,
-    BOLSTERWEFT_NO_PLACE = 3,
-    BOLSTERWEFT_NO_ROOM = 4,
-    BOLSTERWEFT_OUT_OF_LIMITS = 5,
-    BOLSTERWEFT_BAD_FORM = 7
+/* The refusals. `bolsterweft_refusal_text` has a sentence for each. No call for C refuses with 6 today. */
+enum bolsterweft_refusal {
+    BOLSTERWEFT_NO_FRAME = 1,      /* no frame from that place on */
+    BOLSTERWEFT_NO_KIND = 2,       /* the kind is not 1 to 5 */
+    BOLSTERWEFT_NO_PLACE = 3,      /* the place is beyond the buffer's length; the book has no entry of that number */
+    BOLSTERWEFT_NO_ROOM = 4,       /* the room is too short */
+    BOLSTERWEFT_OUT_OF_LIMITS = 5, /* a frame, a book or a number is outside its limits */
+    BOLSTERWEFT_CONTENT_ABOVE = 6, /* a message has the content of one above it in the table */
+    BOLSTERWEFT_BAD_FORM = 7,      /* a width, decimals or a number text are not as they must be */
+    BOLSTERWEFT_NO_BOOK = 8        /* the bytes are not a capture book */
 };
 
-/* A frame: buffer[start] is its first byte, and it has `length` bytes. Its payload is buffer[payload_from] up to, but without,
- * buffer[payload_to]: a Nikobus link's or press's hex digits (a tail has none), Nest's payload, Nibe's data, Homiq's CMD to
- * TYPE. */
+/* Sizes that always are enough, and limits. */
+enum bolsterweft_size {
+    BOLSTERWEFT_TEXT_ROOM = 12,            /* room for any number text */
+    BOLSTERWEFT_NIKOBUS_MOST = 254,        /* the longest Nikobus frame */
+    BOLSTERWEFT_NEST_COMMAND_MOST = 1033,  /* the longest Nest command: 3 + 4 + 1024 + 2 bytes */
+    BOLSTERWEFT_NEST_RESPONSE_MOST = 1034, /* the longest Nest response: 4 + 4 + 1024 + 2 bytes */
+    BOLSTERWEFT_NIBE_MOST = 259,           /* the longest Nibe frame */
+    BOLSTERWEFT_HOMIQ_MOST = 51,           /* the longest Homiq frame */
+    BOLSTERWEFT_FRAME_MOST = 1034,         /* the longest frame of any kind */
+    BOLSTERWEFT_ACKNOWLEDGE_ROOM = 51,     /* room for any acknowledgement, as for any Homiq frame */
+    BOLSTERWEFT_LINE_ROOM = 8368,          /* room for the line of any frame: 8 bytes for each of the frame's, and 96 */
+    BOLSTERWEFT_INPUT_MOST = 65536,        /* the longest input of `bolsterweft_list` */
+    BOLSTERWEFT_LIST_ROOM = 2097202,       /* room for any listing: 32 bytes for each of the input's, and 50 */
+    BOLSTERWEFT_BOOK_MOST = 65536,         /* the longest book */
+    BOLSTERWEFT_ENTRIES_MOST = 1000        /* the most entries of a book */
+};
+
+
+/* ---- the version -------------------------------------------------------------------------------------------------------- */
+
+/* Tells the version that the archive is of.
+ *
+ * Answers: a number like BOLSTERWEFT_VERSION.
+ * Refuses: never.
+ * Cost: constant.
+ * Stack: 64 bytes.
+ *
+ * Example:
+ *
+ *     if (bolsterweft_version() != BOLSTERWEFT_VERSION)
+ *         abort();
+ *     printf("%u\n", (unsigned)bolsterweft_version()); // 10100
+ */
+uint32_t bolsterweft_version(void);
+
+
+/* ---- frames ------------------------------------------------------------------------------------------------------------- */
+
+/* A frame in a buffer. It has `length` bytes from buffer[start] on. Its payload has `payload_length` bytes from
+ * buffer[payload_start] on: the hex digits of a Nikobus link or press (a tail has none), Nest's payload, Nibe's data, Homiq's CMD
+ * to TYPE. */
 struct bolsterweft_found {
     uint32_t refusal;
     size_t start;
     size_t length;
-    size_t payload_from;
-    size_t payload_to;
+    size_t payload_start;
+    size_t payload_length;
 };
 
-/* The frame of the kind with the smallest start at or after the place, whose layout, lengths and check values are all right.
- * Refuses with 2 for an unknown kind, 3 for a place beyond the length, and 1 where no frame starts at or after the place (also
- * where the place is the length). The next search begins at start + length: so all frames of a buffer are found in order, no
- * two of them overlap, and none lies between them. */
-struct bolsterweft_found bolsterweft_search(uint8_t kind, const uint8_t *buffer, size_t buffer_length, size_t place);
+/* Finds the frame of the kind with the smallest start at or after the place.
+ *
+ *   kind                   enum bolsterweft_kind
+ *   buffer, buffer_length  the bytes to be searched
+ *   place                  the first byte at which a frame may begin
+ *
+ * Answers: the frame and its payload, as places in the buffer. What is found has the right layout, lengths and check
+ * values. The next search begins at start + length: so all frames of a buffer are found in order, no two of them overlap,
+ * and none lies between them.
+ * Refuses, in this order:
+ *   2  if the kind is not 1 to 5.
+ *   3  if the place is beyond buffer_length.
+ *   1  if no frame starts at or after the place; so too if the place is buffer_length.
+ * Cost: linear in the bytes searched. Each false start among them costs at most one frame's length more.
+ * Stack: 320 bytes.
+ *
+ * Example:
+ *
+ *     struct bolsterweft_found f = bolsterweft_search(BOLSTERWEFT_NIBE, capture, sizeof capture, 0);
+ *     if (f.refusal == 0)
+ *         printf("%zu %zu %zu %zu\n", f.start, f.length, f.payload_start, f.payload_length); // 2 6 5 2
+ */
+struct bolsterweft_found bolsterweft_search(uint32_t kind, const uint8_t *buffer, size_t buffer_length, size_t place);
 
-/* The places where the payload of a frame begins and ends, counted from the frame's first byte. */
-struct bolsterweft_ends {
+/* The payload of a frame: `payload_length` bytes from frame[payload_start] on. */
+struct bolsterweft_payload {
     uint32_t refusal;
-    size_t payload_from;
-    size_t payload_to;
+    size_t payload_start;
+    size_t payload_length;
 };
 
-/* Whether these bytes are one frame of the kind and no byte more. Refuses with 2 for an unknown kind, and with 5 where they are
- * not. */
-struct bolsterweft_ends bolsterweft_one_frame(uint8_t kind, const uint8_t *frame, size_t frame_length);
+/* Tells whether the bytes are one frame of the kind and no byte more.
+ *
+ *   kind                 enum bolsterweft_kind
+ *   frame, frame_length  the bytes
+ *
+ * Answers: the payload, as a place in the frame.
+ * Refuses, in this order:
+ *   2  if the kind is not 1 to 5.
+ *   5  if the bytes are not one frame.
+ * Cost: linear in frame_length.
+ * Stack: 256 bytes.
+ *
+ * Example:
+ *
+ *     struct bolsterweft_payload p = bolsterweft_one_frame(BOLSTERWEFT_NIBE, nibe, sizeof nibe);
+ *     if (p.refusal == 0)
+ *         printf("%zu %zu\n", p.payload_start, p.payload_length); // 3 2
+ */
+struct bolsterweft_payload bolsterweft_one_frame(uint32_t kind, const uint8_t *frame, size_t frame_length);
 
-/* How many bytes were written. */
+/* How many bytes were written, from the front of the room on. No NUL is behind them. */
 struct bolsterweft_count {
     uint32_t refusal;
     size_t length;
 };
 
-/* Writes the decimal text of raw / 10^decimals at the front of the room, without a byte of zero behind it: exact, with just so
- * many digits after the point, without leading zeros, without a minus on zero. raw is -2147483648 to 4294967295, decimals 0
- * to 3; 12 bytes are always enough. Bytes of the room behind the text are left alone. Refuses with 7 for the decimals, 5 for
- * raw, 4 for the room. */
+/* Writes the acknowledgement of a Homiq frame of type `s`: SRC and DST exchanged, type `a`, the CRC worked out.
+ *
+ *   frame, frame_length  the frame that is acknowledged
+ *   room, room_length    BOLSTERWEFT_ACKNOWLEDGE_ROOM bytes are always enough
+ *
+ * Answers: how many bytes were written, which are a frame. No NUL is behind them.
+ * Refuses, in this order:
+ *   5  if the bytes are not one Homiq frame, or its type is `a`.
+ *   4  if the room is too short.
+ * Cost: linear in frame_length.
+ * Stack: 320 bytes.
+ *
+ * Example:
+ *
+ *     struct bolsterweft_count a = bolsterweft_acknowledge(homiq, sizeof homiq, room, sizeof room);
+ *     if (a.refusal == 0)
+ *         fwrite(room, 1, a.length, stdout); // <;I.3;1;0;0H;42;a;64;>
+ */
+struct bolsterweft_count bolsterweft_acknowledge(const uint8_t *frame, size_t frame_length, uint8_t *room, size_t room_length);
+
+
+/* ---- lines of JSON ------------------------------------------------------------------------------------------------------ */
+
+/* Writes the line of one frame: a JSON object and LF, and no NUL.
+ *
+ *   kind                 enum bolsterweft_kind
+ *   frame, frame_length  the frame
+ *   at                   the line's first member: any number, usually the frame's place in its capture
+ *   room, room_length    BOLSTERWEFT_LINE_ROOM bytes are always enough
+ *
+ * Answers: how many bytes were written. README.md, "The lines", says what is in them.
+ * Refuses, in this order:
+ *   2  if the kind is not 1 to 5.
+ *   5  if the bytes are not one frame.
+ *   4  if the room is too short.
+ * Cost: linear in frame_length.
+ * Stack: 576 bytes.
+ *
+ * Example:
+ *
+ *     struct bolsterweft_count c = bolsterweft_line(BOLSTERWEFT_NIBE, nibe, sizeof nibe, 14, room, sizeof room);
+ *     if (c.refusal == 0)
+ *         fwrite(room, 1, c.length, stdout); // {"at":14,"len":6,"msg":"ask","reg":100}
+ */
+struct bolsterweft_count bolsterweft_line(uint32_t kind, const uint8_t *frame, size_t frame_length, size_t at, uint8_t *room,
+                                          size_t room_length);
+
+/* A frame in a capture, and its line: the frame has `length` bytes from capture[start] on, and its line is the first `line_length`
+ * bytes of the room. */
+struct bolsterweft_listed {
+    uint32_t refusal;
+    size_t start;
+    size_t length;
+    size_t line_length;
+};
+
+/* Finds the next frame as `bolsterweft_search` does, and writes its line: a JSON object and LF, and no NUL.
+ *
+ *   kind                     enum bolsterweft_kind
+ *   capture, capture_length  the bytes to be searched
+ *   place                    the first byte at which a frame may begin
+ *   room, room_length        BOLSTERWEFT_LINE_ROOM bytes are always enough
+ *
+ * Answers: the frame's place in the capture, which is also the line's `at`, its length, and how many bytes were written.
+ * The next call begins at start + length.
+ * Refuses, in this order:
+ *   2  if the kind is not 1 to 5.
+ *   3  if the place is beyond capture_length.
+ *   4  if there is a frame, and the room is too short for its line.
+ *   1  if no frame starts at or after the place.
+ * Cost: that of the search, and linear in the frame's length.
+ * Stack: 832 bytes.
+ *
+ * Example:
+ *
+ *     struct bolsterweft_listed l = bolsterweft_line_next(BOLSTERWEFT_NIBE, capture, sizeof capture, 0, room, sizeof room);
+ *     if (l.refusal == 0)
+ *         fwrite(room, 1, l.line_length, stdout); // {"at":2,"len":6,"msg":"ask","reg":100}
+ */
+struct bolsterweft_listed bolsterweft_line_next(uint32_t kind, const uint8_t *capture, size_t capture_length, size_t place, uint8_t *room,
+                                                size_t room_length);
+
+/* Writes the whole listing of an input, as bin/list prints it: lines of JSON with LF, and no NUL.
+ *
+ *   input, input_length  a digit 1 to 5 for the kind, LF, then the capture: BOLSTERWEFT_INPUT_MOST bytes at most
+ *   room, room_length    32 bytes for each of the input's, and 50 more, are always enough, as are BOLSTERWEFT_LIST_ROOM
+ *
+ * Answers: how many bytes were written. An input that is not as described is answered, too: with the one line
+ * {"refused":2} or {"refused":5}.
+ * Refuses, in this order:
+ *   4  if the room is too short.
+ * Cost: that of searching the capture; twice that if the room is shorter than what is always enough.
+ * Stack: 704 bytes.
+ *
+ * Example:
+ *
+ *     struct bolsterweft_count c = bolsterweft_list((const uint8_t *)"4\nnoise", 7, room, sizeof room);
+ *     if (c.refusal == 0)
+ *         fwrite(room, 1, c.length, stdout); // {"frames":0,"skipped":5}
+ */
+struct bolsterweft_count bolsterweft_list(const uint8_t *input, size_t input_length, uint8_t *room, size_t room_length);
+
+
+/* ---- numbers ------------------------------------------------------------------------------------------------------------ */
+
+/* Writes the decimal text of raw / 10^decimals, exactly, and no NUL.
+ *
+ *   raw                -2147483648 to 4294967295
+ *   decimals           0 to 3: so many digits are behind the point, and for 0 there is no point
+ *   room, room_length  BOLSTERWEFT_TEXT_ROOM bytes are always enough
+ *
+ * Answers: how many bytes were written. The text has no leading zeros, and no minus on zero.
+ * Refuses, in this order:
+ *   7  if the decimals are above 3.
+ *   5  if raw is out of range.
+ *   4  if the room is too short.
+ * Cost: constant.
+ * Stack: 192 bytes.
+ *
+ * Example:
+ *
+ *     struct bolsterweft_count t = bolsterweft_text(-5, 2, room, sizeof room);
+ *     if (t.refusal == 0)
+ *         printf("%.*s\n", (int)t.length, (const char *)room); // -0.05
+ */
 struct bolsterweft_count bolsterweft_text(int64_t raw, uint32_t decimals, uint8_t *room, size_t room_length);
 
 /* A raw number and its decimals. */
@@ -98,8 +314,392 @@ struct bolsterweft_reading {
     int64_t raw;
 };
 
-/* The raw number and the decimals whose text this is; 7 where it is no such text. */
+/* Reads the text of a number.
+ *
+ *   text, text_length  a text as `bolsterweft_text` writes it; so `-0`, `+1`, `01`, `1.` and ` 1` are none
+ *
+ * Answers: the raw number and the decimals whose text it is.
+ * Refuses, in this order:
+ *   7  if the bytes are no such text, or its raw number is out of range.
+ * Cost: constant.
+ * Stack: 192 bytes.
+ *
+ * Example:
+ *
+ *     struct bolsterweft_reading r = bolsterweft_number((const uint8_t *)"-12.5", 5);
+ *     if (r.refusal == 0)
+ *         printf("%lld %u\n", (long long)r.raw, (unsigned)r.decimals); // -125 1
+ */
 struct bolsterweft_reading bolsterweft_number(const uint8_t *text, size_t text_length);
+
+/* Writes a raw number as bytes, low byte first.
+ *
+ *   raw                the number
+ *   width              1, 2 or 4: how many bytes
+ *   is_signed          0 for unsigned bytes, anything else for two's complement
+ *   room, room_length  as many bytes as the width
+ *
+ * Answers: how many bytes were written: the width.
+ * Refuses, in this order:
+ *   7  if the width is not 1, 2 or 4.
+ *   5  if width and sign do not hold the number.
+ *   4  if the room is too short.
+ * Cost: constant.
+ * Stack: 64 bytes.
+ *
+ * Example:
+ *
+ *     struct bolsterweft_count v = bolsterweft_value(-2, 2, 1, room, sizeof room);
+ *     if (v.refusal == 0)
+ *         printf("%zu %02X %02X\n", v.length, (unsigned)room[0], (unsigned)room[1]); // 2 FE FF
+ */
+struct bolsterweft_count bolsterweft_value(int64_t raw, uint32_t width, uint32_t is_signed, uint8_t *room, size_t room_length);
+
+/* A raw number. */
+struct bolsterweft_raw {
+    uint32_t refusal;
+    int64_t raw;
+};
+
+/* Reads a raw number from bytes, low byte first.
+ *
+ *   bytes, bytes_length  the bytes, as many as the width
+ *   width                1, 2 or 4
+ *   is_signed            0 for unsigned bytes, anything else for two's complement
+ *
+ * Answers: the raw number.
+ * Refuses, in this order:
+ *   7  if the width is not 1, 2 or 4.
+ *   5  if the bytes are not so many.
+ * Cost: constant.
+ * Stack: 64 bytes.
+ *
+ * Example:
+ *
+ *     struct bolsterweft_raw v = bolsterweft_value_read((const uint8_t *)"\xFE\xFF", 2, 2, 1);
+ *     if (v.refusal == 0)
+ *         printf("%lld\n", (long long)v.raw); // -2
+ */
+struct bolsterweft_raw bolsterweft_value_read(const uint8_t *bytes, size_t bytes_length, uint32_t width, uint32_t is_signed);
+
+/* `fits` is 1 or 0. */
+struct bolsterweft_fit {
+    uint32_t refusal;
+    uint32_t fits;
+};
+
+/* Tells whether a `float` holds the raw number exactly.
+ *
+ *   raw  -2147483648 to 4294967295
+ *
+ * Answers: 1 if it does, else 0.
+ * Refuses, in this order:
+ *   5  if raw is out of range.
+ * Cost: constant.
+ * Stack: 64 bytes.
+ *
+ * Example:
+ *
+ *     struct bolsterweft_fit f = bolsterweft_fits(16777217);
+ *     if (f.refusal == 0)
+ *         printf("%s\n", f.fits ? "float" : "double"); // double
+ */
+struct bolsterweft_fit bolsterweft_fits(int64_t raw);
+
+/* A number for the wall panel. If `size` is 4, it is `single`, and if `size` is 8, it is `wide`; the other is 0. In a refusal all
+ * three are 0. */
+struct bolsterweft_panel_value {
+    uint32_t refusal;
+    uint32_t size;
+    float single;
+    double wide;
+};
+
+/* Gives the raw number as the wall panel takes it: a `float` if that holds it exactly, and otherwise a `double`.
+ *
+ *   raw  -2147483648 to 4294967295
+ *
+ * Answers: the number, exactly, and which of the two it is. It is not divided by 10^decimals.
+ * Refuses, in this order:
+ *   5  if raw is out of range.
+ * Cost: constant.
+ * Stack: 64 bytes.
+ *
+ * Example:
+ *
+ *     struct bolsterweft_panel_value v = bolsterweft_panel(16777217);
+ *     if (v.refusal == 0)
+ *         printf("%.1f\n", v.size == 4 ? (double)v.single : v.wide); // 16777217.0
+ */
+struct bolsterweft_panel_value bolsterweft_panel(int64_t raw);
+
+/* A climate message's two numbers for the wall panel. */
+struct bolsterweft_climate {
+    uint32_t refusal;
+    float temperature;
+    float humidity;
+};
+
+/* Gives a climate message's two raw numbers as the wall panel takes them: as floats, exactly.
+ *
+ *   temperature  -32768 to 32767, in hundredths of a degree
+ *   humidity     0 to 65535, in tenths of a percent
+ *
+ * Answers: the two numbers. They are not divided.
+ * Refuses, in this order:
+ *   5  if the temperature or the humidity is out of range.
+ * Cost: constant.
+ * Stack: 64 bytes.
+ *
+ * Example:
+ *
+ *     struct bolsterweft_climate c = bolsterweft_climate(2150, 455);
+ *     if (c.refusal == 0)
+ *         printf("%.1f %.1f\n", (double)c.temperature, (double)c.humidity); // 2150.0 455.0
+ */
+struct bolsterweft_climate bolsterweft_climate(int32_t temperature, uint32_t humidity);
+
+
+/* ---- the capture book ---------------------------------------------------------------------------------------------------- */
+
+/* A capture book keeps up to 1,000 frames of any kinds in up to 65,536 bytes. The book without entries is the six bytes
+ * 00 00 06 00 00 00. Every call below tests every byte of the book first, so a book that was damaged is refused and never misread.
+ * Entries count from 0. */
+
+/* How many entries a book has. */
+struct bolsterweft_entries {
+    uint32_t refusal;
+    size_t count;
+};
+
+/* Opens a book: tests all of it, and counts its entries.
+ *
+ *   book, book_length  the book
+ *
+ * Answers: how many entries it has.
+ * Refuses, in this order:
+ *   8  if the bytes are not a book.
+ * Cost: linear in book_length.
+ * Stack: 16,256 bytes.
+ *
+ * Example:
+ *
+ *     struct bolsterweft_entries e = bolsterweft_book_open(book, sizeof book);
+ *     if (e.refusal == 0)
+ *         printf("%zu\n", e.count); // 1
+ */
+struct bolsterweft_entries bolsterweft_book_open(const uint8_t *book, size_t book_length);
+
+/* An entry of a book: it begins at book[offset], and its frame has `frame_length` bytes from book[frame_start] on. */
+struct bolsterweft_entry {
+    uint32_t refusal;
+    uint32_t kind;
+    size_t offset;
+    size_t frame_start;
+    size_t frame_length;
+};
+
+/* Finds an entry by its number.
+ *
+ *   book, book_length  the book
+ *   number             the entry's, counted from 0
+ *
+ * Answers: the entry's kind, its offset, and its frame, as places in the book.
+ * Refuses, in this order:
+ *   8  if the bytes are not a book.
+ *   3  if it has no entry of that number.
+ * Cost: linear in book_length. So a walk over all entries is quadratic; `bolsterweft_book_list` is not.
+ * Stack: 16,256 bytes.
+ *
+ * Example:
+ *
+ *     struct bolsterweft_entry e = bolsterweft_book_entry(book, sizeof book, 0);
+ *     if (e.refusal == 0)
+ *         printf("%u %zu %zu %zu\n", (unsigned)e.kind, e.offset, e.frame_start, e.frame_length); // 2 0 3 9
+ */
+struct bolsterweft_entry bolsterweft_book_entry(const uint8_t *book, size_t book_length, uint32_t number);
+
+/* Writes the line of an entry's frame: a JSON object and LF, and no NUL.
+ *
+ *   book, book_length  the book
+ *   number             the entry's, counted from 0
+ *   room, room_length  BOLSTERWEFT_LINE_ROOM bytes are always enough
+ *
+ * Answers: how many bytes were written. The line's `at` is the entry's offset.
+ * Refuses, in this order:
+ *   8  if the bytes are not a book.
+ *   3  if it has no entry of that number.
+ *   4  if the room is too short.
+ * Cost: linear in book_length.
+ * Stack: 16,576 bytes.
+ *
+ * Example:
+ *
+ *     struct bolsterweft_count c = bolsterweft_book_line(book, sizeof book, 0, room, sizeof room);
+ *     if (c.refusal == 0)
+ *         fwrite(room, 1, c.length, stdout); // {"at":0,"len":9,"msg":"command","id":255,"data":""}
+ */
+struct bolsterweft_count bolsterweft_book_line(const uint8_t *book, size_t book_length, uint32_t number, uint8_t *room,
+                                               size_t room_length);
+
+/* Writes the lines of all entries in order, each with LF, and no NUL.
+ *
+ *   book, book_length  the book
+ *   room, room_length  8 bytes for each of the book's, and 40 for each entry, are always enough
+ *
+ * Answers: how many bytes were written.
+ * Refuses, in this order:
+ *   8  if the bytes are not a book.
+ *   4  if the room is too short.
+ * Cost: linear in book_length.
+ * Stack: 25,152 bytes.
+ *
+ * Example:
+ *
+ *     struct bolsterweft_count c = bolsterweft_book_list(book, sizeof book, room, sizeof room);
+ *     if (c.refusal == 0)
+ *         fwrite(room, 1, c.length, stdout); // {"at":0,"len":9,"msg":"command","id":255,"data":""}
+ */
+struct bolsterweft_count bolsterweft_book_list(const uint8_t *book, size_t book_length, uint8_t *room, size_t room_length);
+
+/* Writes a new book: the old one, with a frame as a new last entry.
+ *
+ *   book, book_length    the old book, which is only read
+ *   kind                 enum bolsterweft_kind
+ *   frame, frame_length  the frame
+ *   room, room_length    for the new book: book_length + frame_length + 7 bytes
+ *
+ * Answers: how many bytes were written: the new book.
+ * Refuses, in this order:
+ *   8  if the bytes are not a book.
+ *   2  if the kind is not 1 to 5.
+ *   5  if the bytes are not one frame of the kind, or the new book would be over its limits.
+ *   4  if the room is too short.
+ * Cost: linear in book_length and frame_length.
+ * Stack: 16,320 bytes.
+ *
+ * Example:
+ *
+ *     struct bolsterweft_count c = bolsterweft_book_add(book, sizeof book, BOLSTERWEFT_NIBE, nibe, sizeof nibe, room, sizeof room);
+ *     if (c.refusal == 0)
+ *         printf("%zu bytes, %zu entries\n", c.length, bolsterweft_book_open(room, c.length).count); // 35 bytes, 2 entries
+ */
+struct bolsterweft_count bolsterweft_book_add(const uint8_t *book, size_t book_length, uint32_t kind, const uint8_t *frame,
+                                              size_t frame_length, uint8_t *room, size_t room_length);
+
+
+/* ---- refusals as text ---------------------------------------------------------------------------------------------------- */
+
+#if defined(__cplusplus) || (defined(__STDC_VERSION__) && __STDC_VERSION__ >= 199901L)
+/* A sentence for a refusal number, for logs: a string that ends with NUL, as usual in C, and is never NULL. C89 has no `inline`, and
+ * goes without this function.
+ *
+ * Example:
+ *
+ *     struct bolsterweft_count t = bolsterweft_text(1, 4, room, sizeof room);
+ *     if (t.refusal != 0)
+ *         printf("%s\n", bolsterweft_refusal_text(t.refusal)); // A width, decimals or a number text are not as they must be.
+ */
+static inline const char *bolsterweft_refusal_text(uint32_t refusal) {
+    switch (refusal) {
+    case 0:
+        return "No refusal.";
+    case BOLSTERWEFT_NO_FRAME:
+        return "There is no frame from that place on.";
+    case BOLSTERWEFT_NO_KIND:
+        return "The kind is not 1 to 5.";
+    case BOLSTERWEFT_NO_PLACE:
+        return "The place is beyond the buffer's length, or the book has no entry of that number.";
+    case BOLSTERWEFT_NO_ROOM:
+        return "The room is too short for the answer.";
+    case BOLSTERWEFT_OUT_OF_LIMITS:
+        return "A frame, a book or a number is outside its limits.";
+    case BOLSTERWEFT_CONTENT_ABOVE:
+        return "The message has the content of one above it in the table.";
+    case BOLSTERWEFT_BAD_FORM:
+        return "A width, decimals or a number text are not as they must be.";
+    case BOLSTERWEFT_NO_BOOK:
+        return "The bytes are not a capture book.";
+    default:
+        return "There is no refusal of this number.";
+    }
+}
+#endif
+
+
+/* ---- the layout of the structs ------------------------------------------------------------------------------------------- */
+
+/* What the archive was compiled with. A compiler for another platform stops here. C89 goes without. */
+#if defined(__cplusplus) && __cplusplus >= 201103L
+#define BOLSTERWEFT_HOLDS(truth) static_assert(truth, "bolsterweft.h: this compiler lays out structs otherwise than the archive")
+#elif defined(__STDC_VERSION__) && __STDC_VERSION__ >= 201112L
+#define BOLSTERWEFT_HOLDS(truth) _Static_assert(truth, "bolsterweft.h: this compiler lays out structs otherwise than the archive")
+#endif
+#ifdef BOLSTERWEFT_HOLDS
+#define BOLSTERWEFT_SIZE(type, bytes) BOLSTERWEFT_HOLDS(sizeof(struct type) == (bytes))
+#define BOLSTERWEFT_AT(type, member, place) BOLSTERWEFT_HOLDS(offsetof(struct type, member) == (place))
+
+BOLSTERWEFT_SIZE(bolsterweft_found, 40);
+BOLSTERWEFT_AT(bolsterweft_found, refusal, 0);
+BOLSTERWEFT_AT(bolsterweft_found, start, 8);
+BOLSTERWEFT_AT(bolsterweft_found, length, 16);
+BOLSTERWEFT_AT(bolsterweft_found, payload_start, 24);
+BOLSTERWEFT_AT(bolsterweft_found, payload_length, 32);
+
+BOLSTERWEFT_SIZE(bolsterweft_payload, 24);
+BOLSTERWEFT_AT(bolsterweft_payload, refusal, 0);
+BOLSTERWEFT_AT(bolsterweft_payload, payload_start, 8);
+BOLSTERWEFT_AT(bolsterweft_payload, payload_length, 16);
+
+BOLSTERWEFT_SIZE(bolsterweft_count, 16);
+BOLSTERWEFT_AT(bolsterweft_count, refusal, 0);
+BOLSTERWEFT_AT(bolsterweft_count, length, 8);
+
+BOLSTERWEFT_SIZE(bolsterweft_listed, 32);
+BOLSTERWEFT_AT(bolsterweft_listed, refusal, 0);
+BOLSTERWEFT_AT(bolsterweft_listed, start, 8);
+BOLSTERWEFT_AT(bolsterweft_listed, length, 16);
+BOLSTERWEFT_AT(bolsterweft_listed, line_length, 24);
+
+BOLSTERWEFT_SIZE(bolsterweft_reading, 16);
+BOLSTERWEFT_AT(bolsterweft_reading, refusal, 0);
+BOLSTERWEFT_AT(bolsterweft_reading, decimals, 4);
+BOLSTERWEFT_AT(bolsterweft_reading, raw, 8);
+
+BOLSTERWEFT_SIZE(bolsterweft_raw, 16);
+BOLSTERWEFT_AT(bolsterweft_raw, refusal, 0);
+BOLSTERWEFT_AT(bolsterweft_raw, raw, 8);
+
+BOLSTERWEFT_SIZE(bolsterweft_fit, 8);
+BOLSTERWEFT_AT(bolsterweft_fit, refusal, 0);
+BOLSTERWEFT_AT(bolsterweft_fit, fits, 4);
+
+BOLSTERWEFT_SIZE(bolsterweft_panel_value, 24);
+BOLSTERWEFT_AT(bolsterweft_panel_value, refusal, 0);
+BOLSTERWEFT_AT(bolsterweft_panel_value, size, 4);
+BOLSTERWEFT_AT(bolsterweft_panel_value, single, 8);
+BOLSTERWEFT_AT(bolsterweft_panel_value, wide, 16);
+
+BOLSTERWEFT_SIZE(bolsterweft_climate, 12);
+BOLSTERWEFT_AT(bolsterweft_climate, refusal, 0);
+BOLSTERWEFT_AT(bolsterweft_climate, temperature, 4);
+BOLSTERWEFT_AT(bolsterweft_climate, humidity, 8);
+
+BOLSTERWEFT_SIZE(bolsterweft_entries, 16);
+BOLSTERWEFT_AT(bolsterweft_entries, refusal, 0);
+BOLSTERWEFT_AT(bolsterweft_entries, count, 8);
+
+BOLSTERWEFT_SIZE(bolsterweft_entry, 32);
+BOLSTERWEFT_AT(bolsterweft_entry, refusal, 0);
+BOLSTERWEFT_AT(bolsterweft_entry, kind, 4);
+BOLSTERWEFT_AT(bolsterweft_entry, offset, 8);
+BOLSTERWEFT_AT(bolsterweft_entry, frame_start, 16);
+BOLSTERWEFT_AT(bolsterweft_entry, frame_length, 24);
+
+#undef BOLSTERWEFT_AT
+#undef BOLSTERWEFT_SIZE
+#undef BOLSTERWEFT_HOLDS
+#endif
 
 #ifdef __cplusplus
 }

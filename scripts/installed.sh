@@ -2,8 +2,8 @@
 # proved before they were installed, and need nothing else.
 . "${BASH_SOURCE[0]%/*}/run.sh"
 
-# program CRATE: sets `program`.
-program() { program=$root/$1; }
+# programs CRATE..: sets `programs`.
+programs() { programs=("${@/#/$root/}"); }
 
-# proved_by CRATE: what --version says of the program.
-proved_by() { printf 'proved by %s\n' "$(cat -- "$root/$1.by")"; }
+# proved_by CRATE..: what --version says of the programs.
+proved_by() { printf 'proved by %s\n' "$(cd -- "$root" && sort -u -- "${@/%/.by}")"; }

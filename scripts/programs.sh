@@ -42,45 +42,69 @@ stamp() {
     stamp=${stamp%% *}
 }
 
-# program CRATE: sets `program`, the program to run: the proved one, if these sources have been proved here. Otherwise it is one that is
-# built without a proof, and a line on standard error says so.
-program() {
-    stamp "$root" "$1" || fail "the sources cannot be read: $root/crates"
-    program=$root/built/proved/$1.$stamp
-    [ ! -x "$program" ] || return 0
-    program=$root/built/unproved/$1.$stamp
-    if [ -x "$program" ]; then
-        say "this program is not proved here yet: bin/prove does it, in about $minutes minutes"
+# programs CRATE..: sets `programs` to the programs to run, each the proved one, if its sources have been proved here. Any other is one that
+# is built without a proof, and a line on standard error says so.
+programs() {
+    local crate place missing=()
+    unproved=
+    programs=()
+    for crate in "$@"; do
+        stamp "$root" "$crate" || fail "the sources cannot be read: $root/crates"
+        place=$root/built/proved/$crate.$stamp
+        [ -x "$place" ] || { unproved=yes && place=$root/built/unproved/$crate.$stamp; }
+        [ -x "$place" ] || missing+=("$place")
+        programs+=("$place")
+    done
+    [ -n "$unproved" ] || return 0
+    unproved="this program is not proved here yet: bin/prove does it, in about $minutes minutes"
+    if [ "${#missing[@]}" -eq 0 ]; then
+        say "$unproved"
     else
-        build_unproved "$1"
+        build_unproved "${missing[@]}"
     fi
 }
 
-# build_unproved CRATE: one command builds, others that come meanwhile wait for it.
+# build_unproved PLACE..: one command builds what belongs there, two programs at a time; others that come meanwhile wait for it.
 build_unproved() {
-    local folder=$root/built/unproved wanted=$stamp
+    local place build builds=() folder=$root/built/unproved
     find_kit
     [ -n "$kit" ] || fail "there is no built program, and without the Rattle kit none can be built: install the kit, so that rt is on PATH"
-    say "this program is not proved here yet: bin/prove does it, in about $minutes minutes; building it without a proof, some seconds"
+    say "$unproved; building it without a proof, some seconds"
     mkdir -p -- "$folder" 2>/dev/null && [ -w "$folder" ] || fail "$folder cannot be written: whoever may write it runs bin/prove or this command once"
     (
         exec {building}<"$folder" && flock "$building" || exit
-        [ ! -x "$program" ] || exit 0
-        "$root/scripts/unproved" "$root" "$1" "$folder/new" </dev/null || exit
-        stamp "$root" "$1" && [ "$stamp" = "$wanted" ] || fail 'the sources have changed meanwhile: try again'
-        rm -f -- "$folder/$1".*
-        mv -- "$folder/new" "$program"
+        for place in "$@"; do
+            [ "${#builds[@]}" -lt 2 ] || wait "${builds[-2]}" || exit
+            one_unproved "$place" &
+            builds+=($!)
+        done
+        for build in "${builds[@]}"; do wait "$build" || exit; done
     ) || fail "the program could not be built"
 }
 
-# proved_by CRATE: what --version says of the program.
+# one_unproved PLACE: builds one, if no other command has built it meanwhile.
+one_unproved() {
+    local crate=${1##*/}
+    crate=${crate%%.*}
+    [ ! -x "$1" ] || return 0
+    "$root/scripts/unproved" "$root" "$crate" "$folder/new.$crate" </dev/null || return
+    stamp "$root" "$crate" && [ "$stamp" = "${1##*.}" ] || fail 'the sources have changed meanwhile: try again'
+    rm -f -- "$folder/$crate".*
+    mv -- "$folder/new.$crate" "$1"
+}
+
+# proved_by CRATE..: what --version says of the programs.
 proved_by() {
-    stamp "$root" "$1" || return
-    if [ -x "$root/built/proved/$1.$stamp" ]; then
-        printf 'proved by %s\n' "$(cat "$root/built/proved/$1.$stamp.by")"
-    else
-        printf 'not proved here yet: bin/prove does it\n'
-    fi
+    local crate kits=()
+    for crate in "$@"; do
+        stamp "$root" "$crate" || return
+        kits+=("$root/built/proved/$crate.$stamp.by")
+        [ -x "${kits[-1]%.by}" ] || {
+            printf 'not proved here yet: bin/prove does it\n'
+            return
+        }
+    done
+    printf 'proved by %s\n' "$(sort -u -- "${kits[@]}")"
 }
 
 # archives CRATE..: sets `archives` to the proved archives of these crates for C. A crate is proved first if its sources have not been
@@ -93,6 +117,16 @@ archives() {
         archives+=("$root/built/proved/lib$crate.a.$stamp")
         [ -e "${archives[-1]}" ] || archive "$crate" "$stamp" || return
     done
+}
+
+# The crates that the library for C is made of. Each is an object of its own in libbolsterweft.a: a program links what it calls, and the
+# compiler makes each as quick as if it were alone.
+library=(host host_lines host_list host_book)
+
+# merge OUT ARCHIVE..: one archive of several.
+merge() {
+    find_kit
+    rm -f -- "$1" && "$tools/llvm-ar" qcsL "$@"
 }
 
 # archive CRATE STAMP

@@ -26,3 +26,7 @@ runnable() {
 run() {
     "${emulator[@]}" "$@"
 }
+
+# The programs behind bin/calls, in the order in which a record passes through them: one reads requests, one writes answers, and those
+# between them each answer for some crates.
+calls=(calls_read calls_values calls_frames calls_messages calls_write)

@@ -16,12 +16,12 @@ static const u8 reset_book[] = {2, 9, 0, 0xD5, 0xAA, 0x96, 0xFF, 0, 0, 0, 0xA3, 
 static const char reset_line[] = "{\"at\":0,\"len\":9,\"msg\":\"command\",\"id\":255,\"data\":\"\"}\n";
 
 static void try_empty_book(void) {
-    struct opened o = try_open(EMPTY_BOOK, empty, sizeof empty);
+    struct bolsterweft_entries o = try_open(EMPTY_BOOK, empty, sizeof empty);
     expect(EMPTY_BOOK, !o.refusal && o.count == 0, empty, sizeof empty);
     expect(EMPTY_BOOK, try_entry(EMPTY_BOOK, empty, sizeof empty, 0).refusal == 3, empty, sizeof empty);
     expect(EMPTY_BOOK, try_line(EMPTY_BOOK, empty, sizeof empty, 0, 99).refusal == 3, empty, sizeof empty);
     for (usize m = 0; m < 3; m++) {
-        struct written w = try_list(EMPTY_BOOK, empty, sizeof empty, m);
+        struct bolsterweft_count w = try_list(EMPTY_BOOK, empty, sizeof empty, m);
         expect(EMPTY_BOOK, !w.refusal && w.length == 0, empty, sizeof empty);
     }
     begin_draft(&good);
@@ -30,12 +30,12 @@ static void try_empty_book(void) {
 
 static void try_reset_book(void) {
     const usize n = sizeof reset_book, line = sizeof reset_line - 1;
-    struct written w = try_add(RESET_BOOK, empty, sizeof empty, 2, reset, sizeof reset, n);
+    struct bolsterweft_count w = try_add(RESET_BOOK, empty, sizeof empty, 2, reset, sizeof reset, n);
     expect(RESET_BOOK, n == 22 && w.length == n && memcmp(room, reset_book, n) == 0, room, n);
-    struct opened o = try_open(RESET_BOOK, reset_book, n);
+    struct bolsterweft_entries o = try_open(RESET_BOOK, reset_book, n);
     expect(RESET_BOOK, !o.refusal && o.count == 1, reset_book, n);
-    struct kept e = try_entry(RESET_BOOK, reset_book, n, 0);
-    expect(RESET_BOOK, !e.refusal && e.kind == 2 && e.offset == 0 && e.from == 3 && e.to == 12, reset_book, n);
+    struct bolsterweft_entry e = try_entry(RESET_BOOK, reset_book, n, 0);
+    expect(RESET_BOOK, !e.refusal && e.kind == 2 && e.offset == 0 && e.frame_start == 3 && e.frame_length == 9, reset_book, n);
     w = try_line(RESET_BOOK, reset_book, n, 0, 99);
     expect(RESET_BOOK, !w.refusal && w.length == line && memcmp(room, reset_line, line) == 0, reset_book, n);
     w = try_list(RESET_BOOK, reset_book, n, 99);
@@ -98,7 +98,7 @@ static void begin_book(void) {
 
 /* Adds an entry. What is written is also what the draft, with one piece more, is bound to. */
 static void grow(enum property p, const struct piece *e) {
-    struct written w = try_add(p, book, size, e->kind, e->frame, e->length, size + e->length + 7 + any() % 40);
+    struct bolsterweft_count w = try_add(p, book, size, e->kind, e->frame, e->length, size + e->length + 7 + any() % 40);
     put_piece(&good, e);
     size = bind_draft(&good, book);
     expect(p, !w.refusal && w.length == size && memcmp(room, book, size) == 0, book, size);
@@ -116,19 +116,19 @@ static void grow_by(usize entries, void make(struct piece *e, u8 kind)) {
 /* The good book, read */
 
 static void opens(enum property p) {
-    struct opened o = try_open(p, book, size);
+    struct bolsterweft_entries o = try_open(p, book, size);
     expect(p, !o.refusal && o.count == good.count, book, size);
 }
 
-static void reads_entry(enum property p, usize number) {
+static void reads_entry(enum property p, u32 number) {
     usize at = good.offsets[number];
-    struct kept e = try_entry(p, book, size, number);
-    expect(p, !e.refusal && e.kind == good.entries[at] && e.offset == at && e.from == at + 3 && e.to == entry_end(number), book, size);
+    struct bolsterweft_entry e = try_entry(p, book, size, number);
+    expect(p, !e.refusal && e.kind == good.entries[at] && e.offset == at && e.frame_start == at + 3 && e.frame_start + e.frame_length == entry_end(number), book, size);
     entries_read++;
 }
 
 static void reads_every_entry(void) {
-    for (usize i = 0; i < good.count; i++)
+    for (u32 i = 0; i < good.count; i++)
         reads_entry(ENTRIES, i);
 }
 
@@ -136,22 +136,22 @@ static void reads_every_entry(void) {
 static void reads_every_line(void) {
     static u8 together[LINES_ROOM];
     usize n = 0;
-    for (usize i = 0; i < good.count; i++) {
-        struct written w = try_line(LINES, book, size, i, LINE_ROOM);
+    for (u32 i = 0; i < good.count; i++) {
+        struct bolsterweft_count w = try_line(LINES, book, size, i, LINE_ROOM);
         expect(LINES, !w.refusal && w.length, book, size);
         put_copy(together + n, room, w.length);
         n += w.length;
     }
-    struct written w = try_list(LISTED, book, size, n + any() % 40);
+    struct bolsterweft_count w = try_list(LISTED, book, size, n + any() % 40);
     expect(LISTED, !w.refusal && w.length == n && memcmp(room, together, n) == 0, book, size);
 }
 
 /* Whether n bytes are written in a room just long enough, and none in one that is a byte too short. */
-static int exactly(struct written w, struct written short_of_it, usize n) {
+static int exactly(struct bolsterweft_count w, struct bolsterweft_count short_of_it, usize n) {
     return !w.refusal && w.length == n && short_of_it.refusal == 4 && !short_of_it.length;
 }
 
-static void try_rooms_for_line(enum property p, usize number) {
+static void try_rooms_for_line(enum property p, u32 number) {
     usize n = book_line_in_c(book, size, number, in_c, LINE_ROOM).length;
     expect(p, exactly(try_line(p, book, size, number, n), try_line(p, book, size, number, n - 1), n), book, size);
     expect(p, try_line(p, book, size, number, any() % n).refusal == 4, book, size);
@@ -167,7 +167,7 @@ static void try_rooms_for_list(enum property p) {
 
 static void try_rooms_for_add(enum property p, const struct piece *e) {
     usize n = size + e->length + 7;
-    struct written w = try_add(p, book, size, e->kind, e->frame, e->length, n),
+    struct bolsterweft_count w = try_add(p, book, size, e->kind, e->frame, e->length, n),
                    s = try_add(p, book, size, e->kind, e->frame, e->length, n - 1);
     expect(p, exactly(w, s, n), book, size);
     expect(p, try_add(p, book, size, e->kind, e->frame, e->length, any() % n).refusal == 4, book, size);
@@ -178,20 +178,20 @@ static void try_rooms(void) {
     make_any(&e, 0);
     try_rooms_for_add(ROOMS, &e);
     if (good.count) {
-        try_rooms_for_line(ROOMS, any() % good.count);
+        try_rooms_for_line(ROOMS, (u32)(any() % good.count));
         try_rooms_for_list(ROOMS);
     }
 }
 
 /* Of several causes the one that is told. Each case has the later causes too: a bad frame and no room for an unknown kind, and so on. */
 
-static void refuses_add(u32 refusal, u8 kind, const u8 *f, usize k, usize m) {
+static void refuses_add(u32 refusal, u32 kind, const u8 *f, usize k, usize m) {
     expect(ORDER, try_add(ORDER, book, size, kind, f, k, m).refusal == refusal, book, size);
 }
 
 static void try_unknown_kinds(const struct piece *e) {
-    static const u8 unknown[] = {0, 6, 255};
-    for (usize i = 0; i < sizeof unknown; i++) {
+    const u32 unknown[] = {0, 6, 255, 256 + e->kind, 65536 + e->kind, wide(e->kind), unknown_kind()};
+    for (usize i = 0; i < sizeof unknown / sizeof *unknown; i++) {
         refuses_add(2, unknown[i], e->frame, e->length, size + e->length + 7);
         refuses_add(2, unknown[i], e->frame, e->length - 1, any() % 20);
     }
@@ -213,7 +213,8 @@ static void try_wrong_frames(const struct piece *e) {
 }
 
 static void try_numbers_beyond(void) {
-    const usize numbers[] = {good.count, good.count + 1, good.count + any() % 2000, 65536 + any() % 3, 4294967296u + any() % 3, ~(usize)0};
+    const u32 count = (u32)good.count,
+              numbers[] = {count, count + 1, count + (u32)(any() % 2000), 65536 + (u32)(any() % 3), wide(0), wide(count / 2), 0xFFFFFFFF};
     for (usize i = 0; i < sizeof numbers / sizeof *numbers; i++) {
         expect(ORDER, try_entry(ORDER, book, size, numbers[i]).refusal == 3, book, size);
         expect(ORDER, try_line(ORDER, book, size, numbers[i], any() % 2 ? 99 : 0).refusal == 3, book, size);
@@ -286,14 +287,14 @@ static void try_scraps(void) {
 /* The limits. In a full book a few entries stand for all. */
 
 static void reads_some(enum property p) {
-    usize some[] = {0, 1, any() % good.count, good.count - 1};
+    u32 some[] = {0, 1, (u32)(any() % good.count), (u32)good.count - 1};
     opens(p);
     for (usize i = 0; i < sizeof some / sizeof *some; i++) {
         reads_entry(p, some[i]);
         try_rooms_for_line(p, some[i]);
     }
     try_rooms_for_list(p);
-    expect(p, try_entry(p, book, size, good.count).refusal == 3, book, size);
+    expect(p, try_entry(p, book, size, (u32)good.count).refusal == 3, book, size);
 }
 
 /* Whatever is added to a full book is refused: a kind that is not known first, then with 5, whatever the room. */
@@ -383,7 +384,7 @@ static void try_longest_and_shortest(void) {
         e.length = shortest(e.frame, kind);
         grow(FRAMES, &e);
     }
-    for (usize i = 0; i < good.count; i++) {
+    for (u32 i = 0; i < good.count; i++) {
         reads_entry(FRAMES, i);
         try_rooms_for_line(FRAMES, i);
     }

@@ -5,7 +5,7 @@
 
 #include "book_in_c.h"
 #include "longest.h"
-#include "messages_made.h"
+#include "captures_made.h"
 
 /* A few bytes and entries more than a book may have. */
 enum { DRAFT_BYTES = 70000, DRAFT_ENTRIES = 1010, FRAME_BYTES = 1100 };
@@ -19,14 +19,14 @@ struct piece {
 
 /* Frames for entries, of a kind or, for 0, of any. */
 
-static u8 any_kind(void) { return (u8)(any() % 5 + 1); }
+static inline u8 any_kind(void) { return (u8)(any() % 5 + 1); }
 
-static void make_message(struct piece *e, u8 kind) {
+static inline void make_message(struct piece *e, u8 kind) {
     e->kind = kind ? kind : any_kind();
     e->length = message(e->frame, e->kind);
 }
 
-static void make_longest(struct piece *e, u8 kind) {
+static inline void make_longest(struct piece *e, u8 kind) {
     e->kind = kind ? kind : any_kind();
     e->length = longest(e->frame, e->kind, 0);
 }
@@ -67,14 +67,14 @@ static usize bind_draft(const struct draft *d, u8 *book) {
 /* A Nest command that takes so many bytes of a book, its offset among them: from 16 to 1,040. */
 enum { LEAST_TAKEN = 16, MOST_TAKEN = LEAST_TAKEN + 1024 };
 
-static void make_filler(struct piece *e, usize taken) {
+static inline void make_filler(struct piece *e, usize taken) {
     e->kind = 2;
     e->length = made_nest(e->frame, 2, taken - LEAST_TAKEN, (u8)taken, 0);
 }
 
 /* Fills the draft with pieces as they are made, and with fillers at its end, so far that the book has the most entries or exactly so
    many bytes with one piece more, which is left in e. A filler that is left there could be a byte longer. */
-static void nearly_fill(struct draft *d, usize bytes, void make(struct piece *e, u8 kind), u8 kind, struct piece *e) {
+static inline void nearly_fill(struct draft *d, usize bytes, void make(struct piece *e, u8 kind), u8 kind, struct piece *e) {
     for (make(e, kind); d->count + 1 < MOST_ENTRIES && draft_size(d) + e->length + 7 + LEAST_TAKEN <= bytes; make(e, kind))
         put_piece(d, e);
     if (d->count + 1 == MOST_ENTRIES)

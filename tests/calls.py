@@ -1,4 +1,4 @@
-"""Requests to the program `calls` and its answers, as docs/CALLS.md says that they are written; and the program, built and run."""
+"""Requests to bin/calls and its answers, as docs/CALLS.md says that they are written; and the command, proved and run."""
 import subprocess
 
 import proved
@@ -62,7 +62,6 @@ def in_room(made, room, to=0, values=()):
 
 
 def run(requests):
-    """The proved program's answers; on Arm under the kit's emulator."""
-    words = ["bash", "-c", '. scripts/run.sh && run "$0"', proved.program("calls")]
+    """The proved programs' answers."""
     given = "".join(line + "\n" for line in requests).encode("ascii")
-    return subprocess.run(words, cwd=proved.ROOT, input=given, stdout=subprocess.PIPE, check=True).stdout.decode("ascii").splitlines()
+    return subprocess.run([proved.calls()], input=given, stdout=subprocess.PIPE, check=True).stdout.decode("ascii").splitlines()

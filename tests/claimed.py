@@ -25,8 +25,8 @@ ROWS = "crates/claims/proofs/Table"
 
 
 def blocks(path):
-    """The paragraphs of a file."""
-    return re.split(r"\n\n+", path.read_text(encoding="utf-8"))
+    """The paragraphs of a file. (A name with an underscore stands in « and » there.)"""
+    return re.split(r"\n\n+", re.sub("[«»]", "", path.read_text(encoding="utf-8")))
 
 
 # ---- the code: each public function's parameters

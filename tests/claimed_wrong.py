@@ -33,23 +33,23 @@ class Edit(NamedTuple):
 
 
 ROWS = "crates/claims/proofs/Table/"
-HOST = "crates/host/src/lib.rt"
+HOST = "crates/host/src/number_calls.rt"
 # The functions that are made to ask, as their heads stand in the file
 HEADS = {
-    "bolsterweft_one_frame": '\npub extern "C" fn bolsterweft_one_frame(kind: u8, s: &[u8]) -> Ends\n',
-    "bolsterweft_search": '\npub extern "C" fn bolsterweft_search(kind: u8, buffer: &[u8], place: usize) -> Hit\n',
+    "bolsterweft_value_read": '\npub extern "C" fn bolsterweft_value_read(bytes: &[u8], width: u32, is_signed: u32) -> Raw\n',
+    "bolsterweft_text": '\npub extern "C" fn bolsterweft_text(raw: i64, decimals: u32, room: &mut [u8]) -> Count\n',
 }
 
 
 def asking(name, clause, row):
     """The function asks this of its caller."""
     head = HEADS[name]
-    return Edit(name + " asks", HOST, head, head + "    requires { %s }\n" % clause, "host::%s has a `requires`" % name, row)
+    return Edit(name + " asks", HOST, head, head + "    requires { %s }\n" % clause, "host::number_calls::%s has a `requires`" % name, row)
 
 
 EDITS = [
-    asking("bolsterweft_one_frame", "(⌜ kind ≡ 4 ⌝ ∧ₛ ⌜ length (now s) ≡ 6 ⌝) ∗ ⊤ₛ", "one-frame-proper"),
-    asking("bolsterweft_search", "⌜ kind ≡ 4 ⌝", "search-proper"),
+    asking("bolsterweft_value_read", "(⌜ width ≡ 2 ⌝ ∧ₛ ⌜ length (now bytes) ≡ 2 ⌝) ∗ ⊤ₛ", "value-read-proper"),
+    asking("bolsterweft_text", "⌜ decimals ≡ 2 ⌝", "text-of-proper"),
     Edit("an argument from another parameter", ROWS + "Lines.antt", "content = a .1 .0 .now; at = a .1 .1 .0; len = a .1 .1 .1 .0;",
          "content = a .1 .0 .now; at = a .1 .1 .1 .0; len = a .1 .1 .0;", "gives the arguments"),
     Edit("the room afterwards from another parameter", ROWS + "Puts.antt", "later = λ κs s. s .1 .0 .now;\n    }\n\npub front-proper",

@@ -1,8 +1,9 @@
 /* Document 01's frames in plain C, written from the document: what the proved search is compared with, and timed against. The
-   length of the frame at the head of s, of which there are m bytes; 0 for none. */
+   length of the frame at the head of s, of which there are m bytes; 0 for none. The calls below are those of bolsterweft.h. */
 #ifndef FRAMES_IN_C_H
 #define FRAMES_IN_C_H
 
+#include "../include/bolsterweft.h"
 #include "prelude.h"
 
 static u16 crc_high16(u16 v, u8 b) {
@@ -216,6 +217,53 @@ static inline usize length_in_c(u8 kind, const u8 *s, usize m) {
     default:
         return homiq_length(s, m);
     }
+}
+
+/* The kinds that there are. */
+static inline int known(u32 kind) { return kind >= 1 && kind <= 5; }
+
+/* Whether the bytes are one frame of a kind that is known. No frame is empty: a length of 0 is `none`. */
+static inline int is_frame(u32 kind, const u8 *f, usize n) { return n > 0 && length_in_c((u8)kind, f, n) == n; }
+
+/* Where a frame's payload begins, and how long it is. */
+static inline void payload_in_c(u8 kind, const u8 *f, usize n, usize *start, usize *length) {
+    *start = kind == 2 ? 7 : kind == 3 ? 8 : kind == 5 ? 2 : 3;
+    if (kind == 1) {
+        *start = f[0] == '$' ? 3 : f[1] == 'N' ? 2 : 4;
+        *length = f[0] == '$' ? n - 10 : f[1] == 'N' ? 6 : 0;
+    } else if (kind == 5) {
+        usize fields = 0, at = 2;
+        for (; fields < 6; at++)
+            fields += f[at] == ';';
+        *length = at - 3;
+    } else {
+        *length = n - (kind == 4 ? 4 : *start + 2);
+    }
+}
+
+static inline struct bolsterweft_payload one_frame_in_c(u32 kind, const u8 *f, usize n) {
+    struct bolsterweft_payload p = {!known(kind) ? 2 : !is_frame(kind, f, n) ? 5 : 0, 0, 0};
+    if (!p.refusal)
+        payload_in_c((u8)kind, f, n, &p.payload_start, &p.payload_length);
+    return p;
+}
+
+/* The frame with the smallest start. */
+static inline struct bolsterweft_found search_in_c(u32 kind, const u8 *s, usize n, usize place) {
+    struct bolsterweft_found r = {!known(kind) ? 2 : place > n ? 3 : 1, 0, 0, 0, 0};
+    if (r.refusal != 1)
+        return r;
+    for (usize i = place; i < n; i++) {
+        r.length = length_in_c((u8)kind, s + i, n - i);
+        if (r.length) {
+            r.refusal = 0;
+            r.start = i;
+            payload_in_c((u8)kind, s + i, r.length, &r.payload_start, &r.payload_length);
+            r.payload_start += i;
+            return r;
+        }
+    }
+    return r;
 }
 
 #endif

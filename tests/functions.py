@@ -4,8 +4,8 @@ import re
 from typing import NamedTuple
 
 ROOT = pathlib.Path(__file__).resolve().parent.parent
-# These repeat promises of other crates, one call each, for C to call: what is shown of those crates' functions is shown of theirs.
-REPEATS = {"probe", "probe_list", "probe_book"}
+# It repeats promises of `checks`, one call each, for the tests in C to call: what is shown of those functions is shown of its own.
+REPEATS = {"probe"}
 
 
 class Function(NamedTuple):

@@ -1,6 +1,6 @@
 #!/usr/bin/env python3
 """Whether the numbers of the kinds stand in one place of the library's code, crates/frames/src/kinds.rt: nowhere else is a kind compared
-with a number, matched on as one, or handed as one to a function that takes a kind. (The program `calls` has kinds of values and of answers
+with a number, matched on as one, or handed as one to a function that takes a kind. (The programs of bin/calls have kinds of values
 too: there only the last is looked for.)
 
 Prints what is amiss and `N passed, M failed`: a test is a source file of a crate.
@@ -33,7 +33,7 @@ def code(text):
 
 def amiss_in(path):
     text = code(path.read_text(encoding="utf-8"))
-    for pattern, what in AMISS[-1:] if "crates/calls/" in str(path) else AMISS:
+    for pattern, what in AMISS[-1:] if "crates/calls_" in str(path) else AMISS:
         for found in pattern.finditer(text):
             yield "%s:%d: %s: %s" % (path.relative_to(ROOT), text.count("\n", 0, found.start()) + 1, what, found.group(0))
 

@@ -18,4 +18,11 @@ static usize longest(u8 *f, u8 kind, int spoilt) {
     }
 }
 
+/* The same, but of Homiq one of those whose fields are the longest: their CRC, and so the frame, has more or fewer digits. */
+static inline usize one_of_the_longest(u8 *f, u8 kind, u8 which) {
+    char fields[] = "ABCDEFGH;0123456789ABCDEF;WXYZ;wxyz;511;s";
+    fields[0] = (char)('A' + which % 26);
+    return kind == 5 ? made_homiq(f, fields, 0) : longest(f, kind, 0);
+}
+
 #endif

@@ -1,17 +1,16 @@
-/* The proved calls on numbers against a second implementation that shares nothing with them: texts by C's own `%lld` and a point put
+/* The proved calls on numbers against a second implementation that shares nothing with them: texts by C's own `%llu` and a point put
    in, texts read by the grammar, character by character, bytes by C's own integers, floats by the machine's own casts.
 
    numbers SEED: prints the seed, each difference, and `N passed, M failed`: a test is a property, over all inputs. */
-#include "../include/bolsterweft.h"
+#include "lent.h"
 #include "numbers_in_c.h"
 #include "trials.h"
 
-enum property { TEXT, TEXT_ROOM, READ_BACK, READ, VALUE, VALUE_ROOM, VALUE_BACK, VALUE_READ, FITS, PANEL, CLIMATE, PROPERTIES };
+enum property { TEXT, READ_BACK, READ, VALUE, VALUE_BACK, VALUE_READ, WIDE, FITS, PANEL, CLIMATE, CLIMATE_BEYOND, ROOM, PROPERTIES };
 
 static const char *const names[PROPERTIES] = {
-    "the text", "the room behind the text", "a text read back", "any text read",
-    "the bytes", "the room behind the bytes", "bytes read back", "any bytes read",
-    "fits a single", "the panel's float", "a climate message's singles",
+    "the text", "a text read back", "any text read", "the bytes", "bytes read back", "any bytes read", "decimals, widths and signs that are too large",
+    "fits a single", "the panel's float", "a climate message's singles", "a climate message out of range", "nothing else is written",
 };
 
 static unsigned tried[PROPERTIES], wrong[PROPERTIES];
@@ -22,37 +21,31 @@ static void expect(enum property p, int right, i64 raw, i64 with) {
         printf("%s: wrong at %lld, %lld\n", names[p], (long long)raw, (long long)with);
 }
 
-static int same_number(struct number a, struct number b) {
+static int same_number(struct bolsterweft_reading a, struct bolsterweft_reading b) {
     return a.refusal == b.refusal && a.raw == b.raw && a.decimals == b.decimals;
 }
 
-static struct number read_text(const u8 *t, usize n) {
-    struct bolsterweft_reading r = bolsterweft_number(t, n);
-    return (struct number){r.refusal, r.decimals, r.raw};
+static int same_count(struct bolsterweft_count a, struct bolsterweft_count b) { return a.refusal == b.refusal && a.length == b.length; }
+
+static int same_raw(struct bolsterweft_raw a, struct bolsterweft_raw b) { return a.refusal == b.refusal && a.raw == b.raw; }
+
+/* A number of which C could lose the high bits. */
+static u32 widened(u32 low) {
+    static const u32 above[] = {256, 65536, 0x01000000, 0x80000000, 0xFFFFFF00, 0xFFFF0000};
+    return low + above[any() % 6];
 }
 
-static int all_same(const u8 *s, usize n, u8 byte) {
-    for (usize i = 0; i < n; i++)
-        if (s[i] != byte)
-            return 0;
-    return 1;
-}
-
-static void try_text(i64 raw, u32 decimals) {
-    u8 room[24];
-    char own[40];
-    usize n = any() % (sizeof room + 1), len = 0;
-    u8 byte = (u8)any();
-    memset(room, byte, sizeof room);
-    u32 refusal = decimals > 3 ? 7 : !in_range(raw) ? 5 : 0;
-    if (!refusal && (len = text_of(raw, decimals, own)) > n)
-        refusal = 4;
-    struct bolsterweft_count r = bolsterweft_text(raw, decimals, room, n);
-    expect(TEXT, r.refusal == refusal && r.length == (refusal ? 0 : len) && !memcmp(room, own, r.length), raw, decimals);
-    expect(TEXT_ROOM, all_same(room + r.length, sizeof room - r.length, byte), raw, decimals);
+static void try_text(enum property p, i64 raw, u32 decimals) {
+    u8 own[24];
+    usize m = any() % (sizeof own + 1);
+    u8 *room = lend_room(m);
+    struct bolsterweft_count r = bolsterweft_text(raw, decimals, room, m), c = text_in_c(raw, decimals, own, m);
+    expect(p, same_count(r, c) && !memcmp(room, own, c.length), raw, decimals);
+    expect(ROOM, only_written(c.length, m), raw, decimals);
     if (decimals <= 3 && in_range(raw)) {
-        struct number back = read_text((u8 *)own, text_of(raw, decimals, own)), wanted = {0, decimals, raw};
-        expect(READ_BACK, same_number(back, wanted), raw, decimals);
+        struct bolsterweft_reading wanted = {0, decimals, raw};
+        usize n = text_of(raw, decimals, (char *)own);
+        expect(READ_BACK, same_number(bolsterweft_number(own, n), wanted), raw, decimals);
     }
 }
 
@@ -79,108 +72,76 @@ static void try_any_text(i64 raw) {
         for (usize i = 0; i < n; i++)
             t[i] = chars[any() % (sizeof chars - 1)];
     }
-    expect(READ, same_number(read_text(t, n), read_of(t, n)), raw, (i64)n);
+    expect(READ, same_number(bolsterweft_number(t, n), number_in_c(t, n)), raw, (i64)n);
 }
 
-/* The bytes as C's own integers have them: the machine is little-endian. */
-static int held(i64 raw, usize width, int is_signed, u8 *out) {
-    if (width == 1 && is_signed) {
-        i8 v = (i8)raw;
-        memcpy(out, &v, 1);
-        return v == raw;
-    }
-    if (width == 1) {
-        u8 v = (u8)raw;
-        memcpy(out, &v, 1);
-        return v == raw;
-    }
-    if (width == 2 && is_signed) {
-        i16 v = (i16)raw;
-        memcpy(out, &v, 2);
-        return v == raw;
-    }
-    if (width == 2) {
-        u16 v = (u16)raw;
-        memcpy(out, &v, 2);
-        return v == raw;
-    }
-    if (is_signed) {
-        i32 v = (i32)raw;
-        memcpy(out, &v, 4);
-        return v == raw;
-    }
-    u32 v = (u32)raw;
-    memcpy(out, &v, 4);
-    return v == raw;
-}
-
-static int is_width(usize width) { return width == 1 || width == 2 || width == 4; }
-
-static void try_value(i64 raw, usize width, int is_signed) {
-    u8 room[8], own[4] = {0, 0, 0, 0}, byte = (u8)any();
-    usize n = any() % (sizeof room + 1);
-    memset(room, byte, sizeof room);
-    int fits = is_width(width) && held(raw, width, is_signed, own);
-    u32 refusal = !is_width(width) ? 7 : !fits ? 5 : n < width ? 4 : 0;
-    struct count r = probe_value(raw, width, (u8)is_signed, room, n);
-    expect(VALUE, r.refusal == refusal && r.bytes == (refusal ? 0 : width) && !memcmp(room, own, r.bytes), raw, (i64)width);
-    expect(VALUE_ROOM, all_same(room + r.bytes, sizeof room - r.bytes, byte), raw, (i64)width);
-    if (fits) {
-        struct number back = probe_value_read(own, width, width, (u8)is_signed), wanted = {0, 0, raw};
-        expect(VALUE_BACK, same_number(back, wanted), raw, (i64)width);
+static void try_value(enum property p, i64 raw, u32 width, u32 is_signed) {
+    u8 own[8];
+    usize m = any() % (sizeof own + 1);
+    u8 *room = lend_room(m);
+    struct bolsterweft_count r = bolsterweft_value(raw, width, is_signed, room, m), c = value_in_c(raw, width, is_signed, own, m);
+    expect(p, same_count(r, c) && !memcmp(room, own, c.length), raw, width);
+    expect(ROOM, only_written(c.length, m), raw, width);
+    if (is_width(width) && held(raw, width, is_signed != 0, own)) {
+        struct bolsterweft_raw wanted = {0, raw};
+        expect(VALUE_BACK, same_raw(bolsterweft_value_read(own, width, width, is_signed), wanted), raw, width);
     }
 }
 
-static i64 value_of(const u8 *s, usize width, int is_signed) {
-    i64 value = 0;
-    for (usize i = 0; i < width; i++)
-        value += (i64)s[i] << 8 * i;
-    return is_signed && s[width - 1] >= 0x80 ? value - ((i64)1 << 8 * width) : value;
-}
-
-static void try_any_bytes(void) {
+static void try_value_read(enum property p, u32 width, u32 is_signed) {
     u8 s[6];
-    usize n = any() % 6, width = any() % 4 ? n : any() % 6;
-    int is_signed = (int)(any() % 2);
+    usize n = any() % 6;
     for (usize i = 0; i < n; i++)
         s[i] = any() % 4 ? (u8)any() : (u8)(any() % 2 ? 0xFF : 0x80);
-    struct number wanted = {!is_width(width) ? 7 : n != width ? 5 : 0, 0, 0};
-    if (!wanted.refusal)
-        wanted.raw = value_of(s, width, is_signed);
-    expect(VALUE_READ, same_number(probe_value_read(s, n, width, (u8)is_signed), wanted), (i64)n, (i64)width);
+    if (width == 99)
+        width = (u32)(any() % 4 ? n : any() % 6);
+    expect(p, same_raw(bolsterweft_value_read(s, n, width, is_signed), value_read_in_c(s, n, width, is_signed)), (i64)n, width);
 }
 
-/* What the machine's own casts keep. */
+/* What a cut to a byte or to 16 bits would let through: decimals and widths. What it would turn round: a sign that is not 0. */
+static void try_wide(i64 raw) {
+    static const u32 widths[] = {1, 2, 4};
+    u32 width = widths[any() % 3];
+    try_text(WIDE, raw, widened((u32)(any() % 4)));
+    try_value(WIDE, raw, widened(width), (u32)(any() % 2));
+    try_value_read(WIDE, widened(width), (u32)(any() % 2));
+    try_value(WIDE, raw, width, widened(0));
+    try_value_read(WIDE, width, widened(0));
+}
+
 static void try_float(i64 raw) {
-    float single = (float)raw;
-    double twice = (double)raw;
-    int fits = (double)single == twice;
-    struct truth t = probe_fits(raw);
-    struct bits b = probe_panel(raw), wanted = {5, 4, 0};
-    if (in_range(raw)) {
-        wanted.refusal = 0;
-        wanted.size = fits ? 4 : 8;
-        memcpy(&wanted.bits, fits ? (void *)&single : (void *)&twice, wanted.size);
-    }
-    expect(FITS, t.refusal == wanted.refusal && t.holds == (!wanted.refusal && fits), raw, 0);
-    expect(PANEL, b.refusal == wanted.refusal && b.size == wanted.size && b.bits == wanted.bits, raw, 0);
+    struct bolsterweft_fit f = bolsterweft_fits(raw), cf = fits_in_c(raw);
+    struct bolsterweft_panel_value v = bolsterweft_panel(raw), cv = panel_in_c(raw);
+    expect(FITS, f.refusal == cf.refusal && f.fits == cf.fits, raw, 0);
+    expect(PANEL, v.refusal == cv.refusal && v.size == cv.size && !memcmp(&v.single, &cv.single, 4) && !memcmp(&v.wide, &cv.wide, 8), raw, 0);
 }
 
-static void try_climate(i16 temperature, u16 humidity) {
-    float t = (float)temperature, h = (float)humidity;
-    struct pair got = probe_climate(temperature, humidity);
-    expect(CLIMATE, !memcmp(&got.temperature, &t, 4) && !memcmp(&got.humidity, &h, 4), temperature, humidity);
+static void try_climate(enum property p, i32 temperature, u32 humidity) {
+    struct bolsterweft_climate r = bolsterweft_climate(temperature, humidity), c = climate_in_c(temperature, humidity);
+    expect(p, r.refusal == c.refusal && !memcmp(&r.temperature, &c.temperature, 4) && !memcmp(&r.humidity, &c.humidity, 4), temperature, humidity);
+}
+
+/* Around the limits of 16 bits, and what a cut would bring back between them. */
+static void try_climates_beyond(void) {
+    static const i32 temperatures[] = {-2147483647 - 1, -65537, -65536, -32770, -32769, -32768, 0, 32767, 32768, 32769, 65535, 65536, 2147483647};
+    static const u32 humidities[] = {0, 65534, 65535, 65536, 65537, 131071, 0x7FFFFFFF, 0x80000000, 0xFFFF0000, 0xFFFFFFFF};
+    for (usize i = 0; i < sizeof temperatures / sizeof *temperatures; i++)
+        for (usize k = 0; k < sizeof humidities / sizeof *humidities; k++)
+            try_climate(CLIMATE_BEYOND, temperatures[i], humidities[k]);
+    for (int t = 0; t < 20000; t++)
+        try_climate(CLIMATE_BEYOND, (i32)(u32)any() >> any() % 32, (u32)any() >> any() % 32);
 }
 
 static void try_number(i64 raw) {
     for (u32 decimals = 0; decimals < 5; decimals++)
-        try_text(raw, decimals);
+        try_text(TEXT, raw, decimals);
     try_any_text(raw);
-    for (usize width = 0; width < 6; width++) {
-        try_value(raw, width, 0);
-        try_value(raw, width, 1);
+    for (u32 width = 0; width < 6; width++) {
+        try_value(VALUE, raw, width, 0);
+        try_value(VALUE, raw, width, 1);
     }
-    try_any_bytes();
+    try_value_read(VALUE_READ, 99, (u32)(any() % 2));
+    try_wide(raw);
     try_float(raw);
 }
 
@@ -193,7 +154,8 @@ int main(int count, char **words) {
             try_number(papers[i]);
     /* all counts of 16 bits */
     for (u32 n = 0; n < 65536; n++)
-        try_climate((i16)n, (u16)(n * 40503));
+        try_climate(CLIMATE, (i16)n, (u16)(n * 40503));
+    try_climates_beyond();
     /* around each power of two and of ten, on both sides of zero */
     for (i64 p = 1; p < (i64)1 << 40; p *= 2)
         for (i64 near = -3; near <= 3; near++) {

@@ -1,10 +1,11 @@
 #!/usr/bin/env python3
-"""The paper's cases, and the small ranges whole, as requests to the program `calls`, and what it should answer: by paper.py, which is
-from the documents alone, and written as docs/CALLS.md says. A case is a request and its answer.
+"""The paper's cases, and the small ranges whole, as requests to bin/calls, and what it should answer: by paper.py, which is from the
+documents alone, and written as docs/CALLS.md says. A case is a request and its answer.
 
 tests/points.py           shows them, each answer under its request
-tests/points.py --write   writes crates/calls/stdin and crates/calls/stdout: `rt` runs the program on the one and holds it to the other
-tests/points.py --check   whether those files are what this script writes
+tests/points.py --write   writes tests/points.requests and tests/points.answers, to be read, and sent by hand
+tests/points.py --check   whether those files are what this script writes, and the proved programs answer so; proves them if that has not
+                          been done
 """
 import functools
 import itertools
@@ -14,13 +15,14 @@ import sys
 
 sys.dont_write_bytecode = True  # or Python leaves a folder beside those that are imported
 
+import calls
 import lines
 import paper
 from calls import answer, in_room, request
 from paper import ASK, ASK_E, COMMAND_D, HOMIQ_G, HOMIQ_H, LINK_A, LINK_B, PREAMBLES, PRESSED, REPLY, REPLY_CLIMATE, RESET, TAILED
 from paper import HIGHEST, LOWEST, homiq, link, nest, nibe
 
-FOLDER = os.path.join(os.path.dirname(os.path.abspath(__file__)), "..", "crates", "calls")
+FILES = os.path.join(os.path.dirname(os.path.abspath(__file__)), "points.")
 
 
 def or_refused(value, number):
@@ -552,36 +554,36 @@ SUBJECTS = [
 
 
 def files():
-    """Each file's name and content."""
+    """The end of each file's name, and its lines: the requests, and the answers."""
     cases = [case for subject in SUBJECTS for case in subject()]
-    for name, lines in zip(("stdin", "stdout"), zip(*cases)):
-        yield name, "".join(line + "\n" for line in lines)
+    yield from zip(("requests", "answers"), zip(*cases))
 
 
 def stored(name):
-    path = os.path.join(FOLDER, name)
-    if not os.path.exists(path):
-        return ""
-    with open(path, encoding="ascii", newline="") as f:
-        return f.read()
+    if not os.path.exists(FILES + name):
+        return []
+    with open(FILES + name, encoding="ascii", newline="") as f:
+        return f.read().removesuffix("\n").split("\n")
 
 
-def is_stored(name, text):
-    """Whether the file has this; if not, the first line that differs is told."""
-    pairs = itertools.zip_longest(text.split("\n"), stored(name).split("\n"))
-    wrong = next((i for i, (line, found) in enumerate(pairs, 1) if line != found), None)
+def same(what, right, found):
+    """Whether two lists of lines are the same; if not, the first that differs is told."""
+    pairs = itertools.zip_longest(right, found)
+    wrong = next(((i, line, other) for i, (line, other) in enumerate(pairs, 1) if line != other), None)
     if wrong:
-        print("crates/calls/%s is not what this script writes: line %d" % (name, wrong))
+        print("%s: line %d is not\n  %s\nbut\n  %s" % (what, *wrong))
     return not wrong
 
 
 def main(words):
     if words == ["--write"]:
-        for name, text in files():
-            with open(os.path.join(FOLDER, name), "w", encoding="ascii", newline="") as f:
-                f.write(text)
+        for name, lines in files():
+            with open(FILES + name, "w", encoding="ascii", newline="") as f:
+                f.writelines(line + "\n" for line in lines)
     elif words == ["--check"]:
-        held = [is_stored(name, text) for name, text in files()]
+        (_, requests), (_, answers) = files()
+        held = [same("tests/points." + name, lines, stored(name)) for name, lines in files()]
+        held.append(same("the answers of bin/calls", answers, calls.run(requests)))
         print("%d passed, %d failed" % (held.count(True), held.count(False)))
         return 0 if all(held) else 1
     elif words:

@@ -31,12 +31,23 @@ def lock():
     os.environ["BOLSTERWEFT_LOCK"] = str(folder)
 
 
-def program(name):
-    """The program's path; it is proved and built if that has not been done."""
+def quietly(*words):
+    """Runs a command; what it writes is shown if it fails, and that is the end."""
     lock()
     (ROOT / "target").mkdir(exist_ok=True)
-    done = subprocess.run(["rt", "check", name], cwd=ROOT, stdout=subprocess.PIPE, stderr=subprocess.STDOUT, close_fds=False, check=False)
+    done = subprocess.run(words, cwd=ROOT, stdout=subprocess.PIPE, stderr=subprocess.STDOUT, close_fds=False, check=False)
     if done.returncode != 0:
         sys.stdout.buffer.write(done.stdout)
         sys.exit(1)
+
+
+def program(name):
+    """The program's path; it is proved and built if that has not been done."""
+    quietly("rt", "check", name)
     return ROOT / "target" / "bin" / name
+
+
+def calls():
+    """The command bin/calls, with its programs proved."""
+    quietly("bin/prove", "calls")
+    return ROOT / "bin" / "calls"

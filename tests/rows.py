@@ -1,5 +1,5 @@
 #!/usr/bin/env python3
-"""Every row of the message table, run: the program `calls` against table.py, on each field's limits and beyond, all kinds, rooms just
+"""Every row of the message table, run: bin/calls against table.py, on each field's limits and beyond, all kinds, rooms just
 long enough and too short, frames whole and damaged, and on random ones.
 
 tests/rows.py [SEED]            proves and builds the program where that has not been done, runs it and compares; with no seed, a fixed

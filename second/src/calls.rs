@@ -12,9 +12,21 @@ use crate::numbers;
 use crate::refusal::Refusal;
 use crate::words::{Room, Words};
 
+#[path = "calls_in_c.rs"]
+mod in_c;
+
 /// The answer line to one request line, both without LF.
 pub fn answer(request: &[u8]) -> Vec<u8> {
-    match called(request) {
+    answer_line(called(request))
+}
+
+/// The same for a call for C.
+pub fn answer_from_c(request: &[u8]) -> Vec<u8> {
+    answer_line(in_c::called(request))
+}
+
+fn answer_line(answer: Option<Answer>) -> Vec<u8> {
+    match answer {
         Some(answer) => answer.line(),
         None => b"request?".to_vec(),
     }

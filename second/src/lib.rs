@@ -22,6 +22,11 @@ pub fn answer(request: &[u8]) -> Vec<u8> {
     calls::answer(request)
 }
 
+/// The same for a request to a call for C, by its name and types there.
+pub fn answer_from_c(request: &[u8]) -> Vec<u8> {
+    calls::answer_from_c(request)
+}
+
 /// What the listing program prints for its whole standard input.
 pub fn listing(input: &[u8]) -> Vec<u8> {
     list::listing(input)

@@ -1,15 +1,15 @@
 -- For each public function and each number that it refuses with: arguments with that cause.
 -- Assumes nothing.
-use mathlib.Core.Bool.{true, false}
+use mathlib.Core.Bool.{Bool, true, false, not}
 use mathlib.Core.List.{List, [], _∷_, _++_}
 use mathlib.Core.Logic.{_⊎_, inl, inr}
 use mathlib.Core.Path.{_≡_, refl, sym, ap, _∙_, subst}
 use Prim.Native.Nat.{ℕ, zero, suc, _+_, _≤_, _<_, _/_, _%_, _^_}
 use native.Mathlib.Omega.{arith}
 use denote.Ref.{RefT}
-use lib.Dec.{T, leb, lit<, lit≤}
+use lib.Dec.{T, eqb, leb, lit<, lit≤}
 use lib.IntN.{ℤ, pos, natAbs}
-use lib.ListN.{length, getD, replicate, length-append, length-replicate}
+use lib.ListN.{length, getD, drop, replicate, length-append, length-drop, length-replicate}
 use mathlib.Core.Bool.{_&&_, _||_}
 use Rattle.digits.specs.Paper.Ascii.{ascii}
 use Rattle.digits.specs.Paper.Decimal.{decimal, decimalIn, enough}
@@ -62,7 +62,9 @@ use Rattle.book.proofs.Theorems.{has-entry, entry-line, book-lines, line-in, la
 use Rattle.book.proofs.Known as book-known
 use Rattle.list.proofs.Known as list-known
 use Rattle.claims.specs.Paper.Causes as causes
-use Rattle.claims.specs.Paper.Claim.{Occur, unread}
+use Rattle.host.specs.Paper.Answers.{flag}
+use Rattle.host.specs.Paper.Panel.{ClimateCause}
+use Rattle.claims.specs.Paper.Claim.{Claim, Occur, unread}
 use Rattle.claims.specs.Paper.Table.Digits as digits
 use Rattle.claims.specs.Paper.Table.Puts as puts
 use Rattle.claims.specs.Paper.Table.Numbers as numbers
@@ -501,25 +503,79 @@ listing = ((record { input = []; room = [] }, causes.short list-known.no-bytes (
 
 -- ---- host
 
+-- a call for C has the causes of what it calls
+as-called : {R S : Type 0} (c : Claim R) (d : Claim S) (f : c .Args → d .Args) → ((a : c .Args) (n : ℕ) → c .Cause a n → d .Cause (f a) n)
+    → Occur (c .Cause) (c .refusals) → Occur (d .Cause) (c .refusals)
+as-called c d f still = go (c .refusals)
+  where
+    go : (l : List ℕ) → Occur (c .Cause) l → Occur (d .Cause) l
+    go [] o = tt
+    go (n ∷ l) o = ((f (o .0 .0), still (o .0 .0) n (o .0 .1)), go l (o .1))
+
 pub host-search : Occur (host.search .Cause) (host.search .refusals)
-host-search = (
-  (record { kind = 0; buffer = []; place = 0 }, unsearched .0),
-  ((record { kind = 1; buffer = []; place = 1 }, unsearched .1), ((record { kind = 4; buffer = 0xC0 ∷ []; place = 1 }, unsearched .2), tt)),
-)
+host-search = as-called frames.search host.search (λ a. record { kind = a .kind; buffer = a .buffer; place = a .place }) (λ a n c. c) search
 
 pub host-one-frame : Occur (host.one-frame .Cause) (host.one-frame .refusals)
-host-one-frame =
-    ((record { kind = 0; s = [] }, WholeCause.no-kind unknown), ((record { kind = 1; s = [] }, WholeCause.no-frame no-frame), tt))
+host-one-frame = as-called frames.one-frame host.one-frame (λ a. record { kind = a .kind; frame = a .s }) (λ a n c. c) one-frame
 
-pub host-text : Occur (host.text-of .Cause) (host.text-of .refusals)
-host-text = (
-  (record { raw = pos 0; decimals = 4; room = [] }, TextCause.decimals (lit< tt)),
-  (
-    (record { raw = pos 4294967296; decimals = 0; room = [] }, TextCause.range (λ h. h .high .le)),
-    ((record { raw = pos 0; decimals = 0; room = [] }, TextCause.room (some-text (pos 0) 0)), tt),
-  ),
-)
+pub host-text-of : Occur (host.text-of .Cause) (host.text-of .refusals)
+host-text-of =
+    as-called numbers.text-write host.text-of (λ a. record { raw = a .raw; decimals = a .decimals; room = a .room }) (λ a n c. c) text-write
 
-pub host-number : Occur (host.number-of .Cause) (host.number-of .refusals)
-host-number =
-    ((record { t = [] }, unread (λ n h e. let none : length (text (n .raw) (n .decimals)) ≡ 0 = ap length e in omega (arith, some-text (n .raw) (n .decimals), none))), tt)
+pub host-number-of : Occur (host.number-of .Cause) (host.number-of .refusals)
+host-number-of = as-called numbers.text-read host.number-of (λ a. record { text = a .t }) (λ a n c. c) text-read
+
+pub host-value : Occur (host.value .Cause) (host.value .refusals)
+host-value =
+    as-called numbers.byte-values-write host.value
+    (λ a. record { raw = a .raw; width = a .width; «is_signed» = flag (a .signed); room = a .room }) (λ a n c. flagged (a .signed) c) byte-values-write
+  where
+    flagged : {w n no : ℕ} {z : ℤ} (b : Bool) → ValueCause w b z n no → ValueCause w (not (eqb (flag b) 0)) z n no
+    flagged true c = c
+    flagged false c = c
+
+pub host-value-read : Occur (host.value-read .Cause) (host.value-read .refusals)
+host-value-read =
+    as-called numbers.byte-values-read host.value-read (λ a. record { bytes = a .s; width = a .width; «is_signed» = flag (a .signed) })
+    (λ a n c. c) byte-values-read
+
+pub host-fits : Occur (host.fits .Cause) (host.fits .refusals)
+host-fits = as-called numbers.single-fits host.fits (λ a. record { raw = a .raw }) (λ a n c. c) single-fits
+
+pub host-panel : Occur (host.panel .Cause) (host.panel .refusals)
+host-panel = as-called numbers.panel-of host.panel (λ a. record { raw = a .raw }) (λ a n c. c) panel-of
+
+pub host-climate : Occur (host.climate .Cause) (host.climate .refusals)
+host-climate = ((record { temperature = pos 32768; humidity = 0 }, ClimateCause.not-signed (λ h. h .high .le)), tt)
+
+pub host-line : Occur (host.line .Cause) (host.line .refusals)
+host-line = as-called lines.write host.line (λ a. record { kind = a .kind; frame = a .frame; at = a .at; room = a .room }) (λ a n c. c) write
+
+-- what is left of a room is a room
+pub host-line-next : Occur (host.line-next .Cause) (host.line-next .refusals)
+host-line-next =
+    as-called lines.next host.line-next
+    (λ a. record { kind = a .kind; capture = a .capture; place = a .place; room = drop (a .to) (a .room) })
+    (λ a n c. subst (λ (left : ℕ). NextCause (a .kind) (a .capture) (a .place) left n) (sym (length-drop (a .to) (a .room))) c) next
+
+pub host-listing : Occur (host.listing .Cause) (host.listing .refusals)
+host-listing = as-called lists.write host.listing (λ a. record { input = a .input; room = a .room }) (λ a n c. c) listing
+
+pub host-acknowledge : Occur (host.acknowledge .Cause) (host.acknowledge .refusals)
+host-acknowledge = as-called commands.acknowledge host.acknowledge (λ a. record { frame = a .frame; room = a .room }) (λ a n c. c) acknowledge
+
+pub host-book-open : Occur (host.book-open .Cause) (host.book-open .refusals)
+host-book-open = as-called books.opening host.book-open (λ a. record { book = a .book }) (λ a n c. c) opening
+
+pub host-book-entry : Occur (host.book-entry .Cause) (host.book-entry .refusals)
+host-book-entry = as-called books.entry host.book-entry (λ a. record { book = a .book; number = a .number }) (λ a n c. c) entry
+
+pub host-book-line : Occur (host.book-line .Cause) (host.book-line .refusals)
+host-book-line = as-called books.line host.book-line (λ a. record { book = a .book; number = a .number; room = a .room }) (λ a n c. c) entry-line-of
+
+pub host-book-list : Occur (host.book-list .Cause) (host.book-list .refusals)
+host-book-list = as-called books.list host.book-list (λ a. record { book = a .book; room = a .room }) (λ a n c. c) list
+
+pub host-book-add : Occur (host.book-add .Cause) (host.book-add .refusals)
+host-book-add =
+    as-called books.add host.book-add (λ a. record { book = a .book; kind = a .kind; frame = a .frame; room = a .room }) (λ a n c. c) add

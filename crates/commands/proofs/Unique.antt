@@ -21,8 +21,8 @@ pub encode : (k : ℕ) (e : Coded) (s room : List ℕ) {t u : List ℕ} (r q : W
 encode k e s room r q a b = one-wrote (one-bytes e s) {r = r} {q = q} a b
 
 -- acknowledge
-one-answer : (f a b : List ℕ) → AcknowledgementOf f a → AcknowledgementOf f b → a ≡ b
-one-answer f a b p q = p .is ∙ ap acknowledgement (one-frame-of (p .frame) (q .frame)) ∙ sym (q .is)
+pub acknowledgement-one : {f : List ℕ} (a b : List ℕ) → AcknowledgementOf f a → AcknowledgementOf f b → a ≡ b
+acknowledgement-one a b p q = p .is ∙ ap acknowledgement (one-frame-of (p .frame) (q .frame)) ∙ sym (q .is)
 
 pub acknowledge : (f room : List ℕ) {t u : List ℕ} (r q : Written) → Acknowledges f room r t → Acknowledges f room q u → (r ≡ q) × (t ≡ u)
-acknowledge f room r q a b = one-wrote (one-answer f) {r = r} {q = q} a b
+acknowledge f room r q a b = one-wrote acknowledgement-one {r = r} {q = q} a b

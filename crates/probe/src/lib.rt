@@ -1,7 +1,5 @@
-// The checks and the calls of `numbers` by C's calling convention, for the tests and benchmarks that are written in C. Not part of
-// the product.
-mod number_calls;
-
+// The checks by C's calling convention, for the tests and benchmarks that are written in C. Not part of the product. Each promise is an
+// equation, so that two answers which keep it are the same (`equation` of `digits`).
 ghost use mathlib.Core.Path.{_≡_};
 ghost use Rattle.checks.specs.Paper.Check.{feed, check};
 ghost use Rattle.checks.specs.Paper.Buses.{nikobusCrc16, nikobusCrc8, nestCrc, nibeXor, homiqCrc};
@@ -10,7 +8,7 @@ use checks::nest;
 use checks::nibe;
 use checks::nikobus;
 
-// The check value of s, and the state after s where it was v before.
+// The check value of s, and the state after s if it was v before.
 #[no_mangle]
 pub extern "C" fn probe_nikobus_crc16(s: &[u8]) -> u16
     ensures { λ r. ⌜ r ≡ check nikobusCrc16 (now (s .entry)) ⌝ }
@@ -25,7 +23,7 @@ pub extern "C" fn probe_nikobus_crc16_after(v: u16, s: &[u8]) -> u16
     nikobus::Crc16 { value: v }.bytes(s).value
 }
 
-// The check value of s, and the state after s where it was v before.
+// The check value of s, and the state after s if it was v before.
 #[no_mangle]
 pub extern "C" fn probe_nikobus_crc8(s: &[u8]) -> u8
     ensures { λ r. ⌜ r ≡ check nikobusCrc8 (now (s .entry)) ⌝ }
@@ -40,7 +38,7 @@ pub extern "C" fn probe_nikobus_crc8_after(v: u8, s: &[u8]) -> u8
     nikobus::Crc8 { value: v }.bytes(s).value
 }
 
-// The check value of s, and the state after s where it was v before.
+// The check value of s, and the state after s if it was v before.
 #[no_mangle]
 pub extern "C" fn probe_nest_crc(s: &[u8]) -> u16
     ensures { λ r. ⌜ r ≡ check nestCrc (now (s .entry)) ⌝ }
@@ -55,7 +53,7 @@ pub extern "C" fn probe_nest_crc_after(v: u16, s: &[u8]) -> u16
     nest::Crc { value: v }.bytes(s).value
 }
 
-// The check value of s, and the state after s where it was v before.
+// The check value of s, and the state after s if it was v before.
 #[no_mangle]
 pub extern "C" fn probe_nibe_xor(s: &[u8]) -> u8
     ensures { λ r. ⌜ r ≡ check nibeXor (now (s .entry)) ⌝ }
@@ -70,7 +68,7 @@ pub extern "C" fn probe_nibe_xor_after(v: u8, s: &[u8]) -> u8
     nibe::Xor { value: v }.bytes(s).value
 }
 
-// The check value of s, and the state after s where it was v before.
+// The check value of s, and the state after s if it was v before.
 #[no_mangle]
 pub extern "C" fn probe_homiq_crc(s: &[u8]) -> u8
     ensures { λ r. ⌜ r ≡ check homiqCrc (now (s .entry)) ⌝ }

@@ -15,11 +15,11 @@ use Rattle.claims.proofs.Laws.Forms.{fronted, unfronted, placed}
 use Rattle.claims.proofs.Laws.Keeps.{keeps-as}
 use Rattle.claims.proofs.Occur as inputs
 
-entry-stated : {s : List ℕ} {number no : ℕ} → EntryCause s number no → OneOf no (8 ∷ 3 ∷ [])
+pub entry-stated : {s : List ℕ} {number no : ℕ} → EntryCause s number no → OneOf no (8 ∷ 3 ∷ [])
 entry-stated (EntryCause.no-book f) = here
 entry-stated (EntryCause.no-entry b h) = there here
 
-opening-stated : {s : List ℕ} {no : ℕ} → OpenCause s no → OneOf no (8 ∷ [])
+pub opening-stated : {s : List ℕ} {no : ℕ} → OpenCause s no → OneOf no (8 ∷ [])
 opening-stated (OpenCause.no-book f) = here
 
 abbrev pub opening : Row
@@ -79,7 +79,7 @@ frame-proper =
       one = λ κs a r q ws vs x y. (unique.frame-one r q x y, refl);
     }
 
-line-stated : {s : List ℕ} {number room no : ℕ} → EntryLineCause s number room no → OneOf no (8 ∷ 3 ∷ 4 ∷ [])
+pub line-stated : {s : List ℕ} {number room no : ℕ} → EntryLineCause s number room no → OneOf no (8 ∷ 3 ∷ 4 ∷ [])
 line-stated (EntryLineCause.no-book f) = here
 line-stated (EntryLineCause.no-entry b h) = there here
 line-stated (EntryLineCause.short l h) = there (there here)
@@ -105,7 +105,7 @@ line-proper =
           (unique.line-one r q (unfronted x) (unfronted y));
     }
 
-list-stated : {s : List ℕ} {room no : ℕ} → ListCause s room no → OneOf no (8 ∷ 4 ∷ [])
+pub list-stated : {s : List ℕ} {room no : ℕ} → ListCause s room no → OneOf no (8 ∷ 4 ∷ [])
 list-stated (ListCause.no-book f) = here
 list-stated (ListCause.short l h) = there here
 
@@ -129,7 +129,7 @@ list-proper =
       one = λ κs a r q ws vs x y. placed (λ (l : List ℕ). (tt, (l, tt))) (unique.list-one r q (unfronted x) (unfronted y));
     }
 
-add-stated : {s : List ℕ} {e : Entry} {room no : ℕ} → AddCause s e room no → OneOf no (8 ∷ 2 ∷ 5 ∷ 4 ∷ [])
+pub add-stated : {s : List ℕ} {e : Entry} {room no : ℕ} → AddCause s e room no → OneOf no (8 ∷ 2 ∷ 5 ∷ 4 ∷ [])
 add-stated (AddCause.no-book f) = here
 add-stated (AddCause.no-kind e) = there here
 add-stated (AddCause.no-frame f) = there (there here)

@@ -50,7 +50,7 @@ encode-proper =
           (unique.encode (a .0) (a .1 .0) (a .1 .1 .0 .now) (a .1 .1 .1 .0 .now) r q (unfronted x) (unfronted y));
     }
 
-acknowledge-stated : {f : List ℕ} {n no : ℕ} → AcknowledgeCause f n no → OneOf no (5 ∷ 4 ∷ [])
+pub acknowledge-stated : {f : List ℕ} {n no : ℕ} → AcknowledgeCause f n no → OneOf no (5 ∷ 4 ∷ [])
 acknowledge-stated (AcknowledgeCause.no-frame f) = here
 acknowledge-stated (AcknowledgeCause.answered w e) = here
 acknowledge-stated (AcknowledgeCause.short w h) = there here

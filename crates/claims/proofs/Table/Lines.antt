@@ -21,12 +21,12 @@ said-stated : {IsSaid : Message → Type 0} {at len left no : ℕ} → SaidCause
 said-stated (SaidCause.no-message f) = here
 said-stated (SaidCause.short l h) = there here
 
-write-stated : {k : ℕ} {f : List ℕ} {at room no : ℕ} → LineCause k f at room no → OneOf no (2 ∷ 5 ∷ 4 ∷ [])
+pub write-stated : {k : ℕ} {f : List ℕ} {at room no : ℕ} → LineCause k f at room no → OneOf no (2 ∷ 5 ∷ 4 ∷ [])
 write-stated (LineCause.no-kind e) = here
 write-stated (LineCause.no-frame f) = there here
 write-stated (LineCause.short l h) = there (there here)
 
-next-stated : {k : ℕ} {s : List ℕ} {place left no : ℕ} → NextCause k s place left no → OneOf no (2 ∷ 3 ∷ 4 ∷ 1 ∷ [])
+pub next-stated : {k : ℕ} {s : List ℕ} {place left no : ℕ} → NextCause k s place left no → OneOf no (2 ∷ 3 ∷ 4 ∷ 1 ∷ [])
 next-stated (NextCause.searched (SearchCause.no-kind e)) = here
 next-stated (NextCause.searched (SearchCause.no-place h)) = there here
 next-stated (NextCause.searched (SearchCause.no-frame h)) = there (there (there here))

@@ -9,10 +9,10 @@ use lib.ListN.{length}
 use native.Mathlib.Omega.{arith}
 use Rattle.digits.specs.Paper.Refusals.{order, clear, here, after}
 use Rattle.digits.proofs.Laws.Refusals.{pass-over}
-use Rattle.puts.specs.Paper.Right.{WritesRight}
-use Rattle.puts.specs.declared.Written.{Written}
-use Rattle.puts.proofs.Laws.Right.{fronted-right, one-wrote}
-use Rattle.list.specs.Paper.Answers.{WritesListing}
+use Rattle.puts.specs.Paper.Right.{WroteRight}
+use Rattle.puts.proofs.Laws.Right.{as-right, one-wrote}
+use Rattle.puts.proofs.Laws.Wrote.{after-tests}
+use Rattle.list.specs.Paper.Answers.{WroteListing}
 use Rattle.list.specs.Paper.Listing.{Listing}
 use Rattle.list.proofs.Theorems.{one-listing}
 use Rattle.list.proofs as list
@@ -25,15 +25,16 @@ use Rattle.claims.proofs.Laws.Forms.{fronted, unfronted, placed}
 use Rattle.claims.proofs.Laws.Keeps.{keeps-as}
 use Rattle.claims.proofs.Occur as inputs
 
-stated : {s : List ℕ} {room no : ℕ} → ListingCause s room no → OneOf no (4 ∷ [])
+pub stated : {s : List ℕ} {room no : ℕ} → ListingCause s room no → OneOf no (4 ∷ [])
 stated (short l h) = OneOf.here
 
 -- the promise in the writers' form: an input has one listing, so a room is too short for that one, or for none
-right : {s room later : List ℕ} (r : Written) → WritesListing s room r later
-    → WritesRight (ListingCause s (length room)) (Listing s) room r later
-right {s} {room} r w =
-    fronted-right r (w .lists) (λ h. pass-over (λ k. eqb k 4) only order (after (enough h) clear))
-    (λ h. pass-over (λ k. eqb k 4) only order (here (short (w .lists) h))) (w .written)
+pub right : {s room later : List ℕ} {no count : ℕ} → WroteListing s room no count later
+    → WroteRight (ListingCause s (length room)) (Listing s) room no count later
+right {s} {room} w =
+    as-right (w .lists)
+    (after-tests (λ h. pass-over (λ k. eqb k 4) only order (after (enough h) clear))
+    (λ h. pass-over (λ k. eqb k 4) only order (here (short (w .lists) h))) (w .written))
   where
     only : (k : ℕ) → eqb k 4 ≡ false → ListingCause s (length room) k → ⊥
     only k e (short l h) = true≢false e
@@ -54,7 +55,7 @@ pub write-proper : Proper write
 write-proper =
     record {
       named = λ κs. refl;
-      keeps = keeps-as (write .function) list.write.Reads.Post (promise write) (λ κs a r ws p. fronted (right r p))
+      keeps = keeps-as (write .function) list.write.Reads.Post (promise write) (λ κs a r ws p. fronted (right p))
           (λ w. list.write.Met.met (w .𝓤) (w .H) (w .𝓜) (w .𝓖) (w .𝓡));
       stated = λ κs a no c. stated c;
       occurs = λ κs. inputs.listing;

@@ -19,7 +19,7 @@ use Rattle.claims.proofs.Laws.Forms.{fronted-these, these-fronted, answ
 use Rattle.claims.proofs.Laws.Keeps.{keeps-as}
 use Rattle.claims.proofs.Occur as inputs
 
-out-of-range : {z : ℤ} {no : ℕ} → RangeCause z no → OneOf no (5 ∷ [])
+pub out-of-range : {z : ℤ} {no : ℕ} → RangeCause z no → OneOf no (5 ∷ [])
 out-of-range (RangeCause.range h) = here
 
 pub text-stated : {z : ℤ} {d n no : ℕ} → TextCause z d n no → OneOf no (7 ∷ 5 ∷ 4 ∷ [])
@@ -27,7 +27,7 @@ text-stated (TextCause.decimals h) = here
 text-stated (TextCause.range h) = there here
 text-stated (TextCause.room h) = there (there here)
 
-byte-values-write-stated : {w : ℕ} {signed : Bool} {z : ℤ} {n no : ℕ} → ValueCause w signed z n no → OneOf no (7 ∷ 5 ∷ 4 ∷ [])
+pub byte-values-write-stated : {w : ℕ} {signed : Bool} {z : ℤ} {n no : ℕ} → ValueCause w signed z n no → OneOf no (7 ∷ 5 ∷ 4 ∷ [])
 byte-values-write-stated (ValueCause.width h) = here
 byte-values-write-stated (ValueCause.held h) = there here
 byte-values-write-stated (ValueCause.room h) = there (there here)
@@ -55,7 +55,7 @@ byte-values-write-proper =
           (one-written {r = r} {q = q} (these-fronted x) (these-fronted y));
     }
 
-byte-values-read-stated : {w : ℕ} {s : List ℕ} {no : ℕ} → BytesCause w s no → OneOf no (7 ∷ 5 ∷ [])
+pub byte-values-read-stated : {w : ℕ} {s : List ℕ} {no : ℕ} → BytesCause w s no → OneOf no (7 ∷ 5 ∷ [])
 byte-values-read-stated (BytesCause.width h) = here
 byte-values-read-stated (BytesCause.count h) = there here
 

@@ -1,4 +1,4 @@
-//! The comparison of the calls: requests to every public function.
+//! The comparison of the calls: requests to every public function, and to every call for C.
 
 use crate::functions::{self, Function, AT, ROOM};
 use crate::malformed;
@@ -16,7 +16,23 @@ const LONGEST: usize = 40;
 const MORE: usize = 50;
 
 pub fn compare(sides: &Sides, seed: u64, count: usize) -> Totals {
-    let functions = functions::all();
+    let mut all = tests_of(&functions::all(), seed, count);
+    all.push(of_requests(
+        "the longest requests",
+        seed,
+        LONGEST,
+        &["ok", "refused 8", "refused 1", NO_REQUEST],
+        functions::longest,
+    ));
+    tests::run(sides, seed, &all)
+}
+
+pub fn compare_from_c(sides: &Sides, seed: u64, count: usize) -> Totals {
+    tests::run(sides, seed, &tests_of(&functions::from_c(), seed, count))
+}
+
+/// A test for each function, by their weights, and one of what is no function.
+fn tests_of(functions: &[Function], seed: u64, count: usize) -> Vec<Test> {
     let weights: usize = functions.iter().map(|function| function.weight).sum();
     let mut all: Vec<Test> = functions
         .iter()
@@ -29,14 +45,7 @@ pub fn compare(sides: &Sides, seed: u64, count: usize) -> Totals {
         &[NO_REQUEST],
         malformed::unknown,
     ));
-    all.push(of_requests(
-        "the longest requests",
-        seed,
-        LONGEST,
-        &["ok", "refused 8", "refused 1", NO_REQUEST],
-        functions::longest,
-    ));
-    tests::run(sides, seed, &all)
+    all
 }
 
 fn test(function: &Function, seed: u64, count: usize) -> Test {
@@ -114,13 +123,16 @@ fn request(function: &Function, random: &mut Random) -> Vec<u8> {
     }
 }
 
-/// Whether a request, where there is a test for each tag or message, was spoilt to one with another: that one's answers are not listed here.
+/// Whether a request was spoilt to one of another test, whose answers are not listed here: to another function, or, if there is a test for
+/// each tag or message, to one with another.
 fn is_of_another_test(function: &Function, request: &[u8], spoilt: &[u8]) -> bool {
-    let Some((_, part)) = function.test.split_once(", ") else {
-        return false;
-    };
-    let names_it = |line: &[u8]| line.split(|b| *b == b' ').nth(1) == Some(part.as_bytes());
-    names_it(request) && !names_it(spoilt) && sides::second_answer(spoilt) != NO_REQUEST.as_bytes()
+    let nth_word =
+        |line: &[u8], nth: usize| line.split(|b| *b == b' ').nth(nth).map(<[u8]>::to_vec);
+    let part = function.test.split_once(", ").map(|(_, part)| part);
+    let names_it = |line: &[u8]| nth_word(line, 1).as_deref() == part.map(str::as_bytes);
+    let another = nth_word(request, 0) != nth_word(spoilt, 0)
+        || part.is_some() && names_it(request) && !names_it(spoilt);
+    another && sides::second_answer(spoilt) != NO_REQUEST.as_bytes()
 }
 
 /// Puts a length in the place of the room, and a number in that of its place: what is written just fits, or does not, or is far off.

@@ -27,14 +27,15 @@ use tests::Totals;
 const USAGE: &str = "\
 usage: compare listing [--seed N] [--count N] [--program COMMAND..]
        compare calls [--seed N] [--count N] [--program COMMAND..]
+       compare host [--seed N] [--count N] --program COMMAND..
        compare again FILE [--program COMMAND..]
 
 Compares what the proved program answers with what the second decoder answers: `listing` on at least 2,000 inputs of the listing, `calls`
-on at least 40,000 requests to every public function. Without a seed it runs seed 1 and a new one; each is printed. A case on which they
+on at least 40,000 requests to every public function, `host` on at least 40,000 requests to the calls for C. Without a seed it runs seed 1 and a new one; each is printed. A case on which they
 differ is made small and kept in target/second-failed; `again` runs such a file again. The last line is `N passed, M failed`: a test is a
 sort of input or a function, over all its cases, for a seed.
 
-COMMAND is the proved program, target/bin/listing or target/bin/calls where none is given; it may begin with an emulator.
+COMMAND runs the proved program: target/bin/listing, bin/calls or target/host_answers if none is given. It may begin with an emulator.
 ";
 
 /// The seed that is always run.
@@ -56,6 +57,9 @@ fn main() -> ExitCode {
         Some((&"calls", options)) => {
             asked(What::Calls, 40_000, options).map(|asked| compare(&asked, calls::compare))
         }
+        Some((&"host", options)) => {
+            asked(What::Host, 40_000, options).map(|asked| compare(&asked, calls::compare_from_c))
+        }
         Some((&"again", [file, options @ ..])) => again(file, options),
         _ => None,
     };
@@ -70,7 +74,7 @@ fn main() -> ExitCode {
 }
 
 fn asked(what: What, count: usize, options: &[&str]) -> Option<Asked> {
-    let program = vec![format!("target/bin/{}", what.name())];
+    let program = vec![what.command().to_string()];
     let mut asked = Asked {
         seeds: vec![FIXED, new_seed()],
         count,
@@ -118,7 +122,7 @@ fn compare(asked: &Asked, with: fn(&Sides, u64, usize) -> Totals) -> bool {
 
 /// Runs a kept case again. Whether the sides agree on it.
 fn again(file: &str, options: &[&str]) -> Option<bool> {
-    let what = [What::Listing, What::Calls]
+    let what = [What::Listing, What::Calls, What::Host]
         .into_iter()
         .find(|what| file.ends_with(what.ending()))?;
     let asked = asked(what, 1, options)?;

@@ -24,7 +24,7 @@ pub fn reduced(sides: &Sides, case: &[u8]) -> Vec<u8> {
             let smaller = reducer.dropped(capture, 1, &|capture| [head, capture].concat());
             [head, &smaller].concat()
         }
-        What::Calls => {
+        What::Calls | What::Host => {
             let by_words = reducer.words(case);
             reducer.dropped(&by_words, 1, &<[u8]>::to_vec)
         }

@@ -7,8 +7,8 @@ use std::sync::atomic::{AtomicUsize, Ordering};
 use std::sync::Mutex;
 use std::thread;
 
-/// Requests that one run of the program answers.
-const BATCH: usize = 1_000;
+/// Requests that one run of bin/calls answers: it starts a program for each layer, which takes a while.
+const BATCH: usize = 5_000;
 /// Runs at a time.
 const WORKERS: usize = 2;
 
@@ -16,8 +16,10 @@ const WORKERS: usize = 2;
 pub enum What {
     /// A case is an input of the program `listing`, which is run once for each.
     Listing,
-    /// A case is a request to the program `calls`, which answers many in a run.
+    /// A case is a request to bin/calls, which answers many in a run.
     Calls,
+    /// A case is a request to a program in C over the archive, which answers many in a run.
+    Host,
 }
 
 impl What {
@@ -25,6 +27,16 @@ impl What {
         match self {
             What::Listing => "listing",
             What::Calls => "calls",
+            What::Host => "host",
+        }
+    }
+
+    /// What runs the proved program.
+    pub fn command(self) -> &'static str {
+        match self {
+            What::Listing => "target/bin/listing",
+            What::Calls => "bin/calls",
+            What::Host => "target/host_answers",
         }
     }
 
@@ -33,6 +45,7 @@ impl What {
         match self {
             What::Listing => "input",
             What::Calls => "request",
+            What::Host => "in-c",
         }
     }
 }
@@ -51,7 +64,7 @@ impl Answers {
 
 pub struct Sides {
     pub what: What,
-    /// The proved program: its name, or an emulator's with the program behind it.
+    /// What runs the proved program: a command, or an emulator with a program behind it.
     pub program: Vec<String>,
 }
 
@@ -83,7 +96,7 @@ impl Sides {
                 .iter()
                 .map(|case| output(&self.program, case))
                 .collect(),
-            What::Calls => answered_lines(&self.program, cases),
+            What::Calls | What::Host => answered_lines(&self.program, cases),
         };
         let second = cases.iter().map(|case| self.second(case));
         proved
@@ -96,14 +109,18 @@ impl Sides {
     fn second(&self, case: &[u8]) -> Vec<u8> {
         match self.what {
             What::Listing => unless_it_panics(|| second::listing(case)),
-            What::Calls => second_answer(case),
+            What::Calls | What::Host => second_answer(case),
         }
     }
 }
 
-/// What the second decoder answers to a request.
+/// What the second decoder answers to a request. By its name it is one to a call for C, or to another function.
 pub fn second_answer(request: &[u8]) -> Vec<u8> {
-    unless_it_panics(|| second::answer(request))
+    if request.starts_with(b"bolsterweft_") {
+        unless_it_panics(|| second::answer_from_c(request))
+    } else {
+        unless_it_panics(|| second::answer(request))
+    }
 }
 
 fn unless_it_panics(answer: impl FnOnce() -> Vec<u8> + UnwindSafe) -> Vec<u8> {

@@ -1,64 +1,113 @@
--- The public functions of `host`.
+-- The public functions of `host`, `host_lines`, `host_list` and `host_book`, which a program in C calls.
 -- Assumes nothing.
+use mathlib.Core.Bool.{not}
 use mathlib.Core.List.{List, [], _∷_}
 use mathlib.Core.Path.{_≡_}
 use Prim.Native.Nat.{ℕ}
-use lib.IntN.{ℤ}
+use lib.Dec.{eqb}
+use lib.IntN.{ℤ, pos}
 use lib.ListN.{length}
-use Rattle.digits.specs.Paper.Part.{Ends, zeroEnds}
-use Rattle.numbers.specs.Paper.Answers.{TextCause, zeroNumber}
-use Rattle.numbers.specs.Paper.Text.{InLimits, text, Number}
-use Rattle.frames.specs.Paper.Search.{Leftmost, SearchCause, zeroHit, Hit}
+use Rattle.digits.specs.Paper.Part.{zeroEnds}
+use Rattle.digits.specs.Paper.Refusals.{refusalNumber}
+use Rattle.digits.specs.declared.refusal.Refusal.{Refusal}
+use Rattle.numbers.specs.Paper.Answers.{TextCause, zeroNumber, ValueCause, BytesCause, ValueIn, RangeCause}
+use Rattle.numbers.specs.Paper.ByteValues.{valueBytes}
+use Rattle.numbers.specs.Paper.Single.{fitsSingle}
+use Rattle.numbers.specs.Paper.Text.{InLimits, text}
+use Rattle.frames.specs.Paper.Search.{Leftmost, SearchCause, zeroHit}
 use Rattle.frames.specs.Paper.Whole.{OneFrame, WholeCause}
-use Rattle.host.specs.declared.Count.{Count}
-use Rattle.host.specs.declared.Ends.{Ends as HostEnds}
-use Rattle.host.specs.declared.Hit.{Hit as HostHit}
-use Rattle.host.specs.declared.Number.{Number as HostNumber}
-use Rattle.claims.specs.Paper.Claim.{Claim, reading, refuses, writes, Fronted}
+use Rattle.commands.specs.Paper.Acknowledge.{AcknowledgeCause, AcknowledgementOf}
+use Rattle.lines.specs.Paper.Answers.{LineCause, LineOf, NextCause, NextLine, zeroPlaced}
+use Rattle.book.specs.Paper.Answers.{OpenCause, Counts, EntryCause, EntryOf, zeroTold, EntryLineCause, EntryLine}
+use Rattle.book.specs.Paper.Answers.{ListCause, BookLines, AddCause, Adds}
+use Rattle.list.specs.Paper.Listing.{Listing}
+use Rattle.puts.specs.Paper.Wrote.{writtenRefusal, writtenCount}
+use Rattle.puts.specs.declared.Written.{Written}
+use Rattle.host.specs.Paper.Answers.{hitIn, endsIn, numberIn, flag}
+use Rattle.host.specs.Paper.Kind.{KindByte}
+use Rattle.host_lines.specs.Paper.Answers.{placedIn}
+use Rattle.host_book.specs.Paper.Answers.{toldIn}
+use Rattle.host.specs.Paper.Panel.{zeroShown, ShownOf, shownIn, zeroClimate, ClimateCause, ClimateOf, climateIn}
+use Rattle.host.specs.Paper.Version as host
+use Rattle.host.specs.declared.answers.Climate.{Climate}
+use Rattle.host.specs.declared.answers.Count.{Count}
+use Rattle.host_book.specs.declared.Entries.{Entries}
+use Rattle.host_book.specs.declared.Entry.{Entry}
+use Rattle.host.specs.declared.answers.Fit.{Fit}
+use Rattle.host.specs.declared.answers.Found.{Found}
+use Rattle.host_lines.specs.declared.Listed.{Listed}
+use Rattle.host.specs.declared.answers.PanelValue.{PanelValue}
+use Rattle.host.specs.declared.answers.Payload.{Payload}
+use Rattle.host.specs.declared.answers.Raw.{Raw}
+use Rattle.host.specs.declared.answers.Reading.{Reading}
+use Rattle.claims.specs.Paper.Causes.{ListingCause}
+use Rattle.claims.specs.Paper.Claim.{Form, Claim, answering, reading, refuses, writes, Fronted}
 
--- ---- what an answer says: its first member is the refusal number
+-- a writer from the front of a lent room
+abbrev pub counts : {Args : Type 0} (room : Args → List ℕ) (Right : Args → List ℕ → Type 0)
+    → Form Args Count
+counts room Right =
+    writes (λ (r : Count). r .refusal) (λ (r : Count). r .length) 0 room (λ a. Fronted (Right a) (room a))
 
-abbrev pub hitIn : HostHit → Hit
-hitIn r = record { start = r .start; len = r .length; from = r .from; to = r .to }
+-- A refusal's number, as an answer has it.
+pub record NumberedArgs : Type 0 where
+  pub why : Refusal
 
-abbrev pub endsIn : HostEnds → Ends
-endsIn r = record { from = r .from; to = r .to }
+abbrev pub numbered : Claim ℕ
+numbered = answering {Args = NumberedArgs} "host::answers::numbered" (λ a r. r ≡ refusalNumber (a .why))
 
-abbrev pub numberIn : HostNumber → Number
-numberIn r = record { raw = r .raw; decimals = r .decimals }
+-- What was written, as an answer.
+pub record CountedArgs : Type 0 where
+  pub w : Written
 
---
+abbrev pub counted : Claim Count
+counted =
+    answering {Args = CountedArgs} "host::answers::counted"
+    (λ a r. (r .refusal ≡ writtenRefusal (a .w)) × (r .length ≡ writtenCount (a .w)))
+
+-- The byte of a kind; 0 if no byte holds it.
+pub record KindByteArgs : Type 0 where
+  pub kind : ℕ
+
+abbrev pub kind-byte : Claim ℕ
+kind-byte = answering {Args = KindByteArgs} "host::answers::kind_byte" (λ a r. KindByte (a .kind) r)
+
+-- The version of the library.
+abbrev pub version : Claim ℕ
+version = answering {Args = Unit {0}} "host::bolsterweft_version" (λ a r. r ≡ host.version)
+
+-- The frame with the smallest start at or after the place.
 pub record SearchArgs : Type 0 where
   pub kind : ℕ
   pub buffer : List ℕ
   pub place : ℕ
 
-abbrev pub search : Claim HostHit
+abbrev pub search : Claim Found
 search =
     record {
-      name = "host::bolsterweft_search";
+      name = "host::frame_calls::bolsterweft_search";
       Args = SearchArgs;
       refusals = 2 ∷ 3 ∷ 1 ∷ [];
       Cause = λ a. SearchCause (a .kind) (a .buffer) (a .place);
-      form = refuses (λ (r : HostHit). r .refusal) hitIn zeroHit (λ a. Leftmost (a .kind) (a .buffer) (a .place));
+      form = refuses (λ (r : Found). r .refusal) hitIn zeroHit (λ a. Leftmost (a .kind) (a .buffer) (a .place));
     }
 
---
+-- Whether bytes are one frame and no byte more.
 pub record OneFrameArgs : Type 0 where
   pub kind : ℕ
-  pub s : List ℕ
+  pub frame : List ℕ
 
-abbrev pub one-frame : Claim HostEnds
+abbrev pub one-frame : Claim Payload
 one-frame =
     record {
-      name = "host::bolsterweft_one_frame";
+      name = "host::frame_calls::bolsterweft_one_frame";
       Args = OneFrameArgs;
       refusals = 2 ∷ 5 ∷ [];
-      Cause = λ a. WholeCause (a .kind) (a .s);
-      form = refuses (λ (r : HostEnds). r .refusal) endsIn zeroEnds (λ a. OneFrame (a .kind) (a .s));
+      Cause = λ a. WholeCause (a .kind) (a .frame);
+      form = refuses (λ (r : Payload). r .refusal) endsIn zeroEnds (λ a. OneFrame (a .kind) (a .frame));
     }
 
---
+-- Writes the text of a raw number from the front of the room.
 pub record TextOfArgs : Type 0 where
   pub raw : ℤ
   pub decimals : ℕ
@@ -67,19 +116,238 @@ pub record TextOfArgs : Type 0 where
 abbrev pub text-of : Claim Count
 text-of =
     record {
-      name = "host::bolsterweft_text";
+      name = "host::number_calls::bolsterweft_text";
       Args = TextOfArgs;
       refusals = 7 ∷ 5 ∷ 4 ∷ [];
       Cause = λ a. TextCause (a .raw) (a .decimals) (length (a .room));
-      form = writes (λ (r : Count). r .refusal) (λ (r : Count). r .length) 0 (λ a. a .room)
-          (λ a. Fronted (λ bs. bs ≡ text (a .raw) (a .decimals)) (a .room));
+      form = counts (λ a. a .room) (λ a bs. bs ≡ text (a .raw) (a .decimals));
     }
 
---
+-- The raw number whose text it is, with its decimals.
 pub record NumberOfArgs : Type 0 where
-  pub t : List ℕ
+  pub text : List ℕ
 
-abbrev pub number-of : Claim HostNumber
+abbrev pub number-of : Claim Reading
 number-of =
-    reading {Args = NumberOfArgs} "host::bolsterweft_number" 7 (λ (r : HostNumber). r .refusal) numberIn zeroNumber
-    (λ a. InLimits) (λ a n. text (n .raw) (n .decimals)) (λ a. a .t)
+    reading {Args = NumberOfArgs} "host::number_calls::bolsterweft_number" 7 (λ (r : Reading). r .refusal)
+    numberIn zeroNumber (λ a. InLimits) (λ a n. text (n .raw) (n .decimals)) (λ a. a .text)
+
+-- Writes a number as so many bytes from the front of the room, signed unless `is_signed` is 0.
+pub record ValueArgs : Type 0 where
+  pub raw : ℤ
+  pub width : ℕ
+  pub «is_signed» : ℕ
+  pub room : List ℕ
+
+abbrev pub value : Claim Count
+value =
+    record {
+      name = "host::number_calls::bolsterweft_value";
+      Args = ValueArgs;
+      refusals = 7 ∷ 5 ∷ 4 ∷ [];
+      Cause = λ a. ValueCause (a .width) (not (eqb (a .«is_signed») 0)) (a .raw) (length (a .room));
+      form = counts (λ a. a .room) (λ a bs. bs ≡ valueBytes (a .width) (a .raw));
+    }
+
+-- The number that so many bytes are.
+pub record ValueReadArgs : Type 0 where
+  pub bytes : List ℕ
+  pub width : ℕ
+  pub «is_signed» : ℕ
+
+abbrev pub value-read : Claim Raw
+value-read =
+    record {
+      name = "host::number_calls::bolsterweft_value_read";
+      Args = ValueReadArgs;
+      refusals = 7 ∷ 5 ∷ [];
+      Cause = λ a. BytesCause (a .width) (a .bytes);
+      form = refuses (λ (r : Raw). r .refusal) (λ (r : Raw). r .raw) (pos 0)
+          (λ a. ValueIn (a .width) (not (eqb (a .«is_signed») 0)) (a .bytes));
+    }
+
+-- Whether a single float holds the raw number: 1 or 0.
+pub record FitsArgs : Type 0 where
+  pub raw : ℤ
+
+abbrev pub fits : Claim Fit
+fits =
+    record {
+      name = "host::number_calls::bolsterweft_fits";
+      Args = FitsArgs;
+      refusals = 5 ∷ [];
+      Cause = λ a. RangeCause (a .raw);
+      form = refuses (λ (r : Fit). r .refusal) (λ (r : Fit). r .fits) 0 (λ a n. n ≡ flag (fitsSingle (a .raw)));
+    }
+
+-- The raw number for the panel.
+pub record PanelArgs : Type 0 where
+  pub raw : ℤ
+
+abbrev pub panel : Claim PanelValue
+panel =
+    record {
+      name = "host::number_calls::bolsterweft_panel";
+      Args = PanelArgs;
+      refusals = 5 ∷ [];
+      Cause = λ a. RangeCause (a .raw);
+      form = refuses (λ (r : PanelValue). r .refusal) shownIn zeroShown (λ a. ShownOf (a .raw));
+    }
+
+-- A climate message's counts for the panel.
+pub record ClimateArgs : Type 0 where
+  pub temperature : ℤ
+  pub humidity : ℕ
+
+abbrev pub climate : Claim Climate
+climate =
+    record {
+      name = "host::number_calls::bolsterweft_climate";
+      Args = ClimateArgs;
+      refusals = 5 ∷ [];
+      Cause = λ a. ClimateCause (a .temperature) (pos (a .humidity));
+      form = refuses (λ (r : Climate). r .refusal) climateIn zeroClimate
+          (λ a. ClimateOf (a .temperature) (pos (a .humidity)));
+    }
+
+-- Writes the line of one frame, which stands at a place of a capture, from the front of the room.
+pub record LineArgs : Type 0 where
+  pub kind : ℕ
+  pub frame : List ℕ
+  pub at : ℕ
+  pub room : List ℕ
+
+abbrev pub line : Claim Count
+line =
+    record {
+      name = "host_lines::bolsterweft_line";
+      Args = LineArgs;
+      refusals = 2 ∷ 5 ∷ 4 ∷ [];
+      Cause = λ a. LineCause (a .kind) (a .frame) (a .at) (length (a .room));
+      form = counts (λ a. a .room) (λ a. LineOf (a .kind) (a .frame) (a .at));
+    }
+
+-- Writes the line of the frame with the smallest start at or after the place, from the front of the room.
+pub record LineNextArgs : Type 0 where
+  pub kind : ℕ
+  pub capture : List ℕ
+  pub place : ℕ
+  pub room : List ℕ
+
+abbrev pub line-next : Claim Listed
+line-next =
+    record {
+      name = "host_lines::bolsterweft_line_next";
+      Args = LineNextArgs;
+      refusals = 2 ∷ 3 ∷ 4 ∷ 1 ∷ [];
+      Cause = λ a. NextCause (a .kind) (a .capture) (a .place) (length (a .room));
+      form = writes (λ (r : Listed). r .refusal) placedIn zeroPlaced (λ a. a .room)
+          (λ a. NextLine (a .kind) (a .capture) (a .place) (a .room) 0);
+    }
+
+-- Writes the listing of an input from the front of the room.
+pub record ListingArgs : Type 0 where
+  pub input : List ℕ
+  pub room : List ℕ
+
+abbrev pub listing : Claim Count
+listing =
+    record {
+      name = "host_list::bolsterweft_list";
+      Args = ListingArgs;
+      refusals = 4 ∷ [];
+      Cause = λ a. ListingCause (a .input) (length (a .room));
+      form = counts (λ a. a .room) (λ a. Listing (a .input));
+    }
+
+-- Writes the acknowledgement of a Homiq frame of type `s` from the front of the room.
+pub record AcknowledgeArgs : Type 0 where
+  pub frame : List ℕ
+  pub room : List ℕ
+
+abbrev pub acknowledge : Claim Count
+acknowledge =
+    record {
+      name = "host_lines::bolsterweft_acknowledge";
+      Args = AcknowledgeArgs;
+      refusals = 5 ∷ 4 ∷ [];
+      Cause = λ a. AcknowledgeCause (a .frame) (length (a .room));
+      form = counts (λ a. a .room) (λ a. AcknowledgementOf (a .frame));
+    }
+
+-- How many entries a book has.
+pub record BookOpenArgs : Type 0 where
+  pub book : List ℕ
+
+abbrev pub book-open : Claim Entries
+book-open =
+    record {
+      name = "host_book::bolsterweft_book_open";
+      Args = BookOpenArgs;
+      refusals = 8 ∷ [];
+      Cause = λ a. OpenCause (a .book);
+      form = refuses (λ (r : Entries). r .refusal) (λ (r : Entries). r .count) 0 (λ a. Counts (a .book));
+    }
+
+-- The entry of a number, counted from 0.
+pub record BookEntryArgs : Type 0 where
+  pub book : List ℕ
+  pub number : ℕ
+
+abbrev pub book-entry : Claim Entry
+book-entry =
+    record {
+      name = "host_book::bolsterweft_book_entry";
+      Args = BookEntryArgs;
+      refusals = 8 ∷ 3 ∷ [];
+      Cause = λ a. EntryCause (a .book) (a .number);
+      form = refuses (λ (r : Entry). r .refusal) toldIn zeroTold (λ a. EntryOf (a .book) (a .number));
+    }
+
+-- Writes that entry's line from the front of the room.
+pub record BookLineArgs : Type 0 where
+  pub book : List ℕ
+  pub number : ℕ
+  pub room : List ℕ
+
+abbrev pub book-line : Claim Count
+book-line =
+    record {
+      name = "host_book::bolsterweft_book_line";
+      Args = BookLineArgs;
+      refusals = 8 ∷ 3 ∷ 4 ∷ [];
+      Cause = λ a. EntryLineCause (a .book) (a .number) (length (a .room));
+      form = counts (λ a. a .room) (λ a. EntryLine (a .book) (a .number));
+    }
+
+-- Writes the lines of all entries from the front of the room.
+pub record BookListArgs : Type 0 where
+  pub book : List ℕ
+  pub room : List ℕ
+
+abbrev pub book-list : Claim Count
+book-list =
+    record {
+      name = "host_book::bolsterweft_book_list";
+      Args = BookListArgs;
+      refusals = 8 ∷ 4 ∷ [];
+      Cause = λ a. ListCause (a .book) (length (a .room));
+      form = counts (λ a. a .room) (λ a. BookLines (a .book));
+    }
+
+-- Writes the whole new book, with an entry more, from the front of the room.
+pub record BookAddArgs : Type 0 where
+  pub book : List ℕ
+  pub kind : ℕ
+  pub frame : List ℕ
+  pub room : List ℕ
+
+abbrev pub book-add : Claim Count
+book-add =
+    record {
+      name = "host_book::bolsterweft_book_add";
+      Args = BookAddArgs;
+      refusals = 8 ∷ 2 ∷ 5 ∷ 4 ∷ [];
+      Cause = λ a. AddCause (a .book) (record { kind = a .kind; frame = a .frame }) (length (a .room));
+      form = counts (λ a. a .room) (λ a. Adds (a .book) (record { kind = a .kind; frame = a .frame }));
+    }

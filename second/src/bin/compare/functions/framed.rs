@@ -144,7 +144,7 @@ fn capture(kind: u8, random: &mut Random) -> Vec<u8> {
     }
 }
 
-fn searched(kind: u8, random: &mut Random) -> Vec<String> {
+pub fn searched(kind: u8, random: &mut Random) -> Vec<String> {
     let capture = capture(kind, random);
     words([
         arguments::kind(kind, random),
@@ -202,7 +202,7 @@ pub fn searches() -> Vec<Function> {
     KINDS.into_iter().map(by_kind).chain(others).collect()
 }
 
-fn of_one_frame(random: &mut Random) -> Vec<String> {
+pub fn of_one_frame(random: &mut Random) -> Vec<String> {
     let kind = any_kind(random);
     words([arguments::kind(kind, random), hex(&one_frame(kind, random))])
 }
@@ -280,7 +280,7 @@ pub fn lines() -> Vec<Function> {
     ]
 }
 
-fn listing_input(random: &mut Random) -> Vec<u8> {
+pub fn listing_input(random: &mut Random) -> Vec<u8> {
     let kind = any_kind(random);
     match random.below(100) {
         0 => {

@@ -51,7 +51,7 @@ pub fn book() -> Vec<Function> {
 }
 
 /// A book, good or not, and about how many entries it has.
-fn any_book(random: &mut Random) -> (Vec<u8>, usize) {
+pub fn any_book(random: &mut Random) -> (Vec<u8>, usize) {
     if random.one_in(60) {
         return (books::long(random), 999);
     }
@@ -62,12 +62,12 @@ fn any_book(random: &mut Random) -> (Vec<u8>, usize) {
     (books::book(&entries), entries.len())
 }
 
-fn numbered(random: &mut Random) -> Vec<String> {
+pub fn numbered(random: &mut Random) -> Vec<String> {
     let (book, count) = any_book(random);
     words([hex(&book), arguments::entry(count, random)])
 }
 
-fn added(random: &mut Random) -> Vec<String> {
+pub fn added(random: &mut Random) -> Vec<String> {
     let kind = any_kind(random);
     if random.one_in(60) {
         let frame = contents::frame(kind, random);

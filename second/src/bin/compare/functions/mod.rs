@@ -1,6 +1,7 @@
 //! Every function of docs/CALLS.md: what its requests are made of, and which sorts of answer must come.
 
 mod framed;
+mod in_c;
 mod kept;
 mod layouts;
 mod table;
@@ -50,6 +51,11 @@ pub fn all() -> Vec<Function> {
     .into_iter()
     .flatten()
     .collect()
+}
+
+/// The calls for C.
+pub fn from_c() -> Vec<Function> {
+    in_c::calls()
 }
 
 fn function(

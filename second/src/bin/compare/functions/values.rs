@@ -206,7 +206,7 @@ pub fn numbers() -> Vec<Function> {
 }
 
 /// As many bytes as the width says, mostly.
-fn byte_value(random: &mut Random) -> Vec<String> {
+pub fn byte_value(random: &mut Random) -> Vec<String> {
     let width = arguments::width(random);
     let count = if random.one_in(5) {
         random.below(6)

@@ -1,0 +1,45 @@
+// The functions of `book` and `list`.
+use super::answer;
+use super::answer::Answer;
+use super::line_calls::written;
+use book::Kept;
+use book::Opened;
+use puts::Written;
+
+pub(crate) fn call(function: u64, x: u64, first: &[u8], s: &[u8], room: &mut [u8]) -> Answer {
+    let number = x as usize;
+    match function {
+        1201 => opened(book::open(s)),
+        1202 => kept(book::entry(s, number)),
+        1203 => answer::bytes(book::frame(s, number), room),
+        _ => written(write(function, x, first, s, room)),
+    }
+}
+
+fn write(function: u64, x: u64, first: &[u8], s: &[u8], room: &mut [u8]) -> Written {
+    match function {
+        1204 => book::line(s, x as usize, room),
+        1205 => book::list(s, room),
+        1206 => book::add(first, (x % 256) as u8, s, room),
+        _ => list::write(s, room),
+    }
+}
+
+fn opened(r: Opened) -> Answer {
+    match r {
+        Opened::Count(n) => answer::number(n as u64),
+        Opened::Refused(why) => answer::refused(why),
+    }
+}
+
+fn kept(r: Kept) -> Answer {
+    match r {
+        Kept::Is {
+            kind,
+            offset,
+            from,
+            to,
+        } => answer::four(kind as u64, offset as u64, from as u64, to as u64),
+        Kept::Refused(why) => answer::refused(why),
+    }
+}

@@ -1,0 +1,61 @@
+// The functions of `commands` and `lines`.
+use super::answer;
+use super::answer::Answer;
+use super::message;
+use lines::Listed;
+use lines::Measured;
+use puts::Written;
+
+pub(crate) fn call(
+    function: u64,
+    values: &[u64; 8],
+    six: &[u8],
+    s: &[u8],
+    room: &mut [u8],
+) -> Answer {
+    let kind = (values[0] % 256) as u8;
+    let place = values[1] as usize;
+    match function {
+        1102 => listed(lines::next(kind, s, place, room, values[2] as usize)),
+        1103 => measured(lines::measure(kind, s, place)),
+        _ => written(write(function, values, six, s, room)),
+    }
+}
+
+// What answers how many bytes it wrote.
+fn write(function: u64, values: &[u64; 8], six: &[u8], s: &[u8], room: &mut [u8]) -> Written {
+    let kind = (values[0] % 256) as u8;
+    let at = values[5] as usize;
+    let len = values[6] as usize;
+    let to = values[7] as usize;
+    match function {
+        1001 => commands::encode(kind, message::of(values, six), s, room),
+        1002 => commands::acknowledge(s, room),
+        1101 => lines::write(kind, s, values[1] as usize, room),
+        1104 => lines::of(message::of(values, six), s, at, len, room, to),
+        _ => lines::of_content(message::tag(values), s, at, len, room, to),
+    }
+}
+
+pub(crate) fn written(r: Written) -> Answer {
+    match r {
+        Written::Bytes(n) => answer::number(n as u64),
+        Written::Refused(why) => answer::refused(why),
+    }
+}
+
+fn listed(r: Listed) -> Answer {
+    match r {
+        Listed::At { start, len, behind } => {
+            answer::three(start as u64, len as u64, behind as u64)
+        }
+        Listed::Refused(why) => answer::refused(why),
+    }
+}
+
+fn measured(r: Measured) -> Answer {
+    match r {
+        Measured::At { start, len, size } => answer::three(start as u64, len as u64, size as u64),
+        Measured::Refused(why) => answer::refused(why),
+    }
+}

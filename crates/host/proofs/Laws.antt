@@ -1,0 +1,4 @@
+pub mod Unknown
+pub mod Spans
+pub mod Panel
+pub mod Climate

@@ -1,0 +1,4 @@
+pub mod Version
+pub mod Answers
+pub mod Panel
+pub mod Kind

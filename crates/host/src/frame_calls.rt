@@ -1,0 +1,57 @@
+// Frames: the search, and the test of one frame.
+use super::answers;
+use super::answers::Found;
+use super::answers::Payload;
+use frames::Whole;
+ghost use Rattle.digits.specs.Paper.Part.{zeroEnds};
+ghost use Rattle.digits.specs.Paper.Refusals.{Answers};
+ghost use Rattle.frames.specs.Paper.Search.{zeroHit, SearchCause, Leftmost};
+ghost use Rattle.frames.specs.Paper.Whole.{WholeCause, OneFrame};
+ghost use Rattle.host.specs.Paper.Answers.{hitIn, endsIn};
+
+// The frame with the smallest start at or after the place: `frames::search`.
+#[no_mangle]
+pub extern "C" fn bolsterweft_search(kind: u32, buffer: &[u8], place: usize) -> Found
+    ensures { λ r. ⌜ Answers zeroHit (SearchCause kind (now (buffer .entry)) place) (Leftmost kind (now (buffer .entry)) place) (r .refusal) (hitIn r) ⌝ }
+{
+    match frames::search(answers::kind_byte(kind), buffer, place) {
+        frames::Found::At {
+            start,
+            len,
+            from,
+            to,
+        } => Found {
+            refusal: 0,
+            start,
+            length: len,
+            payload_start: from,
+            payload_length: to - from,
+        },
+        frames::Found::Refused(why) => Found {
+            refusal: answers::numbered(why),
+            start: 0,
+            length: 0,
+            payload_start: 0,
+            payload_length: 0,
+        },
+    }
+}
+
+// Whether bytes are one frame and no byte more: `frames::one_frame`.
+#[no_mangle]
+pub extern "C" fn bolsterweft_one_frame(kind: u32, frame: &[u8]) -> Payload
+    ensures { λ r. ⌜ Answers zeroEnds (WholeCause kind (now (frame .entry))) (OneFrame kind (now (frame .entry))) (r .refusal) (endsIn r) ⌝ }
+{
+    match frames::one_frame(answers::kind_byte(kind), frame) {
+        Whole::Is { from, to } => Payload {
+            refusal: 0,
+            payload_start: from,
+            payload_length: to - from,
+        },
+        Whole::Refused(why) => Payload {
+            refusal: answers::numbered(why),
+            payload_start: 0,
+            payload_length: 0,
+        },
+    }
+}

@@ -1,0 +1,20 @@
+-- What the members of an answer say, in the words of the promises. The first member, the refusal number, is not spoken
+-- of here.
+-- Assumes nothing.
+use mathlib.Core.List.{List}
+use Prim.Native.Nat.{ℕ}
+use lib.ListN.{length}
+use Rattle.digits.specs.Paper.Refusals.{Answers}
+use Rattle.lines.specs.Paper.Answers.{Placed, zeroPlaced, NextCause, NextLine}
+use Rattle.host_lines.specs.declared.Listed.{Listed}
+
+-- a line that begins at the room's front ends at its length
+abbrev pub placedIn : Listed → Placed
+placedIn r = record { start = r .start; len = r .length; behind = r .«line_length» }
+
+-- r is the right answer, and `later` the right room afterwards, of a call that writes the line of the next frame from
+-- the front of a lent room
+abbrev pub WroteNext : ℕ → List ℕ → ℕ → List ℕ → Listed → List ℕ → Type 0
+WroteNext k s place room r later =
+    Answers {A = Placed × List ℕ} (zeroPlaced, room) (NextCause k s place (length room))
+    (λ v. NextLine k s place room 0 (v .0) (v .1)) (r .refusal) (placedIn r, later)

@@ -1,0 +1,181 @@
+//! Requests to the calls for C: the functions of docs/CALLS.md under their names in C, with C's types. A kind, a width, decimals, a sign and
+//! an entry's number are `u32`, and one that is too large is unknown, not cut; a payload and a frame are told by start and length.
+
+use super::{float_text, pair_text, says, tries, writes, Answer};
+use crate::acknowledge;
+use crate::book;
+use crate::frames;
+use crate::lines;
+use crate::list;
+use crate::numbers;
+use crate::refusal::Refusal;
+use crate::words::Words;
+
+/// None if this is no request.
+pub fn called(request: &[u8]) -> Option<Answer> {
+    let mut words = Words::of(request)?;
+    let name = std::str::from_utf8(words.word()?).ok()?;
+    let answer = match name.strip_prefix("bolsterweft_")? {
+        "search" | "one_frame" => in_frames(name, &mut words),
+        "line" | "line_next" | "list" | "acknowledge" => in_lines(name, &mut words),
+        function if function.starts_with("book_") => in_book(name, &mut words),
+        _ => in_numbers(name, &mut words),
+    }?;
+    words.end()?;
+    Some(answer)
+}
+
+/// A kind that a byte does not hold is unknown, as 0 is.
+fn kind(words: &mut Words) -> Option<u8> {
+    let kind: u32 = words.number()?;
+    Some(u8::try_from(kind).unwrap_or(0))
+}
+
+/// 0 is unsigned, anything else signed.
+fn sign(words: &mut Words) -> Option<bool> {
+    Some(words.number::<u32>()? != 0)
+}
+
+fn width(words: &mut Words) -> Option<u64> {
+    Some(u64::from(words.number::<u32>()?))
+}
+
+fn entry_number(words: &mut Words) -> Option<u64> {
+    Some(u64::from(words.number::<u32>()?))
+}
+
+fn in_frames(name: &str, words: &mut Words) -> Option<Answer> {
+    let (kind, bytes) = (kind(words)?, words.bytes()?);
+    if name == "bolsterweft_one_frame" {
+        let head = frames::one_frame(kind, &bytes);
+        return tries(head.map(|head| format!("{} {}", head.begins, head.ends - head.begins)));
+    }
+    let found = frames::search(kind, &bytes, words.number()?);
+    tries(found.map(|found| {
+        let length = found.ends - found.begins;
+        format!("{} {} {} {length}", found.start, found.length, found.begins)
+    }))
+}
+
+fn in_lines(name: &str, words: &mut Words) -> Option<Answer> {
+    match name {
+        "bolsterweft_line" => {
+            let line = lines::line(kind(words)?, &words.bytes()?, words.number()?);
+            writes(words.room()?, line)
+        }
+        "bolsterweft_line_next" => {
+            let next = lines::next(kind(words)?, &words.bytes()?, words.number()?);
+            let mut room = words.room()?;
+            let result = next.and_then(|(found, line)| {
+                let length = room.write(&line)?;
+                Ok(format!("{} {} {length}", found.start, found.length))
+            });
+            Some(Answer {
+                result,
+                room: Some(room),
+            })
+        }
+        "bolsterweft_list" => {
+            let listing = list::listing(&words.bytes()?);
+            writes(words.room()?, Ok(listing))
+        }
+        _ => {
+            let answer = acknowledge::acknowledge(&words.bytes()?);
+            writes(words.room()?, answer)
+        }
+    }
+}
+
+fn in_numbers(name: &str, words: &mut Words) -> Option<Answer> {
+    match name {
+        "bolsterweft_text" => {
+            let text = numbers::text(words.number()?, words.number()?);
+            writes(words.room()?, text)
+        }
+        "bolsterweft_number" => {
+            let read = numbers::read(&words.bytes()?);
+            tries(read.map(|(raw, decimals)| format!("{decimals} {raw}")))
+        }
+        "bolsterweft_value" => {
+            let bytes = numbers::bytes(words.number()?, width(words)?, sign(words)?);
+            writes(words.room()?, bytes)
+        }
+        "bolsterweft_value_read" => {
+            let bytes = words.bytes()?;
+            tries(numbers::number(&bytes, width(words)?, sign(words)?))
+        }
+        "bolsterweft_fits" => tries(numbers::fits_single(words.number()?).map(u8::from)),
+        "bolsterweft_panel" => tries(float_text(words.number()?)),
+        "bolsterweft_climate" => climate(words.number()?, words.number()?),
+        _ => None,
+    }
+}
+
+fn climate(temperature: i32, humidity: u32) -> Option<Answer> {
+    match (i16::try_from(temperature), u16::try_from(humidity)) {
+        (Ok(temperature), Ok(humidity)) => says(pair_text(temperature, humidity)),
+        _ => tries(Err::<String, Refusal>(Refusal::Limits)),
+    }
+}
+
+fn in_book(name: &str, words: &mut Words) -> Option<Answer> {
+    let bytes = words.bytes()?;
+    match name {
+        "bolsterweft_book_open" => tries(book::open(&bytes).map(|entries| entries.len())),
+        "bolsterweft_book_entry" => {
+            let entry = book::entry(&bytes, entry_number(words)?);
+            tries(entry.map(|entry| {
+                let length = entry.ends - entry.begins;
+                format!("{} {} {} {length}", entry.kind, entry.offset, entry.begins)
+            }))
+        }
+        "bolsterweft_book_line" => {
+            let line = book::line(&bytes, entry_number(words)?);
+            writes(words.room()?, line)
+        }
+        "bolsterweft_book_list" => writes(words.room()?, book::list(&bytes)),
+        "bolsterweft_book_add" => {
+            let longer = book::add(&bytes, kind(words)?, &words.bytes()?);
+            writes(words.room()?, longer)
+        }
+        _ => None,
+    }
+}
+
+#[cfg(test)]
+mod tests {
+    use crate::answer_from_c;
+
+    fn answers(request: &str, answer: &str) {
+        let given = String::from_utf8(answer_from_c(request.as_bytes())).unwrap();
+        assert_eq!(given, answer, "{request}");
+    }
+
+    #[test]
+    fn the_calls_for_c() {
+        answers("bolsterweft_search 4 C069C06902640066 0", "ok 2 6 5 2");
+        answers("bolsterweft_search 260 C069C06902640066 0", "refused 2");
+        answers("bolsterweft_search 4294967300 - 0", "request?");
+        answers("bolsterweft_one_frame 4 C06902640066", "ok 3 2");
+        answers("bolsterweft_number 2D31322E35", "ok 1 -125");
+        answers("bolsterweft_value -2 2 65536 2", "ok 2 room FEFF+0");
+        answers("bolsterweft_value -2 258 1 2", "refused 7 room -+2");
+        answers("bolsterweft_fits 16777217", "ok 0");
+        answers("bolsterweft_panel 16777217", "ok double 16777217");
+        answers(
+            "bolsterweft_climate -32768 65535",
+            "ok single -32768 single 65535",
+        );
+        answers("bolsterweft_climate 32768 0", "refused 5");
+        answers("bolsterweft_climate 0 65536", "refused 5");
+        answers("bolsterweft_book_open 000006000000", "ok 0");
+        answers("bolsterweft_book_entry 000006000000 65536", "refused 3");
+        answers("bolsterweft_book_add 00 260 - 0", "refused 8 room -+0");
+        answers(
+            "bolsterweft_book_add 000006000000 260 - 0",
+            "refused 2 room -+0",
+        );
+        answers("bolsterweft_book_sell -", "request?");
+        answers("frames::search 4 - 0", "request?");
+    }
+}
