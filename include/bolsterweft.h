@@ -1,7 +1,7 @@
 /* Bolsterweft for C: frames of four home buses (Nikobus, Nest, Nibe, Homiq), their lines of JSON, capture books, exact numbers.
  *
  * Platform: x86-64 Linux, System V calling convention. The header compiles as C89, C99, C11, C17 and C++11 or later. Link
- * with libbolsterweft.a (`cc program.c -lbolsterweft`). Of the C library the archive needs `memcpy` and `memset` alone.
+ * with libbolsterweft.a (`cc program.c -lbolsterweft`). Of the C library the archive needs `memcpy` alone.
  *
  *
  * WHAT EVERY CALL DOES
@@ -433,7 +433,8 @@ struct bolsterweft_panel_value {
  */
 struct bolsterweft_panel_value bolsterweft_panel(int64_t raw);
 
-/* A climate message's two numbers for the wall panel. */
+/* A climate message's two numbers for the wall panel. In C++, too, write `struct bolsterweft_climate`: without `struct`, the name is
+ * that of the function below. */
 struct bolsterweft_climate {
     uint32_t refusal;
     float temperature;
@@ -552,7 +553,7 @@ struct bolsterweft_count bolsterweft_book_line(const uint8_t *book, size_t book_
  *   8  if the bytes are not a book.
  *   4  if the room is too short.
  * Cost: linear in book_length.
- * Stack: 25,152 bytes.
+ * Stack: 16,768 bytes.
  *
  * Example:
  *

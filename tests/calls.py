@@ -61,6 +61,13 @@ def in_room(made, room, to=0, values=()):
     return "%s room %s+%d" % (answer(made if refused else values or (len(made),)), word(front), room - len(front))
 
 
+def clipped(made, room, to):
+    """The same where they are written as far as the room goes: the value is the place behind them, as far as a number can say it."""
+    if isinstance(made, int):
+        return in_room(made, room)
+    return in_room(made[: max(room - to, 0)], room, min(to, room), (min(to + len(made), 2**64 - 1),))
+
+
 def run(requests):
     """The proved programs' answers."""
     given = "".join(line + "\n" for line in requests).encode("ascii")

@@ -506,7 +506,7 @@ NO_REQUESTS = [
     "lines::measure 4 C06902640066 0 80 0",
     # a content without its payload; a tag that is none, or without what it has, or with more than its type holds
     "messages::of tail",
-    "lines::of_content tail 0 4 40 0",
+    "lines::put_content tail 0 4 40 0",
     "messages::of Tail -",
     "messages::of input 492E333B313B30483B303B34323B73",
     "messages::of read 1 18183 -",

@@ -19,7 +19,7 @@ import calls
 import lines
 import paper
 import table
-from calls import answer, in_room, request
+from calls import answer, clipped, in_room, request
 
 ALL_KINDS = (0, 1, 2, 3, 4, 5, 6, 255)
 # many cases share a frame, and a division for each would take most of the time
@@ -98,7 +98,7 @@ def pairs(case):
         yield request("messages::of", *calls.tag(name, fields), content), told(table.of(name, fields, content))
     elif asked == "content line":
         made = content_line(name, fields, content, at, length)
-        yield request("lines::of_content", *calls.tag(name, fields), content, at, length, room, to), in_room(made, room, to)
+        yield request("lines::put_content", *calls.tag(name, fields), content, at, length, room, to), clipped(made, room, to)
     elif asked == "payload":
         yield request("layouts::homiq::is_payload", content), answer((paper.is_payload(content),))
     elif asked == "allowed":
@@ -569,7 +569,7 @@ def reached(cases, exchanges):
     yield {no for what, no in refused if what == "encode"} == set("24567")
     yield {no for what, no in refused if what == "acknowledge"} == set("45")
     yield {name for what, name, told in seen if (what, told) == ("encode", "refused 6")} == table.LAST
-    for what, refusals, names in (("allowed", "56", table.NAMES), ("line", "45", table.NAMES), ("content line", "45", table.TAGS)):
+    for what, refusals, names in (("allowed", "56", table.NAMES), ("line", "45", table.NAMES), ("content line", "5", table.TAGS)):
         yield {name for asked, name, told in seen if asked == what and told.startswith("ok")} == set(names)
         yield {no for asked, no in refused if asked == what} == set(refusals)
     yield {name for what, name, told in seen if (what, told) == ("allowed", "refused 6")} == table.LAST

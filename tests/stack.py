@@ -15,24 +15,27 @@ import subprocess
 import sys
 
 ROOT = pathlib.Path(__file__).resolve().parent.parent
-FOREIGN = ("memcpy", "memset")
+FOREIGN = ("memcpy",)
 LINE = re.compile(r"^\s+([0-9a-f]+):\t\s*(\S+)\s*(.*)$")
 RELOCATION = re.compile(r"^\s+[0-9a-f]+: R_X86_64_(?:PLT32|PC32)\s+(.+?)(?:[-+]0x[0-9a-f]+)?$")
 
 
-def functions(archive):
-    """Name: its instructions, each its address, its words, and the function that a relocation names."""
+def objects(archive):
+    """Of each object, name: its instructions, each its address, its words, and the function that a relocation names. Two objects may have
+    functions of the same name that are not the same, so a call is looked for in its own object."""
     done = subprocess.run(["objdump", "-dr", "--no-show-raw-insn", archive], stdout=subprocess.PIPE, text=True, check=True)
-    found, name = {}, None
+    found, name = [], None
     for line in done.stdout.splitlines():
+        if re.match(r"^\S.*:\s+file format ", line):
+            found.append({})
         head = re.match(r"^[0-9a-f]+ <(.*)>:$", line)
         if head:
             name = head[1]
-            found[name] = []
+            found[-1][name] = []
         elif name and (told := RELOCATION.match(line)):
-            found[name][-1][3] = told[1]
+            found[-1][name][-1][3] = told[1]
         elif name and (told := LINE.match(line)):
-            found[name].append([int(told[1], 16), told[2], told[3].split("#")[0].strip(), None])
+            found[-1][name].append([int(told[1], 16), told[2], told[3].split("#")[0].strip(), None])
     return found
 
 
@@ -134,9 +137,10 @@ def write(found):
 
 
 def main():
-    stack = Stack(functions(sys.argv[1]))
-    found = {name: (stack.of(name), stack.foreign(name)) for name in sorted(stack.code) if name.startswith("bolsterweft_")}
-    for name, (taken, foreign) in found.items():
+    found = {}
+    for stack in map(Stack, objects(sys.argv[1])):
+        found |= {name: (stack.of(name), stack.foreign(name)) for name in stack.code if name.startswith("bolsterweft_")}
+    for name, (taken, foreign) in sorted(found.items()):
         print(name, taken, *foreign)
     if "--write" in sys.argv:
         write(found)

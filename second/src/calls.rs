@@ -512,21 +512,19 @@ fn in_lines(function: &str, words: &mut Words) -> Option<Answer> {
         "of" => {
             let (message, content) = (words.message()?, words.bytes()?);
             let line = lines::of(&message, &content, words.number()?, words.number()?);
-            in_room_at(line, words)
+            writes_at(words.room()?, words.number()?, line)
         }
-        "of_content" => {
+        "put_content" => {
             let (tag, payload) = (words.tag()?, words.bytes()?);
             let line = lines::of_content(tag, &payload, words.number()?, words.number()?);
-            in_room_at(line, words)
+            let (room, to) = (words.room()?, words.number()?);
+            match line {
+                Ok(line) => puts(room, to, &line),
+                Err(refusal) => writes_at(room, to, Err(refusal)),
+            }
         }
         _ => None,
     }
-}
-
-/// Writes a line in the room that follows in the request, from the place that follows there on.
-fn in_room_at(line: Result<Vec<u8>, Refusal>, words: &mut Words) -> Option<Answer> {
-    let room = words.room()?;
-    writes_at(room, words.number()?, line)
 }
 
 fn in_book(function: &str, words: &mut Words) -> Option<Answer> {
@@ -597,7 +595,7 @@ mod tests {
             "lines::next",
             "lines::measure",
             "lines::of",
-            "lines::of_content",
+            "lines::put_content",
             "messages::allowed",
             "messages::of",
             "frames::kinds::of",

@@ -646,20 +646,24 @@ fn each_function_answers() {
             "refused 5 room -+0",
         ),
         (
-            "lines::of_content tail 00 7 4 31 1",
-            "ok 30 room EE7B226174223A372C226C656E223A342C226D7367223A227461696C227D0A+0",
+            "lines::put_content tail 00 7 4 31 1",
+            "ok 31 room EE7B226174223A372C226C656E223A342C226D7367223A227461696C227D0A+0",
         ),
-        ("lines::of_content tail - 7 4 30 1", "refused 4 room -+30"),
-        ("lines::of_content tail - 7 4 30 31", "refused 4 room -+30"),
+        ("lines::put_content tail - 7 4 4 1", "ok 31 room EE7B2261+0"),
+        ("lines::put_content tail - 7 4 30 31", "ok 61 room -+30"),
         (
-            "lines::of_content link 313230373437 7 16 9 0",
-            "refused 4 room -+9",
+            "lines::put_content tail - 7 4 1 18446744073709551615",
+            "ok 18446744073709551615 room -+1",
         ),
         (
-            "lines::of_content press 344543423161 7 9 0 0",
-            "refused 5 room -+0",
+            "lines::put_content link 313230373437 7 16 9 0",
+            "ok 55 room 7B226174223A372C22+0",
         ),
-        ("lines::of_content tail 7 4 30 1", "request?"),
+        (
+            "lines::put_content press 344543423161 7 9 4 0",
+            "refused 5 room -+4",
+        ),
+        ("lines::put_content tail 7 4 30 1", "request?"),
         (
             "lines::next 1 002345310D 0 31 1",
             "ok 1 4 31 room EE7B226174223A312C226C656E223A342C226D7367223A227461696C227D0A+0",

@@ -86,7 +86,8 @@ pub fn line(book: &[u8], number: usize, room: &mut [u8]) -> Written
 pub fn list(book: &[u8], room: &mut [u8]) -> Written
     ensures { λ r. ⌜ WritesBookLines (now (book .entry)) (now (room .entry)) r (now (room .exit)) ⌝ }
 {
-    let mut places = [0usize; 2000];
+    // whatever is noted nowhere is never read: with zeros, the compiler would fill it by a call of C's `memset`
+    let mut places = [1usize; 2000];
     match opening::opened(book, &mut places) {
         Opened::Count(count) => listing::write(book, count, &places, room),
         Opened::Refused(why) => Written::Refused(why),

@@ -4,24 +4,14 @@ use super::layout;
 use digits::refusal::Refusal;
 use frames::kinds;
 use frames::kinds::Resolved;
+use lines::Ended;
 use puts::Written;
 ghost use mathlib.Core.Path.{_≡_};
-ghost use Prim.Native.Nat.{_-_};
-ghost use lib.ListN.{length};
 ghost use Rattle.frames.specs.Paper.Whole.{OneFrame};
-ghost use Rattle.puts.specs.Paper.Wrote.{writtenCount};
+ghost use Rattle.lines.specs.Paper.Answers.{endedPlace};
 ghost use Rattle.book.specs.Paper.Answers.{WritesBookLines};
 ghost use Rattle.book.specs.Work.Reading.{Noting};
-ghost use Rattle.book.specs.Work.Writing.{placeFor, Roomy, Lists, RoomFor, PutsOne, Sized, Fits};
-
-// No line of an entry is longer.
-const LONGEST: usize = 8368;
-
-// What lines are put for: to be written one behind the other, or to be measured, each at the front of a room that all of them may use.
-pub(crate) enum Aim {
-    Write,
-    Measure,
-}
+ghost use Rattle.book.specs.Work.Writing.{Lists, PutsOne, Sized, Fits};
 
 // Writes the lines of a valid book with so many entries, whose payloads' places have been noted.
 pub(crate) fn write(book: &[u8], count: usize, places: &[usize], room: &mut [u8]) -> Written
@@ -31,7 +21,7 @@ pub(crate) fn write(book: &[u8], count: usize, places: &[usize], room: &mut [u8]
     if !fits(book, count, places, room.len()) {
         return Written::Refused(Refusal::Room);
     }
-    Written::Bytes(put(book, count, places, Aim::Write, room))
+    Written::Bytes(put(book, count, places, room))
 }
 
 // Whether a room of so many bytes has room for the lines. Only where it might not are they measured.
@@ -45,20 +35,19 @@ fn fits(book: &[u8], count: usize, places: &[usize], room: usize) -> bool
     size(book, count, places) <= room
 }
 
-// How long the lines are.
+// How long the lines are: the writer in a room too short.
 fn size(book: &[u8], count: usize, places: &[usize]) -> usize
     requires { ⌜ Noting (now book) count (now places) ⌝ }
     ensures { λ r. ⌜ Sized (now (book .entry)) r ⌝ }
 {
-    let mut scratch = [0u8; LONGEST];
-    put(book, count, places, Aim::Measure, &mut scratch)
+    let mut none = [0u8; 1];
+    put(book, count, places, &mut none)
 }
 
-// Puts the lines, entry after entry, and answers how long they are together.
-fn put(book: &[u8], count: usize, places: &[usize], aim: Aim, room: &mut [u8]) -> usize
+// Puts the lines, entry after entry, as far as the room goes, and answers the place behind them.
+fn put(book: &[u8], count: usize, places: &[usize], room: &mut [u8]) -> usize
     requires { ⌜ Noting (now book) count (now places) ⌝ }
-    requires { ⌜ Roomy aim (now book) (length (now room)) ⌝ }
-    ensures { λ r. ⌜ Lists aim (now (book .entry)) (now (room .entry)) (now (room .exit)) r ⌝ }
+    ensures { λ r. ⌜ Lists (now (book .entry)) (now (room .entry)) (now (room .exit)) r ⌝ }
 {
     let mut at = 0;
     let mut next = 0;
@@ -70,26 +59,15 @@ fn put(book: &[u8], count: usize, places: &[usize], aim: Aim, room: &mut [u8]) -
         let behind = head.to;
         let start = places[i];
         let stop = places[layout::MOST_ENTRIES + i];
-        let to = place_for(aim, next);
-        next += put_line(kind, &book[from..behind], start, stop, at, room, to);
+        next = put_line(kind, &book[from..behind], start, stop, at, room, next);
         at = behind;
         i += 1;
     }
     next
 }
 
-// Where the line behind so many bytes of lines goes.
-fn place_for(aim: Aim, bytes: usize) -> usize
-    ensures { λ r. ⌜ r ≡ placeFor aim bytes ⌝ }
-{
-    match aim {
-        Aim::Write => bytes,
-        Aim::Measure => 0,
-    }
-}
-
-// Puts the line of one frame, which stands at `at` of the book and whose payload goes from the one place to the other, at a place of a
-// room that has room for it there. Answers how long it is: the frame was tested, so its kind is known, and its line is never refused.
+// Puts the line of one frame, which stands at `at` of the book and whose payload goes from the one place to the other. Answers the place
+// behind the line: the frame was tested, so its kind is known, and its line is never refused.
 fn put_line(
     kind: u8,
     frame: &[u8],
@@ -100,24 +78,23 @@ fn put_line(
     to: usize,
 ) -> usize
     requires { ⌜ OneFrame kind (now frame) (record { from = start; to = stop }) ⌝ }
-    requires { ⌜ RoomFor kind (now frame) at (length (now room) - to) ⌝ }
     ensures { λ r. ⌜ PutsOne kind (now (frame .entry)) at (now (room .entry)) (now (room .exit)) to r ⌝ }
 {
     match kinds::of(kind) {
         Resolved::Is(known) => {
             let tag = contents::tag(known, frame);
-            bytes_in(lines::of_content(tag, &frame[start..stop], at, frame.len(), room, to))
+            end_of(lines::put_content(tag, &frame[start..stop], at, frame.len(), room, to))
         }
         Resolved::Unknown => 0,
     }
 }
 
-// How many bytes were written.
-fn bytes_in(written: Written) -> usize
-    ensures { λ r. ⌜ r ≡ writtenCount written ⌝ }
+// Where a line ends.
+fn end_of(ended: Ended) -> usize
+    ensures { λ r. ⌜ r ≡ endedPlace ended ⌝ }
 {
-    match written {
-        Written::Bytes(n) => n,
-        Written::Refused(why) => 0,
+    match ended {
+        Ended::At(behind) => behind,
+        Ended::Refused(why) => 0,
     }
 }

@@ -2,6 +2,7 @@
 use super::answer;
 use super::answer::Answer;
 use super::message;
+use lines::Ended;
 use lines::Listed;
 use lines::Measured;
 use puts::Written;
@@ -18,6 +19,7 @@ pub(crate) fn call(
     match function {
         1102 => listed(lines::next(kind, s, place, room, values[2] as usize)),
         1103 => measured(lines::measure(kind, s, place)),
+        1105 => ended(put_content(values, s, room)),
         _ => written(write(function, values, six, s, room)),
     }
 }
@@ -32,15 +34,28 @@ fn write(function: u64, values: &[u64; 8], six: &[u8], s: &[u8], room: &mut [u8]
         1001 => commands::encode(kind, message::of(values, six), s, room),
         1002 => commands::acknowledge(s, room),
         1101 => lines::write(kind, s, values[1] as usize, room),
-        1104 => lines::of(message::of(values, six), s, at, len, room, to),
-        _ => lines::of_content(message::tag(values), s, at, len, room, to),
+        _ => lines::of(message::of(values, six), s, at, len, room, to),
     }
+}
+
+fn put_content(values: &[u64; 8], s: &[u8], room: &mut [u8]) -> Ended {
+    let at = values[5] as usize;
+    let len = values[6] as usize;
+    let to = values[7] as usize;
+    lines::put_content(message::tag(values), s, at, len, room, to)
 }
 
 pub(crate) fn written(r: Written) -> Answer {
     match r {
         Written::Bytes(n) => answer::number(n as u64),
         Written::Refused(why) => answer::refused(why),
+    }
+}
+
+fn ended(r: Ended) -> Answer {
+    match r {
+        Ended::At(behind) => answer::number(behind as u64),
+        Ended::Refused(why) => answer::refused(why),
     }
 }
 

@@ -116,7 +116,7 @@ fn of_messages(line: &[u8], words: &mut [u64; 14], store: &mut [u8]) {
         lines::next 1102 u8 bytes usize room usize\n\
         lines::measure 1103 u8 bytes usize\n\
         lines::of 1104 Message bytes usize usize room usize\n\
-        lines::of_content 1105 Tag bytes usize usize room usize\n";
+        lines::put_content 1105 Tag bytes usize usize room usize\n";
     request::read(rows, line, words, store)
 }
 

@@ -399,17 +399,10 @@ of-message = (
   ),
 )
 
-pub of-content : Occur (lines.of-content .Cause) (lines.of-content .refusals)
-unfolding line object contentOf
-of-content = (
-  (record { tag = tags.Homiq; payload = []; at = 0; len = 0; room = []; to = 0 }, SaidCause.no-message (λ m g s. no-payload (s .payload))),
-  (
-    (
-      record { tag = tags.Command 0x00FF; payload = []; at = 0; len = 9; room = []; to = 0 },
-      SaidCause.short (record { message = command 0x00FF []; good = messages-known.c .good; said = refl; is = refl }) (omega arith),
-    ),
-    tt,
-  ),
+pub put-content : Occur (lines.put-content .Cause) (lines.put-content .refusals)
+put-content = (
+  (record { tag = tags.Homiq; payload = []; at = 0; len = 0; room = []; to = 0 }, MeantCause.no-message (λ m g w. no-payload (w .payload))),
+  tt,
 )
 
 -- ---- book

@@ -33,7 +33,9 @@ pub(crate) fn acknowledge(frame: &[u8], room: &mut [u8]) -> Written
     }
 }
 
-// Writes the acknowledgement of the frame with this payload, whose last character is its type.
+// Writes the acknowledgement of the frame with this payload, whose last character is its type. The acknowledgement's payload is as long.
+// (The length is taken from there, and not from `exchange`: if the compiler knew that it is not 0, it would clear what the builder's own
+// array has behind the payload by a call of C's `memset`, and the archive for C would need it.)
 fn answer(payload: &[u8], room: &mut [u8]) -> Written
     requires { ⌜ Laid (now payload) ⌝ }
     ensures { λ r. ⌜ Answered (now (payload .entry)) (now (room .entry)) r (now (room .exit)) ⌝ }
@@ -42,8 +44,8 @@ fn answer(payload: &[u8], room: &mut [u8]) -> Written
         return Written::Refused(Refusal::Limits);
     }
     let mut reply = [0u8; 64];
-    let n = exchange(payload, &mut reply);
-    homiq::frame(&reply[0..n], room)
+    exchange(payload, &mut reply);
+    homiq::frame(&reply[0..payload.len()], room)
 }
 
 // Puts a payload with SRC and DST exchanged and with `a` for its type.

@@ -5,39 +5,46 @@ use mathlib.Core.List.{List}
 use Prim.Native.Nat.{ℕ}
 use Rattle.digits.specs.declared.refusal.Refusal.{Refusal}
 use Rattle.digits.proofs.Laws.Refusals.{same-answer, one-answer}
-use Rattle.messages.specs.Paper.Message.{Message}
 use Rattle.messages.specs.Paper.Says.{Says}
 use Rattle.messages.specs.declared.Message.{Message as Coded}
 use Rattle.messages.specs.declared.Tag.{Tag}
 use Rattle.puts.specs.declared.Written.{Written}
 use Rattle.puts.proofs.Laws.Right.{one-wrote}
 use Rattle.puts.proofs.Unique.{written-answer}
-use Rattle.lines.specs.Paper.Answers.{WritesLine, WritesSaid, HasContent, Placed, listedNumber, listedPlaced, PutsNext, Size, measuredNumber, measuredSize, Measures}
+use Rattle.lines.specs.Paper.Answers.{WritesLine, WritesSaid, endedNumber, endedPlace, PutsContent, Placed, listedNumber, listedPlaced, PutsNext, Size, measuredNumber, measuredSize, Measures}
+use Rattle.lines.specs.declared.Ended.{Ended}
+use Rattle.lines.specs.declared.Ended.the-variants.{At as EndedAt, Refused as Unended}
 use Rattle.lines.specs.declared.Listed.{Listed}
 use Rattle.lines.specs.declared.Listed.the-variants.{At, Refused}
 use Rattle.lines.specs.declared.Measured.{Measured}
 use Rattle.lines.specs.declared.Measured.the-variants.{At as SizedAt, Refused as Unmeasured}
 use Rattle.lines.proofs.Laws.Next.{one-line, one-next-line, one-next-size}
-use Rattle.lines.proofs.Laws.Of.{OneSaid, one-says, one-has, one-put-said}
+use Rattle.lines.proofs.Laws.Of.{one-says, one-put-said, one-put-content}
 
 -- write
 pub write : (k : ℕ) (f : List ℕ) (at : ℕ) (room : List ℕ) {r q : Written} {s t : List ℕ} → WritesLine k f at room r s → WritesLine k f at room q t → (r ≡ q) × (s ≡ t)
 write k f at room a b = one-wrote one-line a b
 
--- of, of_content: a message and what stands beside it say one line, and so do a tag and its payload
-module _ {IsSaid : Message → Type 0} (one : OneSaid IsSaid) {at len : ℕ} {room : List ℕ} {to : ℕ} where
-  one-written : {x y : List ℕ} (r q : Written) → WritesSaid IsSaid at len room to r x → WritesSaid IsSaid at len room to q y → (r ≡ q) × (x ≡ y)
-  one-written r q a b =
-      let e = one-answer (one-put-said one) a b in
-      (written-answer r q (e .0) (ap (λ v. v .0) (e .1)), ap (λ v. v .1) (e .1))
-
+-- of: a message and what stands beside it say one line
 pub of : (e : Coded) (s : List ℕ) {at len : ℕ} {room : List ℕ} {to : ℕ} {x y : List ℕ} (r q : Written) → WritesSaid (Says e s) at len room to r x
     → WritesSaid (Says e s) at len room to q y → (r ≡ q) × (x ≡ y)
-of e s = one-written (one-says e s)
+of e s r q a b =
+    let u = one-answer (one-put-said (one-says e s)) a b in
+    (written-answer r q (u .0) (ap (λ v. v .0) (u .1)), ap (λ v. v .1) (u .1))
 
-pub of-content : (t : Tag) (p : List ℕ) {at len : ℕ} {room : List ℕ} {to : ℕ} {x y : List ℕ} (r q : Written) → WritesSaid (HasContent t p) at len room to r x
-    → WritesSaid (HasContent t p) at len room to q y → (r ≡ q) × (x ≡ y)
-of-content t p = one-written (one-has t p)
+-- put_content: and so do a tag and its payload
+ended-cases : (P : Ended → Type 0) → ((n : ℕ) → P (EndedAt n)) → ((why : Refusal) → P (Unended why)) → (r : Ended) → P r
+ended-cases P f g (EndedAt n) = f n
+ended-cases P f g (Unended why) = g why
+
+ended-answer : (r q : Ended) → endedNumber r ≡ endedNumber q → endedPlace r ≡ endedPlace q → r ≡ q
+ended-answer = same-answer EndedAt Unended endedNumber endedPlace (λ n. refl) (λ why. refl) (λ n. refl) ended-cases
+
+pub put-content : (t : Tag) (p : List ℕ) {at len : ℕ} {room : List ℕ} {to : ℕ} {x y : List ℕ} (r q : Ended) → PutsContent t p at len room to r x
+    → PutsContent t p at len room to q y → (r ≡ q) × (x ≡ y)
+put-content t p r q a b =
+    let e = one-answer one-put-content a b in
+    (ended-answer r q (e .0) (ap (λ v. v .0) (e .1)), ap (λ v. v .1) (e .1))
 
 -- next, measure: what the search finds is one, and so is its line
 listed-cases : (P : Listed → Type 0) → ((v : Placed) → P (At (v .start) (v .len) (v .behind))) → ((why : Refusal) → P (Refused why)) → (r : Listed) → P r

@@ -19,7 +19,7 @@ ghost use lib.Dec.{leb};
 ghost use lib.ListN.{length};
 ghost use Rattle.puts.specs.Paper.Put.{Put};
 ghost use Rattle.messages.specs.Paper.Says.{Says};
-ghost use Rattle.lines.specs.Paper.Answers.{WritesLine, WritesSaid, HasContent, PutsNext, Measures};
+ghost use Rattle.lines.specs.Paper.Answers.{WritesLine, WritesSaid, PutsContent, PutsNext, Measures};
 ghost use Rattle.lines.specs.Work.Put.{restOf, put, Bounded, AllOrNone};
 ghost use Rattle.lines.specs.Work.Tried.{Tries, Surely};
 
@@ -27,6 +27,12 @@ ghost use Rattle.lines.specs.Work.Tried.{Tries, Surely};
 const MOST: usize = 352;
 
 const MOST_A_BYTE: usize = 8;
+
+// Where the line of a content ends: the place in the room behind it.
+pub enum Ended {
+    At(usize),
+    Refused(Refusal),
+}
 
 // What stands next in a capture: a frame's start and length, and the place in the room behind its line.
 pub enum Listed {
@@ -91,21 +97,22 @@ pub fn of(
     }
 }
 
-// Puts the line of a content, of which nothing has been tested, as `of` puts that of a message. Refusals: 5 for a field outside its
-// limits, 4 for a room that is too short.
-pub fn of_content(
+// Puts the line of a content, of which nothing has been tested, at a place of the room, as far as the room goes, and answers the place
+// behind it, as the writers of `puts` do. So the same call measures, in a room too short, and writes. Refusals: 5 for a field outside
+// its limits.
+pub fn put_content(
     tag: Tag,
     payload: &[u8],
     at: usize,
     len: usize,
     room: &mut [u8],
     to: usize,
-) -> Written
-    ensures { λ r. ⌜ WritesSaid (HasContent tag (now (payload .entry))) at len (now (room .entry)) to r (now (room .exit)) ⌝ }
+) -> Ended
+    ensures { λ r. ⌜ PutsContent tag (now (payload .entry)) at len (now (room .entry)) to r (now (room .exit)) ⌝ }
 {
     match messages::of(tag, payload) {
-        Meant::Is(message) => placed(message, payload, at, len, room, to),
-        Meant::Refused(why) => Written::Refused(why),
+        Meant::Is(message) => Ended::At(line(message, payload, at, len, room, to)),
+        Meant::Refused(why) => Ended::Refused(why),
     }
 }
 

@@ -5,7 +5,6 @@ use mathlib.Core.List.{List, [], _∷_, _++_}
 use mathlib.Core.Path.{_≡_}
 use Prim.Native.Nat.{ℕ, suc, _+_, _≤_}
 use lib.ListN.{length}
-use lib.Seq.{sets}
 use Rattle.digits.specs.Paper.Bytes.{part}
 use Rattle.lines.specs.Paper.Answers.{LineOf}
 use Rattle.puts.specs.Paper.Put.{Put}
@@ -13,8 +12,6 @@ use Rattle.puts.specs.Work.Right.{SizedRight, FitsRight}
 use Rattle.book.specs.Paper.Book.{Entry, entries, book, Framed, mostEntries, mostBytes, Book}
 use Rattle.book.specs.Paper.Answers.{EntryLines, BookLines}
 use Rattle.book.specs.Work.Reading.{Noted}
-use Rattle.book.specs.declared.listing.Aim.{Aim}
-use Rattle.book.specs.declared.listing.Aim.the-variants.{Write, Measure}
 
 -- ---- adding
 
@@ -31,43 +28,22 @@ pub record PutsAdded (s : List ℕ) (e : Entry) (room later : List ℕ) (next : 
 
 -- ---- the line of one entry
 
--- a room of so many bytes has room for the line of the frame f that stands at `at`
-abbrev pub RoomFor : ℕ → List ℕ → ℕ → ℕ → Type 0
-RoomFor k f at n = (t : List ℕ) → LineOf k f at t → length t ≤ n
-
--- that line, of n bytes, is put at a place of the room
-pub record PutsOne (k : ℕ) (f : List ℕ) (at : ℕ) (room later : List ℕ) (to n : ℕ) : Type 0 where
+-- the line of the frame f that stands at `at` is put at a place of the room, as far as the room goes
+pub record PutsOne (k : ℕ) (f : List ℕ) (at : ℕ) (room later : List ℕ) (to behind : ℕ) : Type 0 where
   pub text : List ℕ
   pub right : LineOf k f at text
-  pub size : n ≡ length text
-  pub holds : later ≡ sets room to text
+  pub put : Put room later to behind text
 
 -- ---- the lines
 
--- where the line behind so many bytes of lines goes
-abbrev pub placeFor : Aim → ℕ → ℕ
-placeFor Write n = n
-placeFor Measure n = 0
-
--- a room of so many bytes has room for all lines of a book, or for each by itself
-abbrev pub Roomy : Aim → List ℕ → ℕ → Type 0
-Roomy Write s n = (t : List ℕ) → BookLines s t → length t ≤ n
-Roomy Measure s n = 8368 ≤ n
-
--- the lines t stand at the front of the room, where they are written
-abbrev pub Has : Aim → List ℕ → List ℕ → List ℕ → Type 0
-Has Write room later t = later ≡ sets room 0 t
-Has Measure room later t = Unit
-
--- the lines of a book are n bytes long, and are put
-pub record Lists (aim : Aim) (s room later : List ℕ) (n : ℕ) : Type 0 where
+-- the lines of a book are put at the room's front, as far as the room goes
+pub record Lists (s room later : List ℕ) (behind : ℕ) : Type 0 where
   pub text : List ℕ
   pub right : BookLines s text
-  pub size : n ≡ length text
-  pub holds : Has aim room later text
+  pub put : Put room later 0 behind text
 
 -- a loop's turns so far: the lines that are put, and the entries that are left, whose lines complete those of the book
-pub record Listing (aim : Aim) (s places room room₀ : List ℕ) (count next i at : ℕ) : Type 0 where
+pub record Listing (s places room later : List ℕ) (count next i at : ℕ) : Type 0 where
   pub rest : List Entry
   pub noted : Noted places i rest
   pub framed : Framed rest
@@ -75,9 +51,7 @@ pub record Listing (aim : Aim) (s places room room₀ : List ℕ) (count next i 
   pub place-in : at + length (entries rest) ≤ length s
   pub bytes : part at (at + length (entries rest)) s ≡ entries rest
   pub done : List ℕ
-  pub size : next ≡ length done
-  pub holds : Has aim room room₀ done
-  pub same : length room₀ ≡ length room
+  pub put : Put room later 0 next done
   pub whole : (t : List ℕ) → EntryLines at rest t → BookLines s (done ++ t)
 
 -- the lines of a book are n bytes long

@@ -16,6 +16,7 @@ use Rattle.claims.proofs.Laws.Forms.{fronted, unfronted, placed}
 use Rattle.claims.proofs.Laws.Keeps.{keeps-as}
 use Rattle.claims.proofs.Occur as inputs
 use Rattle.claims.proofs.Table.Frames.{search-stated}
+use Rattle.claims.proofs.Table.Messages.{of-stated}
 
 said-stated : {IsSaid : Message → Type 0} {at len left no : ℕ} → SaidCause IsSaid at len left no → OneOf no (5 ∷ 4 ∷ [])
 said-stated (SaidCause.no-message f) = here
@@ -112,31 +113,31 @@ of-proper =
           (unique.of (a .0) (a .1 .0 .now) r q x y);
     }
 
-abbrev pub of-content : Row
-of-content =
+abbrev pub put-content : Row
+put-content =
     record {
-      function = function-of lines.of_content.Key.name lines.of_content.Kinds.ps lines.of_content.Kinds.r
-          lines.of_content.Symbol.routine;
-      claim = λ κs. claims.of-content;
+      function = function-of lines.put_content.Key.name lines.put_content.Kinds.ps lines.put_content.Kinds.r
+          lines.put_content.Symbol.routine;
+      claim = λ κs. claims.put-content;
       args = λ κs a. record { tag = a .0; payload = a .1 .0 .now; at = a .1 .1 .0; len = a .1 .1 .1 .0; room = a .1 .1 .1 .1 .0 .now; to = a .1 .1 .1 .1 .1 .0 };
       later = λ κs s. s .1 .1 .1 .1 .0 .now;
     }
 
-pub of-content-proper : Proper of-content
-of-content-proper =
+pub put-content-proper : Proper put-content
+put-content-proper =
     record {
       named = λ κs. refl;
-      keeps = λ w. lines.of_content.Met.met (w .𝓤) (w .H) (w .𝓜) (w .𝓖) (w .𝓡);
-      stated = λ κs a no c. said-stated c;
-      occurs = λ κs. inputs.of-content;
+      keeps = λ w. lines.put_content.Met.met (w .𝓤) (w .H) (w .𝓜) (w .𝓖) (w .𝓡);
+      stated = λ κs a no c. of-stated c;
+      occurs = λ κs. inputs.put-content;
       one = λ κs a r q ws vs x y. placed (λ (l : List ℕ). (tt, (tt, (tt, (tt, (l, (tt, tt)))))))
-          (unique.of-content (a .0) (a .1 .0 .now) r q x y);
+          (unique.put-content (a .0) (a .1 .0 .now) r q x y);
     }
 
 -- ---- all of them
 
 abbrev pub rows : List Row
-rows = write ∷ next ∷ measure ∷ of ∷ of-content ∷ []
+rows = write ∷ next ∷ measure ∷ of ∷ put-content ∷ []
 
 pub rows-proper : Every Proper rows
 rows-proper =
@@ -144,4 +145,4 @@ rows-proper =
     (and next-proper
     (and measure-proper
     (and of-proper
-    (and of-content-proper none))))
+    (and put-content-proper none))))

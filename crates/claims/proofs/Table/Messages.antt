@@ -65,7 +65,7 @@ find-proper =
       one = λ κs a r q ws vs x y. (unique.find (a .0) (a .1 .0 .now) (a .1 .1 .0) r q x y, refl);
     }
 
-of-stated : {With : Content → Type 0} {no : ℕ} → MeantCause With no → OneOf no (5 ∷ [])
+pub of-stated : {With : Content → Type 0} {no : ℕ} → MeantCause With no → OneOf no (5 ∷ [])
 of-stated (MeantCause.no-message f) = here
 
 abbrev pub content : Row

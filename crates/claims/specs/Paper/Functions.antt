@@ -113,7 +113,7 @@ functions =
     ∷ ("lines::next", 2 ∷ 3 ∷ 4 ∷ 1 ∷ [])
     ∷ ("lines::measure", 2 ∷ 3 ∷ 1 ∷ [])
     ∷ ("lines::of", 5 ∷ 4 ∷ [])
-    ∷ ("lines::of_content", 5 ∷ 4 ∷ [])
+    ∷ ("lines::put_content", 5 ∷ [])
     -- book
     ∷ ("book::open", 8 ∷ [])
     ∷ ("book::entry", 8 ∷ 3 ∷ [])

@@ -83,16 +83,28 @@ exchanged-payload {p} {w} x =
       laid = put-together (ascii ";") (ascii "a") (payload-cmd x) (payload-val x) (payload-dst x) (payload-src x) (payload-id x);
     }
 
+-- as long as it was
+exchanged-length : {p : List ℕ} {w : Wire} → Payload p w → length (exchanged p) ≡ length p
+exchanged-length {w = w} x =
+    ap length (exchanged-payload x .laid) ∙ as-long (ascii ";") (typeA ∷ []) (w .type ∷ []) (w .cmd) (w .val) (w .dst) (w .src) (decimal (w .id)) refl ∙ sym (ap length (x .laid))
+  where
+    as-long : (z t u a b c d e : List ℕ) → length t ≡ length u
+        → length (a ++ z ++ b ++ z ++ c ++ z ++ d ++ z ++ e ++ z ++ t) ≡ length (a ++ z ++ b ++ z ++ d ++ z ++ c ++ z ++ e ++ z ++ u)
+    as-long z t u a b c d e q = simp length-append (omega arith)
+
 -- laid out in a room that has a place for it
 module _ {p own made : List ℕ} {n : ℕ} (l : Laid p) (put : Put own made 0 n (exchanged p)) (long : length own ≡ 64) where
   fits : length (exchanged p) ≤ length own
   fits = omega (arith, longest (exchanged-payload (l .payload)), long)
 
-  pub reply-inside : n ≤ length made
-  reply-inside = omega (arith, put-length put, front-count put fits, fits)
+  ends : length p ≡ n
+  ends = omega (arith, exchanged-length (l .payload), front-count put fits)
 
-  pub reply-bytes : part 0 n made ≡ exchanged p
-  reply-bytes = part-front n made ∙ front-bytes put fits
+  pub reply-inside : length p ≤ length made
+  reply-inside = omega (arith, ends, put-length put, front-count put fits, fits)
+
+  pub reply-bytes : part 0 (length p) made ≡ exchanged p
+  reply-bytes = ap (λ (e : ℕ). part 0 e made) ends ∙ part-front n made ∙ front-bytes put fits
 
 -- ---- the answers
 

@@ -3,7 +3,7 @@
 use mathlib.Core.Bool.{false, true≢false}
 use mathlib.Core.List.{List}
 use mathlib.Core.Path.{_≡_, refl, sym, ap, ap₂, _∙_, subst}
-use Prim.Native.Nat.{ℕ, _≤_, _<_}
+use Prim.Native.Nat.{ℕ, _+_, _≤_, _<_, min}
 use native.Mathlib.Omega.{arith}
 use lib.Dec.{lit<}
 use lib.ListN.{length}
@@ -13,8 +13,7 @@ use Rattle.digits.specs.declared.refusal.Refusal.{Refusal}
 use Rattle.digits.specs.declared.refusal.Refusal.the-variants.{Limits as OutsideLimits}
 use Rattle.digits.proofs.Laws.Refusals.{answered, cause-at, cause-of, some-number}
 use Rattle.messages.specs.Paper.Allowed.{StandingCause, outside, taken, Allows}
-use Rattle.messages.specs.Paper.Meant.{ContentWith, MeantCause, MessageWith, Means}
-use Rattle.messages.specs.Paper.Meant as meants
+use Rattle.messages.specs.Paper.Meant.{ContentWith, MessageWith, Means}
 use Rattle.messages.specs.Paper.Message.{Message}
 use Rattle.messages.specs.Paper.Says.{Says}
 use Rattle.messages.specs.Paper.Table.{Above, Good}
@@ -27,16 +26,16 @@ use Rattle.messages.specs.declared.Tag.{Tag}
 use Rattle.messages.proofs.Laws.Meant.{one-content-with, says-with, meant-in}
 use Rattle.messages.proofs.Laws.Says.{one-said}
 use Rattle.messages.proofs.Laws.Table.{one-message}
-use Rattle.puts.specs.Paper.Put.{last}
+use Rattle.puts.specs.Paper.Put.{last, Put}
 use Rattle.puts.specs.declared.Written.{Written}
 use Rattle.puts.specs.declared.Written.the-variants.{Refused as Unwritten}
 use Rattle.puts.proofs.Laws.Right.{ours, first-5, first-4, no-cause}
-use Rattle.lines.specs.Paper.Answers.{LineSaid, SaidCause, no-message, short, PutSaid, WritesSaid, HasContent}
+use Rattle.lines.specs.Paper.Answers.{LineSaid, SaidCause, no-message, short, PutSaid, WritesSaid, HasContent, PutContent, PutsContent}
 use Rattle.lines.specs.Paper.Line.{line}
-use Rattle.lines.specs.Work.Put.{put, Bounded, AllOrNone, all, none}
+use Rattle.lines.specs.Work.Put.{put, AllOrNone, all, none}
+use Rattle.lines.specs.declared.Ended.the-variants.{At as EndedAt, Refused as Unended}
 use Rattle.lines.proofs.Laws.Next.{line-of-message}
 use Rattle.lines.proofs.Laws.Said.{put-said}
-use Rattle.lines.proofs.Laws.Sizes.{line-bounded}
 
 -- ---- one line is said
 
@@ -60,6 +59,14 @@ module _ {IsSaid : Message → Type 0} (one : OneSaid IsSaid) {at len : ℕ} whe
   one-put-said {room = room} {to = to} u v a b =
       let t : a .text ≡ b .text = one-line-said (a .text) (b .text) (a .line) (b .line) in
       ap₂ (λ (n : ℕ) (x : List ℕ). (n, x)) (a .size-is ∙ ap length t ∙ sym (b .size-is)) (a .room-is ∙ ap (sets room to) t ∙ sym (b .room-is))
+
+-- a line is put at one place and into one room
+pub one-put-content : {t : Tag} {p : List ℕ} {at len : ℕ} {room : List ℕ} {to : ℕ} (u v : ℕ × List ℕ) → PutContent t p at len room to (u .0) (u .1)
+    → PutContent t p at len room to (v .0) (v .1) → u ≡ v
+one-put-content {t} {p} {room = room} {to = to} u v a b =
+    let e : a .text ≡ b .text = one-line-said (one-has t p) (a .text) (b .text) (a .line) (b .line) in
+    ap₂ (λ (n : ℕ) (x : List ℕ). (n, x)) (a .put .behind ∙ ap (λ (x : List ℕ). min (to + length x) last) e ∙ sym (b .put .behind))
+    (a .put .holds ∙ ap (sets room to) e ∙ sym (b .put .holds))
 
 -- ---- the causes
 
@@ -117,15 +124,10 @@ module _ (t : Tag) (p : List ℕ) (r : Meant) (a : Means (ContentWith t p) r) wh
     meant-line at len =
         record { message = meant .message; good = meant .good; said = meant .content; is = put-said e p at len (meant .message) (meant .good .limits) beside }
 
-    pub meant-bounded : (at len : ℕ) → at ≤ last → len ≤ last → Bounded (put e p at len) (length p)
-    meant-bounded at len h k = line-bounded e p h k (line-of-message e p (meant .good) beside)
+    pub meant-put : {at len : ℕ} {room later : List ℕ} {to behind : ℕ} → Put room later to behind (put e p at len)
+        → PutsContent t p at len room to (EndedAt behind) later
+    meant-put {at} {len} {later = later} {behind = behind} x =
+        answers {v = (behind, later)} (cause-of (subst (Means (ContentWith t p)) q a)) (record { text = put e p at len; line = meant-line at len; put = x })
 
-    pub meant-placed : {at len : ℕ} {room later : List ℕ} {to : ℕ} {w : Written} → AllOrNone (put e p at len) room to w later
-        → WritesSaid (HasContent t p) at len room to w later
-    meant-placed {at} {len} x = said-placed (one-has t p) (meant-line at len) x
-
-  pub not-meant : {at len : ℕ} {why : Refusal} {room : List ℕ} {to : ℕ} → r ≡ Unmeant why → WritesSaid (HasContent t p) at len room to (Unwritten why) room
-  not-meant {at} {len} {why} q = refuses (some-number why) (go (cause-at (cause-of (subst (Means (ContentWith t p)) q a)) (some-number why)))
-    where
-      go : {left no : ℕ} → MeantCause (ContentWith t p) no → First (SaidCause (HasContent t p) at len left) order no
-      go (meants.no-message f) = first-5 only (no-message f)
+  pub not-meant : {at len : ℕ} {why : Refusal} {room : List ℕ} {to : ℕ} → r ≡ Unmeant why → PutsContent t p at len room to (Unended why) room
+  not-meant {why = why} q = refuses (some-number why) (cause-of (subst (Means (ContentWith t p)) q a))

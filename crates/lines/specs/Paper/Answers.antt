@@ -8,6 +8,7 @@ use lib.ListN.{length}
 use lib.Seq.{sets}
 use Rattle.digits.specs.Paper.Bytes.{part}
 use Rattle.digits.specs.Paper.Refusals.{refusalNumber, Answers}
+use Rattle.puts.specs.Paper.Put.{Put}
 use Rattle.puts.specs.Paper.Right.{WritesRight}
 use Rattle.puts.specs.Paper.Wrote.{writtenRefusal, writtenCount}
 use Rattle.puts.specs.declared.Written.{Written}
@@ -15,10 +16,12 @@ use Rattle.frames.specs.Paper.Kinds.{known, Frame}
 use Rattle.frames.specs.Paper.Search.{Hit, Leftmost, SearchCause, framePart}
 use Rattle.messages.specs.Paper.Message.{Message}
 use Rattle.messages.specs.Paper.Answers.{Stands}
-use Rattle.messages.specs.Paper.Meant.{ContentWith}
+use Rattle.messages.specs.Paper.Meant.{ContentWith, MeantCause}
 use Rattle.messages.specs.Paper.Table.{contentOf, Good}
 use Rattle.messages.specs.declared.Tag.{Tag}
 use Rattle.lines.specs.Paper.Line.{line}
+use Rattle.lines.specs.declared.Ended.{Ended}
+use Rattle.lines.specs.declared.Ended.the-variants.{At as EndedAt, Refused as Unended}
 use Rattle.lines.specs.declared.Listed.{Listed}
 use Rattle.lines.specs.declared.Listed.the-variants.{At, Refused}
 use Rattle.lines.specs.declared.Measured.{Measured}
@@ -44,7 +47,7 @@ pub data LineCause (k : ℕ) (f : List ℕ) (at room : ℕ) : ℕ → Type 0 whe
 abbrev pub WritesLine : ℕ → List ℕ → ℕ → List ℕ → Written → List ℕ → Type 0
 WritesLine k f at room r later = WritesRight (LineCause k f at (length room)) (LineOf k f at) room r later
 
--- ---- of, of_content
+-- ---- of
 
 -- t is the line of the message of the table that is said; its place and its length are as they are given
 pub record LineSaid (IsSaid : Message → Type 0) (at len : ℕ) (t : List ℕ) : Type 0 where
@@ -73,9 +76,33 @@ WritesSaid IsSaid at len room to r later =
     Answers {A = ℕ × List ℕ} (0, room) (SaidCause IsSaid at len (length room - to))
     (λ v. PutSaid IsSaid at len room to (v .0) (v .1)) (writtenRefusal r) (writtenCount r, later)
 
+-- ---- put_content
+
 -- the message whose content has this tag and payload
 abbrev pub HasContent : Tag → List ℕ → Message → Type 0
 HasContent tag p m = ContentWith tag p (contentOf m)
+
+-- the refusal number and the value of an answer: the place behind the line
+abbrev pub endedNumber : Ended → ℕ
+endedNumber (EndedAt behind) = 0
+endedNumber (Unended why) = refusalNumber why
+
+abbrev pub endedPlace : Ended → ℕ
+endedPlace (EndedAt behind) = behind
+endedPlace (Unended why) = 0
+
+-- the right place behind the line, and the right room afterwards: the line is put as far as the room goes
+pub record PutContent (tag : Tag) (p : List ℕ) (at len : ℕ) (room : List ℕ) (to behind : ℕ) (later : List ℕ)
+    : Type 0 where
+  pub text : List ℕ
+  pub line : LineSaid (HasContent tag p) at len text
+  pub put : Put room later to behind text
+
+-- r is the right answer, and `later` the right room afterwards; refused as `messages::of` is, with 5
+abbrev pub PutsContent : Tag → List ℕ → ℕ → ℕ → List ℕ → ℕ → Ended → List ℕ → Type 0
+PutsContent tag p at len room to r later =
+    Answers {A = ℕ × List ℕ} (0, room) (MeantCause (ContentWith tag p))
+    (λ v. PutContent tag p at len room to (v .0) (v .1)) (endedNumber r) (endedPlace r, later)
 
 -- ---- next
 

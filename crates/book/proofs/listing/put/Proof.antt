@@ -2,33 +2,34 @@
 -- Assumes nothing.
 use Prim.Native.Nat.{_-_}
 use native.Mathlib.Omega.{arith}
+use Rattle.puts.proofs.Laws.Puts.{put-length}
 use Rattle.book.specs.Work.Writing.{Listing}
 use Rattle.book.proofs.Laws.Entries.{counts-trailed}
-use Rattle.book.proofs.Laws.Turns.{started, head-in, frame-in, tested-so, room-for, no-wrap, turned, ended}
+use Rattle.book.proofs.Laws.Turns.{started, head-in, frame-in, tested-so, turned, ended}
 use borrow.Author.Needs.{needs}
 use Rattle.book.proofs.listing.put.Statement.{statement}
 use Rattle.book.proofs.listing.put.Tie as tie
 
 abbrev Inv-loop : tie.InvT-loop
-Inv-loop book count places aim room₀ at₀ next₀ i₀ room at next i = Listing aim book places room₀ room count next i at
+Inv-loop book count places room₀ at₀ next₀ i₀ room at next i = Listing book places room₀ room count next i at
 
 abbrev μ-loop : tie.MeasureT-loop
-μ-loop book count places aim room₀ at₀ next₀ i₀ room at next i = count - i
+μ-loop book count places room₀ at₀ next₀ i₀ room at next i = count - i
 
 loop-holds : tie.Need-loop-holds Inv-loop μ-loop
-loop-holds c = started (c .before .before .before .args .aim) (c .before .before .before .pre .0)
+loop-holds c = let s = c .before .before .before in let known = s .good in started (s .args .room .now) (omega (arith, known)) (s .pre)
 
 head-at-requires : tie.Need-head-at-requires Inv-loop μ-loop
 head-at-requires c κs =
     let s = c .before .before .before .before .before in
-    let small = counts-trailed (s .pre .0 .counts) .small in
-    (head-in (s .args .aim) (c .before .loop .inv) small (c .loop-test .taken), small)
+    let small = counts-trailed (s .pre .counts) .small in
+    (head-in (c .before .loop .inv) small (c .loop-test .taken), small)
 
 mul-start : tie.Need-mul-start Inv-loop μ-loop
 mul-start c = omega arith
 
 shared-slice-read-start : tie.Need-shared-slice-read-start Inv-loop μ-loop
-shared-slice-read-start c = omega (arith, c .before .before .before .before .before .before .before .pre .0 .room, counts-trailed (c .before .before .before .before .before .before .before .pre .0 .counts) .few)
+shared-slice-read-start c = omega (arith, c .before .before .before .before .before .before .before .pre .room, counts-trailed (c .before .before .before .before .before .before .before .pre .counts) .few)
 
 add-stop : tie.Need-add-stop Inv-loop μ-loop
 add-stop c = omega arith
@@ -37,52 +38,39 @@ mul-stop : tie.Need-mul-stop Inv-loop μ-loop
 mul-stop c = omega arith
 
 shared-slice-read-stop : tie.Need-shared-slice-read-stop Inv-loop μ-loop
-shared-slice-read-stop c = omega (arith, c .before .before .before .before .before .before .before .before .pre .0 .room, counts-trailed (c .before .before .before .before .before .before .before .before .pre .0 .counts) .few)
-
-place-for-requires : tie.Need-place-for-requires Inv-loop μ-loop
-place-for-requires c κs = search needs
+shared-slice-read-stop c = omega (arith, c .before .before .before .before .before .before .before .before .pre .room, counts-trailed (c .before .before .before .before .before .before .before .before .pre .counts) .few)
 
 sub-put-line : tie.Need-sub-put-line Inv-loop μ-loop
 sub-put-line c =
-    let g = c .before .before .before in
+    let g = c .before .before in
     let b = g .before in
     let s = b .before .before .before .before .before in
-    let small = counts-trailed (s .pre .0 .counts) .small in
-    frame-in (s .args .aim) (b .before .loop .inv) small (b .loop-test .taken) (g .head-at .ensures) .0
+    let small = counts-trailed (s .pre .counts) .small in
+    frame-in (b .before .loop .inv) small (b .loop-test .taken) (g .head-at .ensures) .0
 
 part-put-line-start : tie.Need-part-put-line-start Inv-loop μ-loop
 part-put-line-start c =
-    let g = c .before .before .before in
+    let g = c .before .before in
     let b = g .before in
     let s = b .before .before .before .before .before in
-    let small = counts-trailed (s .pre .0 .counts) .small in
-    frame-in (s .args .aim) (b .before .loop .inv) small (b .loop-test .taken) (g .head-at .ensures) .0
+    let small = counts-trailed (s .pre .counts) .small in
+    frame-in (b .before .loop .inv) small (b .loop-test .taken) (g .head-at .ensures) .0
 
 part-put-line-end : tie.Need-part-put-line-end Inv-loop μ-loop
 part-put-line-end c =
-    let g = c .before .before .before in
+    let g = c .before .before in
     let b = g .before in
     let s = b .before .before .before .before .before in
-    let small = counts-trailed (s .pre .0 .counts) .small in
-    frame-in (s .args .aim) (b .before .loop .inv) small (b .loop-test .taken) (g .head-at .ensures) .1
+    let small = counts-trailed (s .pre .counts) .small in
+    frame-in (b .before .loop .inv) small (b .loop-test .taken) (g .head-at .ensures) .1
 
 put-line-requires : tie.Need-put-line-requires Inv-loop μ-loop
 put-line-requires c κs =
-    let g = c .before .before .before .before .before in
+    let g = c .before .before .before .before in
     let b = g .before in
     let s = b .before .before .before .before .before in
-    let small = counts-trailed (s .pre .0 .counts) .small in (
-      tested-so (s .args .aim) (b .before .loop .inv) small (b .loop-test .taken) (g .head-at .ensures),
-      room-for (s .args .aim) (b .before .loop .inv) small (b .loop-test .taken) (g .head-at .ensures) (s .pre .1) (c .before .before .place-for .ensures),
-    )
-
-add-next : tie.Need-add-next Inv-loop μ-loop
-add-next c =
-    let g = c .before .before .before .before .before .before .before .before in
-    let b = g .before in
-    let s = b .before .before .before .before .before in
-    let small = counts-trailed (s .pre .0 .counts) .small in
-    omega (arith, no-wrap (s .args .aim) (b .before .loop .inv) small (b .loop-test .taken) (g .head-at .ensures) (c .before .before .put-line .ensures) (s .pre .0 .counts))
+    let small = counts-trailed (s .pre .counts) .small in
+    tested-so (b .before .loop .inv) small (b .loop-test .taken) (g .head-at .ensures)
 
 add-i : tie.Need-add-i Inv-loop μ-loop
 add-i c = omega arith
@@ -92,17 +80,17 @@ loop-less c = omega arith
 
 loop-again : tie.Need-loop-again Inv-loop μ-loop
 loop-again c =
-    let g = c .before .before .before .before .before .before .before .before in
+    let g = c .before .before .before .before .before .before .before in
     let b = g .before in
     let s = b .before .before .before .before .before in
-    let small = counts-trailed (s .pre .0 .counts) .small in
-    turned (s .args .aim) (b .before .loop .inv) small (b .loop-test .taken) (g .head-at .ensures) (c .before .before .put-line .ensures) (c .before .before .before .before .before .place-for .ensures)
+    let small = counts-trailed (s .pre .counts) .small in
+    turned (b .before .loop .inv) small (b .loop-test .taken) (g .head-at .ensures) (c .before .before .put-line .ensures)
 
 same-length : tie.Need-same-length Inv-loop μ-loop
-same-length c = search needs
+same-length c = put-length (c .before .loop .inv .put)
 
 returns : tie.Need-returns Inv-loop μ-loop
-returns c = ended (c .before .before .before .before .before .args .aim) (c .before .loop .inv) (omega arith)
+returns c = ended (c .before .loop .inv) (omega arith)
 
 pub put-spec : {M : Type 1} → statement M
 put-spec =
@@ -117,12 +105,10 @@ put-spec =
     add-stop
     mul-stop
     shared-slice-read-stop
-    place-for-requires
     sub-put-line
     part-put-line-start
     part-put-line-end
     put-line-requires
-    add-next
     add-i
     loop-less
     loop-again

@@ -1,4 +1,4 @@
--- `book::listing::size` meets its contract: the room is long enough for each line.
+-- `book::listing::size` meets its contract: the place behind lines from the front of a room is their length.
 -- Assumes nothing.
 use Rattle.book.proofs.Laws.Listed.{measured}
 use borrow.Author.Needs.{needs}
@@ -12,7 +12,7 @@ put-requires : tie.Need-put-requires
 put-requires c κs = search needs
 
 returns : tie.Need-returns
-returns c = measured (c .before .put .ensures)
+returns c = measured (c .before .before .before .before .before .pre .counts) (c .before .put .ensures)
 
 pub size-spec : {M : Type 1} → statement M
 size-spec = tie.close (tie.spec slice-aggregate-put put-requires returns)

@@ -4,7 +4,7 @@ use mathlib.Core.Path.{subst}
 use lib.ListN.{length}
 use borrow.Author.Tests.{not-true, not-false}
 use Rattle.book.specs.Work.Writing.{Fits}
-use Rattle.book.proofs.Laws.Listed.{roomy, list-refused-4, list-written}
+use Rattle.book.proofs.Laws.Listed.{list-refused-4, list-written}
 use borrow.Author.Needs.{needs}
 use Rattle.book.proofs.listing.write.Statement.{statement}
 use Rattle.book.proofs.listing.write.Tie as tie
@@ -18,10 +18,7 @@ returns c =
     list-refused-4 (subst (Fits (s .args .book .now) (length (s .args .room .now))) (not-true _ (c .if1 .taken)) (c .before .fits2 .ensures))
 
 put-requires : tie.Need-put-requires
-put-requires c κs =
-    let i = c .before in
-    let s = i .before .before .before .before .before in
-    (s .pre, roomy (subst (Fits (s .args .book .now) (length (s .args .room .now))) (not-false _ (i .if1 .left)) (i .before .fits2 .ensures)))
+put-requires c κs = search needs
 
 same-length : tie.Need-same-length
 same-length c = search needs

@@ -6,12 +6,14 @@ use lib.ListN.{length}
 use Rattle.puts.specs.Paper.Wrote.{writtenCount, writtenRefusal}
 use Rattle.puts.specs.declared.Written.{Written}
 use Rattle.frames.specs.Paper.Search.{SearchCause}
+use Rattle.messages.specs.Paper.Meant.{ContentWith, MeantCause}
 use Rattle.messages.specs.Paper.Says.{Says}
 use Rattle.messages.specs.declared.Message.{Message}
 use Rattle.messages.specs.declared.Tag.{Tag}
-use Rattle.lines.specs.Paper.Answers.{HasContent, LineCause, LineOf, NextCause, NextLine, NextSize, PutSaid}
-use Rattle.lines.specs.Paper.Answers.{SaidCause, listedNumber, listedPlaced, measuredNumber, measuredSize}
+use Rattle.lines.specs.Paper.Answers.{LineCause, LineOf, NextCause, NextLine, NextSize, PutContent, PutSaid}
+use Rattle.lines.specs.Paper.Answers.{SaidCause, endedNumber, endedPlace, listedNumber, listedPlaced, measuredNumber, measuredSize}
 use Rattle.lines.specs.Paper.Answers.{zeroPlaced, zeroSize}
+use Rattle.lines.specs.declared.Ended.{Ended}
 use Rattle.lines.specs.declared.Listed.{Listed}
 use Rattle.lines.specs.declared.Measured.{Measured}
 use Rattle.claims.specs.Paper.Claim.{fronts, Claim, refuses, writes}
@@ -90,8 +92,8 @@ of =
           (λ a. PutSaid (Says (a .message) (a .content)) (a .at) (a .len) (a .room) (a .to));
     }
 
--- Puts the line of a content, as `of` puts that of a message.
-pub record OfContentArgs : Type 0 where
+-- Puts the line of a content at a place of the room, as far as the room goes, and answers the place behind it.
+pub record PutContentArgs : Type 0 where
   pub tag : Tag
   pub payload : List ℕ
   pub at : ℕ
@@ -99,13 +101,13 @@ pub record OfContentArgs : Type 0 where
   pub room : List ℕ
   pub to : ℕ
 
-abbrev pub of-content : Claim Written
-of-content =
+abbrev pub put-content : Claim Ended
+put-content =
     record {
-      name = "lines::of_content";
-      Args = OfContentArgs;
-      refusals = 5 ∷ 4 ∷ [];
-      Cause = λ a. SaidCause (HasContent (a .tag) (a .payload)) (a .at) (a .len) (length (a .room) - a .to);
-      form = writes writtenRefusal writtenCount 0 (λ a. a .room)
-          (λ a. PutSaid (HasContent (a .tag) (a .payload)) (a .at) (a .len) (a .room) (a .to));
+      name = "lines::put_content";
+      Args = PutContentArgs;
+      refusals = 5 ∷ [];
+      Cause = λ a. MeantCause (ContentWith (a .tag) (a .payload));
+      form = writes endedNumber endedPlace 0 (λ a. a .room)
+          (λ a. PutContent (a .tag) (a .payload) (a .at) (a .len) (a .room) (a .to));
     }

@@ -67,11 +67,8 @@ pub fn meant() -> Vec<Function> {
         }))
     };
     let line = |tag: &'static Tag| {
-        let answers: Vec<&str> = ["ok", "refused 4"]
-            .into_iter()
-            .chain(tag.refused())
-            .collect();
-        tag.named(function("lines::of_content", tag.weight, &answers, |r| {
+        let answers: Vec<&str> = ["ok"].into_iter().chain(tag.refused()).collect();
+        tag.named(function("lines::put_content", tag.weight, &answers, |r| {
             let behind = words([number(64, r), number(64, r), room(), at()]);
             [content(tag.name, r), behind].concat()
         }))
