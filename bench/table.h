@@ -21,7 +21,7 @@ static double now(void) {
     return (double)t.seconds * 1e6 + (double)t.nanoseconds / 1e3;
 }
 
-/* What is timed: `make` makes an input of at most so many bytes and answers how many it has, 0 where it can make none so short; `ours` and
+/* What is timed: `make` makes an input of at most `size` bytes and answers how many it has, 0 if it can make none so short; `ours` and
    `theirs` do the job on it; `same` says whether they came to the same. */
 struct job {
     usize (*make)(usize size);
@@ -31,7 +31,7 @@ struct job {
     double growth; /* the most that the cost may grow; 0: no bound */
 };
 
-/* The time of one call, out of so many that the clock is not too coarse for them. */
+/* The time of one call, out of enough calls that the clock is not too coarse for them. */
 static double timed(void call(void), int calls) {
     double from = now();
     for (int i = 0; i < calls; i++)
@@ -65,7 +65,7 @@ static struct times measured(const struct job *j, usize size) {
     return t;
 }
 
-/* How the cost of a byte grows; 0 where no input is so short. */
+/* How the cost of a byte grows; 0 if no input is so short. */
 static double growth(const struct times *small, const struct times *full) {
     return small->bytes ? full->ours / (double)full->bytes / (small->ours / (double)small->bytes) : 0;
 }

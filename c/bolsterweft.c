@@ -1,8 +1,8 @@
 /* A small host program over the library. It shows how each call is used, and how a C program reads its arguments, a stream and a file so
  * that nothing is cut, lost or half written.
  *
- * It ends with 0; with 1 if it was refused or could not read or write; with 2 if it was called otherwise than `usage` says. What it
- * was asked for goes to standard output, the reason for a 1 or a 2 to standard error. */
+ * Exit status: 0 done; 1 refused or I/O error; 2 usage error. What it was asked for goes to standard output, the reason for a 1 or a 2
+ * to standard error. */
 #define _POSIX_C_SOURCE 200809L
 
 #include "../include/bolsterweft.h"
@@ -29,13 +29,13 @@ static const char usage_text[] =
     "       bolsterweft number TEXT                   the raw number and the decimals of a text\n"
     "       bolsterweft value RAW WIDTH SIGN          a raw number as bytes, in hex; SIGN is signed or unsigned\n"
     "       bolsterweft value-of HEX WIDTH SIGN       the raw number that bytes are\n"
-    "       bolsterweft fits RAW                      whether a float holds it\n"
-    "       bolsterweft panel RAW                     what the wall panel is shown\n"
-    "       bolsterweft climate TEMPERATURE HUMIDITY  the same of a climate message\n"
+    "       bolsterweft fits RAW                      whether a float holds a raw number\n"
+    "       bolsterweft panel RAW                     what the wall panel shows of a raw number\n"
+    "       bolsterweft climate TEMPERATURE HUMIDITY  what it shows of a climate message\n"
     "       bolsterweft book new FILE                 a new book without entries\n"
     "       bolsterweft book add FILE KIND < FRAME    a frame as the book's last entry\n"
     "       bolsterweft book list FILE                a line of JSON for each entry\n"
-    "       bolsterweft version                       of header and archive\n"
+    "       bolsterweft version                       the versions of header and archive\n"
     "KIND is nikobus, nest-command, nest-response, nibe or homiq, or its number 1 to 5.\n";
 
 static int misused(const char *what, const char *word) {
@@ -43,7 +43,7 @@ static int misused(const char *what, const char *word) {
     return MISUSED;
 }
 
-/* A refusal is told by its sentence. */
+/* A refusal is reported by its sentence. */
 static int refused(const char *what, uint32_t refusal) {
     fprintf(stderr, "bolsterweft: %s: refused with %u: %s\n", what, (unsigned)refusal, bolsterweft_refusal_text(refusal));
     return FAILED;
@@ -142,13 +142,13 @@ static void print_hex(const uint8_t *bytes, size_t length) {
         printf("%02X", (unsigned)bytes[i]);
 }
 
-/* No call writes a NUL: what is printed is so many bytes. */
+/* No call writes a NUL: what is printed is a number of bytes. */
 static void print_bytes(const uint8_t *bytes, size_t length) { fwrite(bytes, 1, length, stdout); }
 
 /* ---- a capture, listed as it comes in
  *
  * The window has the bytes that are still needed. Whether a frame begins at a place is decided by the bytes from there on, as many as the
- * kind's longest frame has. So a place is decided if so many bytes stand there in the window, or if no more will come. A frame that the library finds in
+ * kind's longest frame has. So a place is decided if that many bytes stand there in the window, or if no more will come. A frame that the library finds in
  * the window is whole. But it is the capture's next frame only if every place before it is decided. At an undecided one a longer frame may
  * begin, which the window cuts, and what was found may be a part of its payload. */
 
@@ -366,7 +366,7 @@ static int print_climate(int32_t temperature, uint32_t humidity) {
 /* ---- a book in a file
  *
  * A book is never half written: the new one is written to FILE.new, put on the disk, and then takes the place of FILE in one step. FILE.new
- * must not be there before, so it is a lock too: of two who add at once the second is told, and no entry is lost. */
+ * must not be there before, so it is a lock too: if two programs add at once, the second fails and says so, and no entry is lost. */
 
 struct new_file {
     const char *path;

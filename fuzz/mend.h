@@ -5,7 +5,7 @@
 
 #include "../tests/frames_in_c.h"
 
-/* Each answers the frame's length, of m bytes at s; 0 where nothing there looks like one. */
+/* Each answers the frame's length, of m bytes at s; 0 if nothing there looks like one. */
 
 static void put_digits(u8 *s, u32 value, int count) {
     static const char digits[] = "0123456789ABCDEF";

@@ -1,7 +1,7 @@
 /* Bolsterweft for C: frames of four home buses (Nikobus, Nest, Nibe, Homiq), their lines of JSON, capture books, exact numbers.
  *
  * Platform: x86-64 Linux, System V calling convention. The header compiles as C89, C99, C11, C17 and C++11 or later. Link
- * with libbolsterweft.a (`cc program.c -lbolsterweft`). Of the C library the archive needs `memcpy` alone.
+ * with libbolsterweft.a (`cc program.c -lbolsterweft`). Of the C library the archive needs only `memcpy`.
  *
  *
  * WHAT EVERY CALL DOES
@@ -11,14 +11,14 @@
  * lent to it. If several causes apply, the one that is tested first counts; each function below lists its refusals in that order.
  *
  * Every call accepts all values of its numbers (a kind of 260 is refused, and is not taken for 4), ends, and does nothing undefined.
- * That and what each call answers is proved: docs/PROMISES.md says what, docs/ASSUMPTIONS.md what the proof assumes. No call
+ * This, and what each call answers, is proved: docs/PROMISES.md says what, docs/ASSUMPTIONS.md what the proof assumes. No call
  * allocates, locks or prints. `Stack` is what a call and all that it calls take at the deepest, rounded up to a multiple of 64 bytes.
  *
  *
  * WHAT THE CALLER OWES
  *
- *   - A pointer and the length behind it stand for so many bytes that can be read, and that nobody else changes during the call.
- *   - A `room` and its length stand for so many bytes that can also be written. It need not be initialised.
+ *   - A pointer and the length n behind it stand for n bytes that can be read, and that nobody else changes during the call.
+ *   - A `room` and its length n stand for n bytes that can also be written. It need not be initialised.
  *   - A room overlaps nothing else that the same call is given. To add to a book, for example, two buffers are needed.
  *   - If a length is 0, its pointer may be anything, NULL too.
  *
@@ -30,7 +30,7 @@
  *
  * No call writes a NUL behind a text or a line. The answer's `length` says how many bytes were written; all bytes of the room
  * behind them are left as they were. So print a text by `printf("%.*s", (int)length, (const char *)room)` or by `fwrite`, and
- * never by `%s`. A text that is read, too, is a pointer and a length, and a NUL in it is one of its bytes.
+ * never by `%s`. A text that is read is a pointer and a length, too, and a NUL in it is one of its bytes.
  *
  *
  * THE EXAMPLES
@@ -74,7 +74,7 @@ enum bolsterweft_refusal {
     BOLSTERWEFT_NO_BOOK = 8        /* the bytes are not a capture book */
 };
 
-/* Sizes that always are enough, and limits. */
+/* Sizes that are always enough, and limits. */
 enum bolsterweft_size {
     BOLSTERWEFT_TEXT_ROOM = 12,            /* room for any number text */
     BOLSTERWEFT_NIKOBUS_MOST = 254,        /* the longest Nikobus frame */
@@ -84,9 +84,9 @@ enum bolsterweft_size {
     BOLSTERWEFT_HOMIQ_MOST = 51,           /* the longest Homiq frame */
     BOLSTERWEFT_FRAME_MOST = 1034,         /* the longest frame of any kind */
     BOLSTERWEFT_ACKNOWLEDGE_ROOM = 51,     /* room for any acknowledgement, as for any Homiq frame */
-    BOLSTERWEFT_LINE_ROOM = 8368,          /* room for the line of any frame: 8 bytes for each of the frame's, and 96 */
+    BOLSTERWEFT_LINE_ROOM = 8368,          /* room for the line of any frame: 8 bytes for each of the frame's, and 96 more */
     BOLSTERWEFT_INPUT_MOST = 65536,        /* the longest input of `bolsterweft_list` */
-    BOLSTERWEFT_LIST_ROOM = 2097202,       /* room for any listing: 32 bytes for each of the input's, and 50 */
+    BOLSTERWEFT_LIST_ROOM = 2097202,       /* room for any listing: 32 bytes for each of the input's, and 50 more */
     BOLSTERWEFT_BOOK_MOST = 65536,         /* the longest book */
     BOLSTERWEFT_ENTRIES_MOST = 1000        /* the most entries of a book */
 };
@@ -94,7 +94,7 @@ enum bolsterweft_size {
 
 /* ---- the version -------------------------------------------------------------------------------------------------------- */
 
-/* Tells the version that the archive is of.
+/* The version that the archive is of.
  *
  * Answers: a number like BOLSTERWEFT_VERSION.
  * Refuses: never.
@@ -135,7 +135,7 @@ struct bolsterweft_found {
  * Refuses, in this order:
  *   2  if the kind is not 1 to 5.
  *   3  if the place is beyond buffer_length.
- *   1  if no frame starts at or after the place; so too if the place is buffer_length.
+ *   1  if no frame starts at or after the place, also if the place is buffer_length.
  * Cost: linear in the bytes searched. Each false start among them costs at most one frame's length more.
  * Stack: 320 bytes.
  *
@@ -210,7 +210,7 @@ struct bolsterweft_count bolsterweft_acknowledge(const uint8_t *frame, size_t fr
  *   at                   the line's first member: any number, usually the frame's place in its capture
  *   room, room_length    BOLSTERWEFT_LINE_ROOM bytes are always enough
  *
- * Answers: how many bytes were written. README.md, "The lines", says what is in them.
+ * Answers: how many bytes were written. docs/LINES.md describes them.
  * Refuses, in this order:
  *   2  if the kind is not 1 to 5.
  *   5  if the bytes are not one frame.
@@ -288,7 +288,7 @@ struct bolsterweft_count bolsterweft_list(const uint8_t *input, size_t input_len
 /* Writes the decimal text of raw / 10^decimals, exactly, and no NUL.
  *
  *   raw                -2147483648 to 4294967295
- *   decimals           0 to 3: so many digits are behind the point, and for 0 there is no point
+ *   decimals           0 to 3: the number of digits behind the point; for 0 there is no point
  *   room, room_length  BOLSTERWEFT_TEXT_ROOM bytes are always enough
  *
  * Answers: how many bytes were written. The text has no leading zeros, and no minus on zero.
@@ -316,7 +316,7 @@ struct bolsterweft_reading {
 
 /* Reads the text of a number.
  *
- *   text, text_length  a text as `bolsterweft_text` writes it; so `-0`, `+1`, `01`, `1.` and ` 1` are none
+ *   text, text_length  a text as `bolsterweft_text` writes it: `-0`, `+1`, `01`, `1.` and ` 1` are no such texts
  *
  * Answers: the raw number and the decimals whose text it is.
  * Refuses, in this order:
@@ -370,7 +370,7 @@ struct bolsterweft_raw {
  * Answers: the raw number.
  * Refuses, in this order:
  *   7  if the width is not 1, 2 or 4.
- *   5  if the bytes are not so many.
+ *   5  if bytes_length is not the width.
  * Cost: constant.
  * Stack: 64 bytes.
  *
@@ -464,7 +464,7 @@ struct bolsterweft_climate bolsterweft_climate(int32_t temperature, uint32_t hum
 /* ---- the capture book ---------------------------------------------------------------------------------------------------- */
 
 /* A capture book keeps up to 1,000 frames of any kinds in up to 65,536 bytes. The book without entries is the six bytes
- * 00 00 06 00 00 00. Every call below tests every byte of the book first, so a book that was damaged is refused and never misread.
+ * 00 00 06 00 00 00. Every call below tests every byte of the book first, so a damaged book is refused and never misread.
  * Entries count from 0. */
 
 /* How many entries a book has. */
@@ -491,7 +491,7 @@ struct bolsterweft_entries {
  */
 struct bolsterweft_entries bolsterweft_book_open(const uint8_t *book, size_t book_length);
 
-/* An entry of a book: it begins at book[offset], and its frame has `frame_length` bytes from book[frame_start] on. */
+/* An entry of a book. It begins at book[offset], and its frame has `frame_length` bytes from book[frame_start] on. */
 struct bolsterweft_entry {
     uint32_t refusal;
     uint32_t kind;
@@ -503,7 +503,7 @@ struct bolsterweft_entry {
 /* Finds an entry by its number.
  *
  *   book, book_length  the book
- *   number             the entry's, counted from 0
+ *   number             the entry's number, counted from 0
  *
  * Answers: the entry's kind, its offset, and its frame, as places in the book.
  * Refuses, in this order:
@@ -523,7 +523,7 @@ struct bolsterweft_entry bolsterweft_book_entry(const uint8_t *book, size_t book
 /* Writes the line of an entry's frame: a JSON object and LF, and no NUL.
  *
  *   book, book_length  the book
- *   number             the entry's, counted from 0
+ *   number             the entry's number, counted from 0
  *   room, room_length  BOLSTERWEFT_LINE_ROOM bytes are always enough
  *
  * Answers: how many bytes were written. The line's `at` is the entry's offset.

@@ -1,6 +1,6 @@
 # To be sourced by the commands in bin/, with `root` set to the repository: how they take options, fail and end.
 #
-# Status 0: done. 1: refused or failed, and the reason is on standard error. 2: wrong usage, and what is wrong is on standard error.
+# Exit status: 0 done, 1 refused or failed, 2 usage error. The reason is on standard error.
 # Options come before all other arguments: --help (or -h) and --version; `--` ends them. A command defines `usage`, which prints its
 # help, and may define `about`, which prints what --version says behind the version.
 set -uo pipefail

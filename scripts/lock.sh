@@ -3,7 +3,7 @@
 
 # lock ROOT: waits until nobody else holds the lock of the repository ROOT. It is then held until this process and all processes that it
 # started have ended; they find it held. The lock is on the repository's folder itself: it needs no file of its own, and `rt ci`, which
-# removes target/, does not remove it. tests/lock.py is the same for Python.
+# removes target/, does not remove it. tests/proved.py has the same for Python.
 lock() {
     [ -z "${BOLSTERWEFT_LOCK-}" ] || [ ! "/proc/self/fd/$BOLSTERWEFT_LOCK" -ef "$1" ] || return 0
     exec {BOLSTERWEFT_LOCK}<"$1" || return

@@ -143,8 +143,8 @@ since() {
     mkdir -p -- "$root/target" "$root/built/proved" && : >"$root/target/since"
 }
 
-# record CRATE STAMP FILE: puts FILE, which `rt` has proved of CRATE, in place for the sources of this stamp. They must be the sources
-# still, and must not have been written since `since` noted the time: who changes a file and changes it back deceives the stamp alone.
+# record CRATE STAMP FILE: puts FILE, which `rt` has proved of CRATE, in place for the sources of this stamp. They must still be the
+# sources, and must not have been written since `since` noted the time: a file that is changed and changed back deceives only the stamp.
 record() {
     local place=$root/built/proved/${3##*/}.$2
     stamp "$root" "$1" && [ "$stamp" = "$2" ] && [ -z "$(written_since)" ] || {

@@ -183,7 +183,7 @@ static void try_rooms(void) {
     }
 }
 
-/* Of several causes the one that is told. Each case has the later causes too: a bad frame and no room for an unknown kind, and so on. */
+/* Of several causes the one that is reported. Each case has the later causes too: a bad frame and no room for an unknown kind, and so on. */
 
 static void refuses_add(u32 refusal, u32 kind, const u8 *f, usize k, usize m) {
     expect(ORDER, try_add(ORDER, book, size, kind, f, k, m).refusal == refusal, book, size);

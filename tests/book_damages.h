@@ -134,7 +134,7 @@ static void offsets_exchanged(void) {
     }
 }
 
-/* The trailer ends as one for so many entries does, but has the offsets that it had. */
+/* The trailer ends as one for this number of entries does, but has the offsets that it had. */
 static void claim(enum property p, usize count) {
     memcpy(bad_book, book, size);
     put_low_first(bad_book + size - 6, 2, count);

@@ -64,7 +64,7 @@ static inline struct bolsterweft_count book_line_in_c(const u8 *s, usize n, u32 
     return all_or_none(line, (usize)(put_line(line, (u8)e.kind, s + e.frame_start, e.frame_length, e.offset) - line), room, m);
 }
 
-/* The lines of a valid book with so many entries, into a room that is long enough. */
+/* The lines of a valid book with this number of entries, into a room that is long enough. */
 static u8 *put_book_lines(u8 *p, const u8 *s, usize count) {
     usize at = 0;
     for (usize i = 0; i < count; i++) {

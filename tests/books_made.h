@@ -64,7 +64,7 @@ static usize bind_draft(const struct draft *d, u8 *book) {
     return (usize)(p - book);
 }
 
-/* A Nest command that takes so many bytes of a book, its offset among them: from 16 to 1,040. */
+/* A Nest command that takes this number of bytes of a book, its offset among them: from 16 to 1,040. */
 enum { LEAST_TAKEN = 16, MOST_TAKEN = LEAST_TAKEN + 1024 };
 
 static inline void make_filler(struct piece *e, usize taken) {

@@ -51,7 +51,7 @@ def answer(found):
 
 
 def in_room(made, room, to=0, values=()):
-    """What is answered where these bytes are to be written from a place on, or with a refusal's number; and the whole room afterwards. The
+    """What is answered if these bytes are to be written from a place on, or with a refusal's number; and the whole room afterwards. The
     values are how many bytes they are, or others."""
     if isinstance(made, bytes) and to + len(made) > room:
         made = 4

@@ -5,7 +5,7 @@
 
 #include "messages_made.h"
 
-/* A capture that is made has at most so many bytes, and its last frame. */
+/* A capture that is made has at most this number of bytes, and its last frame. */
 enum { MOST_CAPTURE = 6000, CAPTURE_ROOM = MOST_CAPTURE + 2048 };
 
 static inline usize made(u8 kind, u8 *f, int spoilt) {

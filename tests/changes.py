@@ -78,7 +78,7 @@ def stands_in(change, beside=()):
 
 
 def naming(lines, number, functions):
-    """The functions that name a constant: of the same type where the constant is a type's."""
+    """The functions that name a constant: of the same type if the constant is a type's."""
     indent, name = re.match(r"( *)(?:pub(?:\(crate\))? )?const (\w+)", lines[number]).groups()
     ends = next((n for n in range(number, len(lines)) if lines[n] == "}"), len(lines)) if indent else len(lines)
     begins = max((n for n in range(number) if lines[n].startswith("impl ")), default=0) if indent else 0

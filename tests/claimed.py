@@ -170,4 +170,5 @@ def main():
     return 1 if wrong or not public else 0
 
 
-sys.exit(main())
+if __name__ == "__main__":
+    sys.exit(main())

@@ -171,9 +171,9 @@ def readme():
     yield "# Captures to try the listing on"
     yield ""
     yield "One for each bus and direction. `bin/list nibe examples/nibe.bin` lists one; what it prints is in the file of the same name with"
-    yield "`.json`. The bytes are those that the bus documents print. Where a document's check value is wrong by its own rule, the right one"
-    yield "stands here; some of the wrong ones stand here too, and noise, and the listing passes over them. `tests/examples.py --write` makes"
-    yield "these files, this one too."
+    yield "`.json`. The bytes are those that the bus documents print. If a document's check value is wrong by its own rule, the right one stands"
+    yield "here. Some of the wrong ones stand here too, and noise, and the listing passes over them. `tests/examples.py --write` makes these"
+    yield "files, this one too."
     for kind, (name, bus, pieces) in enumerate(CAPTURES, 1):
         yield ""
         yield "## %s.bin: %s (kind %d)" % (name, bus, kind)

@@ -2,7 +2,7 @@
 """The program `listing`, run: what it prints is held byte for byte to lines.py, and each of its lines is read by Python's own JSON
 reader, from which the frame's bytes must come back.
 
-tests/listing.py [SEED]       proves and builds the program where that has not been done, runs it on all cases and compares; with no
+tests/listing.py [SEED]       proves and builds the program if that has not been done, runs it on all cases and compares; with no
                               seed, a fixed one and a new one, which is printed
 tests/listing.py --case FILE  runs it on one input, as a failing test left it, and shows the first line that differs
 
@@ -322,7 +322,7 @@ def random_cases(seed):
 
 
 def fixed_cases():
-    yield Case("the paper's whole example", PAPER_INPUT)
+    yield Case("the whole example of document 01", PAPER_INPUT)
     for cases in (start_cases, size_cases, dense_cases, message_cases, reading_cases, text_cases, line_end_cases, false_start_cases, cut_cases):
         yield from cases()
     yield from slow_cases()
@@ -477,7 +477,7 @@ def outside(given, written):
     yield "last line", None
 
 
-# ---- the script's own implementation, held to the paper
+# ---- the script's own implementation, held to document 01
 
 PAPER_INPUT = b"2\n" + bytes.fromhex("D5 AA 96 FF 00 00 00 A3 4B FF")
 PAPER_OUTPUT = b"""\

@@ -147,7 +147,7 @@ static void try_number(i64 raw) {
 
 int main(int count, char **words) {
     begin(count, words);
-    /* the paper's numbers */
+    /* the numbers of document 01 */
     static const i64 papers[] = {0, -5, -125, 16777216, 16777217, 33554434, 4294967040, 65535, -32768, 4294967295, -2147483648, 40004};
     for (usize i = 0; i < sizeof papers / sizeof *papers; i++)
         for (int t = 0; t < 100; t++)

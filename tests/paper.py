@@ -70,7 +70,7 @@ def text_number(text):
 
 
 def held(raw, width, signed):
-    """The bytes, or none where so many do not hold the number."""
+    """The bytes, or none if this width does not hold the number."""
     try:
         return raw.to_bytes(width, "little", signed=signed)
     except OverflowError:
@@ -241,7 +241,7 @@ def one_frame(kind, s):
 
 
 def link(digits, ll=None, over=None, crc16=None, crc8=None):
-    """A link around these digits; LL and the check values are the right ones where none are given. `over`: what CRC16 is taken of."""
+    """A link around these digits; LL and the check values are the right ones if none are given. `over`: what CRC16 is taken of."""
     ll = ll or b"%02X" % (len(digits) + 10)
     over = bytes.fromhex(digits.decode()) if over is None else over
     s = b"$" + ll + digits + (crc16 or b"%04X" % value("nikobus crc16", over))
@@ -260,7 +260,7 @@ def nibe(command, content, check=None):
 
 
 def homiq(fields, crc=None):
-    """The right CRC is that of all that stands there without `;`, also where that is no field."""
+    """The right CRC is that of all that stands there without `;`, even if that is no field."""
     right = b"%d" % value("homiq crc", fields.replace(b";", b""))
     return b"<;" + fields + b";" + (right if crc is None else crc) + b";>\r\n"
 

@@ -82,7 +82,7 @@ def text_case(raw, decimals, room=14):
 
 
 def with_its_text(asked, found):
-    """What is read; and where that is a number, the number written again."""
+    """What is read; and if that is a number, the number written again."""
     yield asked, answer(found)
     if isinstance(found, tuple):
         yield text_case(found[0], 0, 12)
@@ -186,7 +186,7 @@ def check_cases():
 
 
 def search_cases(kind, place, s):
-    """The search, and the two parts of the bytes that it hands back: none where it is refused."""
+    """The search, and the two parts of the bytes that it hands back: none if it is refused."""
     found = paper.search(kind, s, place)
     payload, frame = b"", b""
     if isinstance(found, tuple):
@@ -234,7 +234,7 @@ def nikobus_cases():
     # presses and tails; characters beside the digits'
     presses = [b"N12AB34", b"N12aB34", b"N12AB345", b"N12AB3", b"N12AB3/", b"N12AB3:", b"N12AB3@", b"N12AB3G", b"n12AB34"]
     yield from both_cases(1, *[b"#" + text + b"\r" for text in presses + [b"E1", b"E2", b"e1"]])
-    # 0A where 0D should be, and behind it
+    # 0A in the place of 0D, and behind it
     forms = (LINK_A, PRESSED, TAILED)
     yield from both_cases(1, *[s.replace(b"\r", b"\n") for s in forms], *[s + b"\n" for s in forms])
 
@@ -291,7 +291,7 @@ def homiq_cases():
 
 
 def start_cases():
-    # a good frame inside the length that a false start claims, where the buffer has so many bytes and where it has not
+    # a good frame inside the length that a false start claims, if the buffer has that many bytes and if it has not
     command, response = PREAMBLES[2] + b"\x82\x00", PREAMBLES[3] + b"\x82\x00"
     yield from both_cases(1, b"$FE" + LINK_A, b"$20" + LINK_A + b"0" * 12 + b"\r", b"#N12" + PRESSED, b"$1011" + TAILED)
     yield from both_cases(2, command + b"\xff\x03" + RESET, command + b"\x10\x00" + RESET + bytes(9))
@@ -409,7 +409,7 @@ def next_line(kind, place, s):
 
 
 def line_cases(kind, place, s):
-    """Measured; and put where it just fits, where a byte more or less is left, in no room, and beyond the room."""
+    """Measured; and put if it just fits, if a byte more or less is left, in no room, and beyond the room."""
     found = next_line(kind, place, s)
     refused = isinstance(found, int)
     start, length, line = (0, 0, found) if refused else found
@@ -475,7 +475,7 @@ NO_REQUESTS = [
     "numbers::text::write -0 0 12",
     "numbers::text::write -05 0 12",
     "numbers::single::fits 5.0",
-    # bytes otherwise written, or not so many as there must be
+    # bytes otherwise written, or not as many as there must be
     "frames::one_frame 4 c06902640066",
     "frames::one_frame 4 C0690264006",
     "frames::one_frame 4 C069026400GG",
@@ -567,7 +567,7 @@ def stored(name):
 
 
 def same(what, right, found):
-    """Whether two lists of lines are the same; if not, the first that differs is told."""
+    """Whether two lists of lines are the same; if not, the first that differs is printed."""
     pairs = itertools.zip_longest(right, found)
     wrong = next(((i, line, other) for i, (line, other) in enumerate(pairs, 1) if line != other), None)
     if wrong:

@@ -2,7 +2,7 @@
 """Every row of the message table, run: bin/calls against table.py, on each field's limits and beyond, all kinds, rooms just
 long enough and too short, frames whole and damaged, and on random ones.
 
-tests/rows.py [SEED]            proves and builds the program where that has not been done, runs it and compares; with no seed, a fixed
+tests/rows.py [SEED]            proves and builds the program if that has not been done, runs it and compares; with no seed, a fixed
                                 one and a new one, which is printed
 tests/rows.py --files IN OUT [SEED]   writes the requests and the answers that they should have, a line each, and runs nothing
 
@@ -30,7 +30,7 @@ class Case(NamedTuple):
     test: str
     asked: str  # decode, encode, acknowledge, field, voltages, pair, meant, content line, payload, allowed or line
     kind: int = 0
-    name: str = "read"  # a message's, or a tag's where a content is asked of
+    name: str = "read"  # a message's, or a tag's if a content is asked of
     fields: dict = {}
     content: bytes = b""
     room: int = 0
@@ -63,7 +63,7 @@ def told(found):
 
 
 def line_made(name, fields, content, at, length):
-    """A message's line; 5 where it is none of the table, whatever the cause."""
+    """A message's line; 5 if it is none of the table, whatever the cause."""
     if table.allowed(name, fields, content) != ():
         return 5
     return line_of(name, fields, content, at, length)
@@ -359,7 +359,7 @@ def content_cases(name, fields, content):
 
 
 def forced(name, fields, content):
-    """The bytes that a message would have, right check values and all, also where a field is outside its limits; none where there are none."""
+    """The bytes that a message would have, right check values and all, even if a field is outside its limits; none if there are none."""
     kind = table.KINDS[name]
     made = table.MAKE[name](fields, content) if fields.get("width", 1) in paper.WIDTHS else None
     if made is not None:
@@ -540,7 +540,7 @@ def random_cases(seed, count=3000):
             yield Case("pair at random", "pair", 3, name, fields)
 
 
-# ---- the script's own implementation, held to the paper and to itself
+# ---- the script's own implementation, held to document 01 and to itself
 
 
 def known():

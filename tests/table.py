@@ -2,7 +2,7 @@
 a Homiq frame is acknowledged with. Frames and check values are those of paper.py; nothing is taken from the Rattle code.
 
 A row reads the parts of a frame (Nikobus: form and payload; Nest: id and payload; Nibe: command and data; Homiq: the six fields) and
-answers the message's fields, or none where the parts are another row's; and it makes the parts from fields, or none where a field is
+answers the message's fields, or none if the parts are another row's; and it makes the parts from fields, or none if a field is
 outside its limits.
 """
 import re
@@ -168,7 +168,7 @@ def first_row(kind, made):
 
 
 def of(tag, fields, payload):
-    """The name and the fields of the message of a content; 5 where something is outside its limits. A press's digits are its payload."""
+    """The name and the fields of the message of a content; 5 if something is outside its limits. A press's digits are its payload."""
     made = MAKE[tag]({"digits": payload} if tag == "press" else fields, payload)
     return 5 if made is None else first_row(KINDS[tag], made)
 
@@ -194,7 +194,7 @@ def encode(kind, name, fields, content):
 
 
 def allowed(name, fields, content):
-    """Nothing, where the message with this content is one of the table; or the refusal's number."""
+    """Nothing, if the message with this content is one of the table; or the refusal's number."""
     made = MAKE[name](fields, content) if fields.get("width", 1) in paper.WIDTHS else None
     if made is None:
         return 5

@@ -13,7 +13,7 @@ static u64 any(void) {
     return state * 0x2545F4914F6CDD1Du >> 8;
 }
 
-/* Takes the seed from the program's first argument, 0 where it has none, and prints it. */
+/* Takes the seed from the program's first argument, 0 if it has none, and prints it. */
 static inline void begin(int count, char **words) {
     u64 seed = 0;
     if (count > 1)

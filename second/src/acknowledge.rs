@@ -4,7 +4,7 @@ use crate::frames::{self, build};
 use crate::messages;
 use crate::refusal::Refusal;
 
-/// SRC and DST exchanged, type `a`, and the CRC worked out; 5 where the bytes are not one Homiq
+/// SRC and DST exchanged, type `a`, and the CRC worked out; 5 if the bytes are not one Homiq
 /// frame of type `s`.
 pub fn acknowledge(frame: &[u8]) -> Result<Vec<u8>, Refusal> {
     let head = frames::one_frame(frames::HOMIQ, frame)?;

@@ -42,7 +42,7 @@ pub fn of(entries: &[(u8, Vec<u8>)]) -> Vec<u8> {
     book
 }
 
-/// The entries of a book: 8 where it is not valid. They are read from the front up to the
+/// The entries of a book: 8 if it is not valid. They are read from the front up to the
 /// trailer's start, and the book is the one that they give.
 pub fn open(book: &[u8]) -> Result<Vec<Entry>, Refusal> {
     let entries = read_entries(book).ok_or(Refusal::Book)?;

@@ -52,7 +52,7 @@ impl Answer {
     }
 }
 
-/// None where this is no request.
+/// None if this is no request.
 fn called(request: &[u8]) -> Option<Answer> {
     let mut words = Words::of(request)?;
     let name = std::str::from_utf8(words.word()?).ok()?;
@@ -90,7 +90,7 @@ fn tries(result: Result<impl ToString, Refusal>) -> Option<Answer> {
     })
 }
 
-/// Nothing, where it is not refused.
+/// Nothing, if it is not refused.
 fn passes(result: Result<(), Refusal>) -> Option<Answer> {
     tries(result.map(|()| ""))
 }
@@ -199,7 +199,7 @@ fn message_text(message: &Message) -> String {
     }
 }
 
-/// A float: a single where the number fits, else a double.
+/// A float: a single if the number fits, else a double.
 fn float_text(raw: i64) -> Result<String, Refusal> {
     let name = if numbers::fits_single(raw)? {
         "single"

@@ -1,5 +1,5 @@
 //! Requests to the calls for C: the functions of docs/CALLS.md under their names in C, with C's types. A kind, a width, decimals, a sign and
-//! an entry's number are `u32`, and one that is too large is unknown, not cut; a payload and a frame are told by start and length.
+//! an entry's number are `u32`, and one that is too large is unknown, not cut; a payload and a frame are given by start and length.
 
 use super::{float_text, pair_text, says, tries, writes, Answer};
 use crate::acknowledge;

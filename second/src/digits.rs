@@ -44,7 +44,7 @@ pub fn decimal(number: u64) -> Vec<u8> {
     number.to_string().into_bytes()
 }
 
-/// The number whose digits, without leading zeros, these are; none where it is over the limit.
+/// The number whose digits, without leading zeros, these are; none if it is over the limit.
 pub fn number_of_decimal(characters: &[u8], limit: u64) -> Option<u64> {
     if characters.is_empty() || (characters[0] == b'0' && characters.len() > 1) {
         return None;

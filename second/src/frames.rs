@@ -61,7 +61,7 @@ pub struct Found {
     pub ends: usize,
 }
 
-/// The frame of that kind at the bytes' head, where there is one.
+/// The frame of that kind at the bytes' head, if there is one.
 pub fn head(kind: u8, bytes: &[u8]) -> Option<Head> {
     match kind {
         NIKOBUS => nikobus(bytes),
@@ -249,7 +249,7 @@ fn homiq_six_fields(bytes: &[u8]) -> Option<usize> {
 /// The most characters of CMD, VAL, SRC, DST, ID and TYPE.
 const HOMIQ_FIELDS: [usize; 6] = [8, 16, 4, 4, 3, 1];
 
-/// How many bytes stand before the first `;`, where they are not over the limit.
+/// How many bytes stand before the first `;`, if they are not over the limit.
 fn up_to_separator(bytes: &[u8], most: usize) -> Option<usize> {
     bytes.iter().take(most + 1).position(|c| *c == b';')
 }
@@ -276,7 +276,7 @@ pub fn homiq_crc(fields: &[u8]) -> u8 {
     checks::HOMIQ_CRC.of(&joined) as u8
 }
 
-/// Frames from their parts. Each is refused with 5 where a part is outside its limits.
+/// Frames from their parts. Each is refused with 5 if a part is outside its limits.
 pub mod build {
     use super::*;
 

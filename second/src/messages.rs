@@ -199,14 +199,14 @@ pub fn of(tag: Tag, payload: &[u8]) -> Result<Message, Refusal> {
     message.ok_or(Refusal::Limits)
 }
 
-/// None where the digits are not those of so many bytes as a link has.
+/// None if the digits are not those of as many bytes as a link may have.
 fn of_link(digits: &[u8]) -> Option<Message> {
     let payload = digits::bytes_of_hex(digits)?;
     let within = (1..=frames::MOST_LINK_BYTES).contains(&payload.len());
     within.then(|| link_message(&payload))
 }
 
-/// None where they are not six digits.
+/// None if they are not six digits.
 fn of_press(digits: &[u8]) -> Option<Message> {
     let digits = <[u8; 6]>::try_from(digits).ok()?;
     digits::all_hex(&digits).then_some(Message::Press { digits })
@@ -327,7 +327,7 @@ pub fn homiq_field(content: &[u8], number: u64) -> Option<&[u8]> {
     content.split(|c| *c == b';').nth(number)
 }
 
-/// Vin, Vop and Vbat of a state's payload: 5 where it is too short.
+/// Vin, Vop and Vbat of a state's payload: 5 if it is too short.
 pub fn voltages(payload: &[u8]) -> Result<[u16; 3], Refusal> {
     if payload.len() < LEAST_STATE {
         return Err(Refusal::Limits);

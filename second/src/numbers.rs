@@ -72,7 +72,7 @@ fn parse(text: &[u8]) -> Option<(i64, u32)> {
     Some((raw, decimals))
 }
 
-/// The bytes of a raw number, low byte first: 7 for the width, then 5 where it is not held.
+/// The bytes of a raw number, low byte first: 7 for the width, then 5 if it is not held.
 pub fn bytes(raw: i64, width: u64, signed: bool) -> Result<Vec<u8>, Refusal> {
     let width = known_width(width)?;
     let states = 1i64 << (8 * width);
@@ -87,7 +87,7 @@ pub fn bytes(raw: i64, width: u64, signed: bool) -> Result<Vec<u8>, Refusal> {
     Ok(raw.to_le_bytes()[..width].to_vec())
 }
 
-/// The number that bytes are: 7 for the width, then 5 where they are not so many.
+/// The number that bytes are: 7 for the width, then 5 if they are not as many as the width.
 pub fn number(bytes: &[u8], width: u64, signed: bool) -> Result<i64, Refusal> {
     let width = known_width(width)?;
     if bytes.len() != width {

@@ -12,7 +12,7 @@ pub const MOST_ROOM: usize = 2_097_202;
 /// Every byte of a room before the call.
 const FRESH: u8 = 0xEE;
 
-/// The words of a request that are still to be read. Each function answers none where the next
+/// The words of a request that are still to be read. Each function answers none if the next
 /// word is not as it must be.
 pub struct Words<'a> {
     rest: std::vec::IntoIter<&'a [u8]>,

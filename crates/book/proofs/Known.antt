@@ -6,14 +6,14 @@ use mathlib.Core.Path.{_≡_, refl}
 use Prim.Native.Nat.{ℕ}
 use lib.Dec.{lit≤}
 use lib.ListN.{length}
-use Rattle.digits.specs.Paper.LowFirst.{lowFirst}
+use Rattle.digits.specs.Paper.LowFirst.{lowByteFirst}
 use Rattle.messages.proofs.Known as messages
 use Rattle.messages.proofs.Laws.Decode.{is-frame}
 use Rattle.book.specs.Paper.Book.{Entry, head, entryBytes, entries, offsets, trailer, book, none, also, Book}
 
 -- (k) "the empty book is `00 00 06 00 00 00`"
 pub k : Book (0x00 ∷ 0x00 ∷ 0x06 ∷ 0x00 ∷ 0x00 ∷ 0x00 ∷ []) []
-unfolding book entries trailer offsets lowFirst
+unfolding book entries trailer offsets lowByteFirst
 k = record { within = record { framed = none; few = lit≤ tt; small = lit≤ tt }; is = refl }
 
 abbrev reset : Entry
@@ -29,7 +29,7 @@ resetBook =
     ∷ []
 
 pub reset-alone : Book resetBook (reset ∷ [])
-unfolding book entries trailer offsets entryBytes head lowFirst
+unfolding book entries trailer offsets entryBytes head lowByteFirst
 reset-alone = record { within = record { framed = also (is-frame messages.c) none; few = lit≤ tt; small = lit≤ tt }; is = refl }
 
 pub reset-size : length resetBook ≡ 22

@@ -15,10 +15,10 @@ use Rattle.puts.specs.Paper.Right.{WroteRight, wrote, refused}
 use Rattle.puts.specs.Paper.Wrote.{writtenRefusal, writtenCount}
 use Rattle.puts.specs.declared.Written.{Written}
 use Rattle.puts.proofs.Laws.Right.{written-right, rest-kept}
-use Rattle.book.specs.Paper.Answers.{Counts, Opens, EntryOf, TellsEntry, toldEnds, HandsFrame, EntryLine, WritesEntryLine, BookLines, ListCause, no-book, short, WritesBookLines, Adds, WritesAdded}
-use Rattle.book.specs.Paper.Book.{Entry, head, entryBytes, entries, book, counted, trailer, Within, Book, Numbered}
-use Rattle.book.specs.declared.Kept.{Kept}
-use Rattle.book.specs.declared.Kept.the-variants.{Is}
+use Rattle.book.specs.Paper.Answers.{Counts, Opens, EntryOf, LocatesEntry, locationEnds, HandsFrame, EntryLine, WritesEntryLine, BookLines, ListCause, no-book, short, WritesBookLines, Adds, WritesAdded}
+use Rattle.book.specs.Paper.Book.{Entry, head, entryBytes, entries, book, counted, trailer, Within, Book, EntryAt}
+use Rattle.book.specs.declared.Located.{Located}
+use Rattle.book.specs.declared.Located.the-variants.{Is}
 use Rattle.book.specs.declared.Opened.{Opened}
 use Rattle.book.specs.declared.Opened.the-variants.{Count}
 use Rattle.book.proofs.Laws.BookLines as lines
@@ -67,10 +67,10 @@ opens-count {s} {es} b r a = unique.open-one r (Count (length es)) a there
     there = refusals.answers {v = length es} (its.open-0 b) (record { all = es; valid = b; is = refl })
 
 -- every number below it has an entry
-pub has-entry : (es : List Entry) (number : ℕ) → number < length es → (e : Entry) × ((at : ℕ) × Numbered es number e at)
+pub has-entry : (es : List Entry) (number : ℕ) → number < length es → (e : Entry) × ((at : ℕ) × EntryAt es number e at)
 has-entry = its.has-entry
 
-module _ {s : List ℕ} {es : List Entry} {number : ℕ} {e : Entry} {at : ℕ} (b : Book s es) (n : Numbered es number e at) where
+module _ {s : List ℕ} {es : List Entry} {number : ℕ} {e : Entry} {at : ℕ} (b : Book s es) (n : EntryAt es number e at) where
   -- which lies inside the book
   pub entry-inside : at + length (entryBytes e) ≤ length s
   entry-inside = its.numbered-inside b n
@@ -83,26 +83,26 @@ module _ {s : List ℕ} {es : List Entry} {number : ℕ} {e : Entry} {at : ℕ} 
   unfolding told
   frame-inside = its.told-frame told
 
-  there : TellsEntry s number (Is (e .kind) at (at + length (head e)) (at + length (entryBytes e)))
+  there : LocatesEntry s number (Is (e .kind) at (at + length (head e)) (at + length (entryBytes e)))
   there = refusals.answers (its.entry-0 b (omega (arith, its.numbered-below b n))) told
 
   -- and is told as it was added
-  pub entry-back : (r : Kept) → TellsEntry s number r → r ≡ Is (e .kind) at (at + length (head e)) (at + length (entryBytes e))
+  pub entry-back : (r : Located) → LocatesEntry s number r → r ≡ Is (e .kind) at (at + length (head e)) (at + length (entryBytes e))
   entry-back r a = unique.entry-one r (Is (e .kind) at (at + length (head e)) (at + length (entryBytes e))) a there
 
 -- with the frame that it was added with, as that part of the book
-pub frame-back : {s : RefT (List ℕ)} {es : List Entry} {number : ℕ} {e : Entry} {at : ℕ} → Book (now s) es → Numbered es number e at
+pub frame-back : {s : RefT (List ℕ)} {es : List Entry} {number : ℕ} {e : Entry} {at : ℕ} → Book (now s) es → EntryAt es number e at
     → (r : RefT (List ℕ)) → HandsFrame s number r → IsPart s (record { from = at + length (head e); to = at + length (entryBytes e) }) r × (now r ≡ e .frame)
 frame-back {s} {e = e} {at = at} b n r a =
     let x = answered (a .answer) (one-first (cause-of (a .answer)) (its.entry-0 b (omega (arith, its.numbered-below b n)))) in
-    let q : a .ends ≡ record { from = at + length (head e); to = at + length (entryBytes e) } = x .2 ∙ ap toldEnds (unique.told-one (x .0) _ (x .1) (told b n)) in
+    let q : a .ends ≡ record { from = at + length (head e); to = at + length (entryBytes e) } = x .2 ∙ ap locationEnds (unique.told-one (x .0) _ (x .1) (told b n)) in
     let i = subst (λ (i : Ends). IsPart s i r) q (a .is) in
     (i, i .bytes ∙ frame-inside b n)
 
 -- ---- WHAT ADDING WRITES OPENS
 
 -- the old entries have their numbers and offsets still, and the new one stands behind them
-pub old-entry : {es : List Entry} {number : ℕ} {e : Entry} {at : ℕ} (new : Entry) → Numbered es number e at → Numbered (es ++ new ∷ []) number e at
+pub old-entry : {es : List Entry} {number : ℕ} {e : Entry} {at : ℕ} (new : Entry) → EntryAt es number e at → EntryAt (es ++ new ∷ []) number e at
 old-entry {e = e} new n =
     record {
       before = n .before;
@@ -112,7 +112,7 @@ old-entry {e = e} new n =
       offset-is = n .offset-is;
     }
 
-pub new-entry : (es : List Entry) (e : Entry) → Numbered (es ++ e ∷ []) (length es) e (length (entries es))
+pub new-entry : (es : List Entry) (e : Entry) → EntryAt (es ++ e ∷ []) (length es) e (length (entries es))
 new-entry es e = record { before = es; behind = []; is = refl; number-is = refl; offset-is = refl }
 
 module _ {s room later : List ℕ} {es : List Entry} {e : Entry} (r : Written) (b : Book s es) (w : WritesAdded s e room r later) (z : writtenRefusal r ≡ 0) where
@@ -135,7 +135,7 @@ pub one-book-lines : {s a b : List ℕ} → BookLines s a → BookLines s b → 
 one-book-lines = lines.one-book-lines
 
 -- every entry has a line
-pub entry-line : {s : List ℕ} {es : List Entry} {number : ℕ} {e : Entry} {at : ℕ} → Book s es → Numbered es number e at → (l : List ℕ) × EntryLine s number l
+pub entry-line : {s : List ℕ} {es : List Entry} {number : ℕ} {e : Entry} {at : ℕ} → Book s es → EntryAt es number e at → (l : List ℕ) × EntryLine s number l
 entry-line {es = es} {e = e} {at = at} b n =
     let l = has-line at (its.numbered-frame b n) in
     (l .0, record { all = es; valid = b; entry = e; offset = at; numbered = n; line = l .1 })

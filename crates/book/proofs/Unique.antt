@@ -11,10 +11,10 @@ use Rattle.digits.proofs.Laws.Refusals.{same-answer, one-answer}
 use Rattle.lines.proofs.Theorems.{one-line}
 use Rattle.puts.specs.declared.Written.{Written}
 use Rattle.puts.proofs.Laws.Right.{one-wrote}
-use Rattle.book.specs.Paper.Answers.{Counts, openedNumber, openedCount, Opens, Told, EntryOf, keptNumber, keptTold, TellsEntry, toldEnds, HandsFrame, EntryLine, WritesEntryLine, WritesBookLines, Adds, WritesAdded}
-use Rattle.book.specs.Paper.Book.{Entry, head, entryBytes, book, Numbered}
-use Rattle.book.specs.declared.Kept.{Kept}
-use Rattle.book.specs.declared.Kept.the-variants.{Is, Refused as Unkept}
+use Rattle.book.specs.Paper.Answers.{Counts, openedRefusal, openedCount, Opens, Location, EntryOf, locatedRefusal, locatedValue, LocatesEntry, locationEnds, HandsFrame, EntryLine, WritesEntryLine, WritesBookLines, Adds, WritesAdded}
+use Rattle.book.specs.Paper.Book.{Entry, head, entryBytes, book, EntryAt}
+use Rattle.book.specs.declared.Located.{Located}
+use Rattle.book.specs.declared.Located.the-variants.{Is, Refused as NotLocated}
 use Rattle.book.specs.declared.Opened.{Opened}
 use Rattle.book.specs.declared.Opened.the-variants.{Count, Refused}
 use Rattle.book.proofs.Laws.BookLines.{one-book-lines}
@@ -30,21 +30,21 @@ opened-cases : (P : Opened → Type 0) → ((n : ℕ) → P (Count n)) → ((why
 opened-cases P f g (Count n) = f n
 opened-cases P f g (Refused why) = g why
 
-opened-answer : (r q : Opened) → openedNumber r ≡ openedNumber q → openedCount r ≡ openedCount q → r ≡ q
-opened-answer = same-answer Count Refused openedNumber openedCount (λ n. refl) (λ why. refl) (λ n. refl) opened-cases
+opened-answer : (r q : Opened) → openedRefusal r ≡ openedRefusal q → openedCount r ≡ openedCount q → r ≡ q
+opened-answer = same-answer Count Refused openedRefusal openedCount (λ n. refl) (λ why. refl) (λ n. refl) opened-cases
 
 pub open-one : {s : List ℕ} (r q : Opened) → Opens s r → Opens s q → r ≡ q
 open-one r q a b = let e = one-answer counts-one a b in opened-answer r q (e .0) (e .1)
 
 -- ---- book::entry
 
-abbrev told : (kind offset from to : ℕ) → Told
+abbrev told : (kind offset from to : ℕ) → Location
 told k o x y = record { kind = k; offset = o; from = x; to = y }
 
 -- a number of a book has one entry, and all that is told is the entry's
-pub told-one : {s : List ℕ} {number : ℕ} (u v : Told) → EntryOf s number u → EntryOf s number v → u ≡ v
+pub told-one : {s : List ℕ} {number : ℕ} (u v : Location) → EntryOf s number u → EntryOf s number v → u ≡ v
 told-one {s} {number} u v a b =
-    let n : Numbered (b .all) number (a .entry) (u .offset) = subst (λ (es : List Entry). Numbered es number (a .entry) (u .offset)) (one-book (a .valid) (b .valid)) (a .numbered) in
+    let n : EntryAt (b .all) number (a .entry) (u .offset) = subst (λ (es : List Entry). EntryAt es number (a .entry) (u .offset)) (one-book (a .valid) (b .valid)) (a .numbered) in
     let q = one-numbered n (b .numbered) in
     let k : u .kind ≡ v .kind = a .kind-is ∙ ap (λ (e : Entry). e .kind) (q .0) ∙ sym (b .kind-is) in
     let x : u .from ≡ v .from = a .from-is ∙ ap₂ (λ (o : ℕ) (e : Entry). o + length (head e)) (q .1) (q .0) ∙ sym (b .from-is) in
@@ -54,20 +54,20 @@ told-one {s} {number} u v a b =
     same : (k k′ o o′ x x′ y y′ : ℕ) → k ≡ k′ → o ≡ o′ → x ≡ x′ → y ≡ y′ → told k o x y ≡ told k′ o′ x′ y′
     same k k′ o o′ x x′ y y′ c p q r = rw (c, p, q, r)
 
-kept-cases : (P : Kept → Type 0) → ((v : Told) → P (Is (v .kind) (v .offset) (v .from) (v .to))) → ((why : Refusal) → P (Unkept why)) → (r : Kept) → P r
-kept-cases P f g (Is k o x y) = f (told k o x y)
-kept-cases P f g (Unkept why) = g why
+located-cases : (P : Located → Type 0) → ((v : Location) → P (Is (v .kind) (v .offset) (v .from) (v .to))) → ((why : Refusal) → P (NotLocated why)) → (r : Located) → P r
+located-cases P f g (Is k o x y) = f (told k o x y)
+located-cases P f g (NotLocated why) = g why
 
-kept-answer : (r q : Kept) → keptNumber r ≡ keptNumber q → keptTold r ≡ keptTold q → r ≡ q
-kept-answer = same-answer (λ (v : Told). Is (v .kind) (v .offset) (v .from) (v .to)) Unkept keptNumber keptTold (λ v. refl) (λ why. refl) (λ v. refl) kept-cases
+located-answer : (r q : Located) → locatedRefusal r ≡ locatedRefusal q → locatedValue r ≡ locatedValue q → r ≡ q
+located-answer = same-answer (λ (v : Location). Is (v .kind) (v .offset) (v .from) (v .to)) NotLocated locatedRefusal locatedValue (λ v. refl) (λ why. refl) (λ v. refl) located-cases
 
-pub entry-one : {s : List ℕ} {number : ℕ} (r q : Kept) → TellsEntry s number r → TellsEntry s number q → r ≡ q
-entry-one r q a b = let e = one-answer told-one a b in kept-answer r q (e .0) (e .1)
+pub entry-one : {s : List ℕ} {number : ℕ} (r q : Located) → LocatesEntry s number r → LocatesEntry s number q → r ≡ q
+entry-one r q a b = let e = one-answer told-one a b in located-answer r q (e .0) (e .1)
 
 -- ---- book::frame
 
 pub frame-one : {s : RefT (List ℕ)} {number : ℕ} (p q : RefT (List ℕ)) → HandsFrame s number p → HandsFrame s number q → (ptr p ≡ ptr q) × (now p ≡ now q)
-frame-one p q = one-part (λ d e x y. x .2 ∙ ap toldEnds (told-one (x .0) (y .0) (x .1) (y .1)) ∙ sym (y .2))
+frame-one p q = one-part (λ d e x y. x .2 ∙ ap locationEnds (told-one (x .0) (y .0) (x .1) (y .1)) ∙ sym (y .2))
 
 -- ---- book::line
 

@@ -2,37 +2,37 @@
 use super::layout;
 use digits::low_first;
 use digits::refusal::Refusal;
-use frames::Whole;
+use frames::FramePayload;
 use puts::Written;
 ghost use Prim.Native.Nat.{_≤_};
 ghost use lib.ListN.{length};
-ghost use Rattle.digits.specs.Paper.Read.{Tells};
+ghost use Rattle.digits.specs.Paper.Read.{Decides};
 ghost use Rattle.book.specs.Paper.Answers.{Counts, WritesAdded};
 ghost use Rattle.book.specs.Work.Writing.{HasPlace, PutsAdded};
 
-// Writes the new book of a valid one with so many entries.
+// Writes the new book of a valid one, which has `count` entries.
 pub(crate) fn write(book: &[u8], count: usize, kind: u8, frame: &[u8], room: &mut [u8]) -> Written
     requires { ⌜ Counts (now book) count ⌝ }
     ensures { λ r. ⌜ WritesAdded (now (book .entry)) (record { kind = kind; frame = now (frame .entry) }) (now (room .entry)) r (now (room .exit)) ⌝ }
 {
     match frames::one_frame(kind, frame) {
-        Whole::Is { from, to } => {
+        FramePayload::Is { from, to } => {
             if !has_place(count, book.len(), frame.len()) {
-                return Written::Refused(Refusal::Limits);
+                return Written::Refused(Refusal::OutOfLimits);
             }
             if room.len() < book.len() + (frame.len() + layout::ADDED) {
-                return Written::Refused(Refusal::Room);
+                return Written::Refused(Refusal::NoRoom);
             }
             Written::Bytes(put(book, count, kind, frame, room))
         }
-        Whole::Refused(why) => Written::Refused(why),
+        FramePayload::Refused(why) => Written::Refused(why),
     }
 }
 
-// Whether a book of so many entries and bytes has place for one more, with a frame of so many.
+// Whether a book of `count` entries and `size` bytes has place for one more, with a frame of `frame` bytes.
 fn has_place(count: usize, size: usize, frame: usize) -> bool
     requires { ⌜ size ≤ 65536 ⌝ }
-    ensures { λ r. ⌜ Tells (HasPlace count size frame) r ⌝ }
+    ensures { λ r. ⌜ Decides (HasPlace count size frame) r ⌝ }
 {
     if layout::MOST_ENTRIES <= count {
         return false;

@@ -4,12 +4,12 @@ ghost use mathlib.Core.List.{_++_};
 ghost use mathlib.Core.Path.{_≡_};
 ghost use Prim.Native.Nat.{_+_, _-_, _*_, _≤_, _<_};
 ghost use lib.ListN.{length};
-ghost use Rattle.digits.specs.Paper.LowFirst.{lowFirst};
+ghost use Rattle.digits.specs.Paper.LowFirst.{lowByteFirst};
 ghost use Rattle.puts.specs.Paper.Put.{Put};
 ghost use Rattle.book.specs.Paper.Book.{entryBytes};
 ghost use Rattle.book.specs.Work.Reading.{NumberAt, Heads};
 
-// The limits of a book: so many entries, and so many bytes.
+// The limits of a book: its entries, and its bytes.
 pub(crate) const MOST_ENTRIES: usize = 1000;
 
 pub(crate) const MOST_BYTES: usize = 65536;
@@ -61,7 +61,7 @@ pub(crate) fn put_entry(kind: u8, frame: &[u8], room: &mut [u8], at: usize) -> u
     puts::bytes(frame, room, b)
 }
 
-// How long the trailer of so many entries is, and so its distance back.
+// How long the trailer of `count` entries is, which is its distance back.
 pub(crate) fn trailer_size(count: usize) -> usize
     requires { ⌜ count < 65536 ⌝ }
     ensures { λ r. ⌜ r ≡ 4 * count + 6 ⌝ }
@@ -77,7 +77,7 @@ pub(crate) fn count(book: &[u8]) -> usize
     two(book, book.len() - ENDING)
 }
 
-// The offset that the trailer of so many entries has for one of them.
+// The offset of one entry, as the trailer of `count` entries has it.
 pub(crate) fn offset(book: &[u8], count: usize, number: usize) -> usize
     requires { ⌜ number < count ⌝ }
     requires { ⌜ 4 * count + 6 ≤ length (now book) ⌝ }
@@ -87,10 +87,10 @@ pub(crate) fn offset(book: &[u8], count: usize, number: usize) -> usize
     four(book, book.len() - trailer_size(count) + OFFSET * number)
 }
 
-// Puts the end of the trailer of so many entries: the count, and the distance back.
+// Puts the end of the trailer of `count` entries: the count, and the distance back.
 pub(crate) fn put_end(count: usize, room: &mut [u8], at: usize) -> usize
     requires { ⌜ count < 65536 ⌝ }
-    ensures { λ r. ⌜ Put (now (room .entry)) (now (room .exit)) at r (lowFirst 2 count ++ lowFirst 4 (4 * count + 6)) ⌝ }
+    ensures { λ r. ⌜ Put (now (room .entry)) (now (room .exit)) at r (lowByteFirst 2 count ++ lowByteFirst 4 (4 * count + 6)) ⌝ }
 {
     let counted = low_first::two(count as u16);
     let back = low_first::four(trailer_size(count) as u32);

@@ -8,7 +8,7 @@ mod opening;
 use digits::refusal::Refusal;
 use puts::Written;
 ghost use Prim.Native.Nat.{_<_};
-ghost use Rattle.book.specs.Paper.Answers.{Opens, Counts, TellsEntry, HandsFrame, WritesEntryLine, WritesBookLines, WritesAdded};
+ghost use Rattle.book.specs.Paper.Answers.{Opens, Counts, LocatesEntry, HandsFrame, WritesEntryLine, WritesBookLines, WritesAdded};
 
 // What opening answers: how many entries a book has.
 pub enum Opened {
@@ -16,8 +16,8 @@ pub enum Opened {
     Refused(Refusal),
 }
 
-// What is told of an entry: its kind, its offset, and the places in the book where its frame begins and ends.
-pub enum Kept {
+// What is reported of an entry: its kind, its offset, and the places in the book where its frame begins and ends.
+pub enum Located {
     Is {
         kind: u8,
         offset: usize,
@@ -36,17 +36,17 @@ pub fn open(book: &[u8]) -> Opened
 }
 
 // The entry of a number, counted from 0. Refusals: 8 for anything else than a valid book, 3 for a number that is not below the count.
-pub fn entry(book: &[u8], number: usize) -> Kept
-    ensures { λ r. ⌜ TellsEntry (now (book .entry)) number r ⌝ }
+pub fn entry(book: &[u8], number: usize) -> Located
+    ensures { λ r. ⌜ LocatesEntry (now (book .entry)) number r ⌝ }
 {
     match open(book) {
         Opened::Count(count) => {
             if count <= number {
-                return Kept::Refused(Refusal::Place);
+                return Located::Refused(Refusal::NoPlace);
             }
-            told(book, count, number)
+            locate(book, count, number)
         }
-        Opened::Refused(why) => Kept::Refused(why),
+        Opened::Refused(why) => Located::Refused(why),
     }
 }
 
@@ -55,13 +55,13 @@ pub fn frame(book: &[u8], number: usize) -> &[u8]
     ensures { λ r. ⌜ HandsFrame (book .entry) number r ⌝ }
 {
     match entry(book, number) {
-        Kept::Is {
+        Located::Is {
             kind,
             offset,
             from,
             to,
         } => &book[from..to],
-        Kept::Refused(why) => &book[0..0],
+        Located::Refused(why) => &book[0..0],
     }
 }
 
@@ -71,13 +71,13 @@ pub fn line(book: &[u8], number: usize, room: &mut [u8]) -> Written
     ensures { λ r. ⌜ WritesEntryLine (now (book .entry)) number (now (room .entry)) r (now (room .exit)) ⌝ }
 {
     match entry(book, number) {
-        Kept::Is {
+        Located::Is {
             kind,
             offset,
             from,
             to,
         } => lines::write(kind, &book[from..to], offset, room),
-        Kept::Refused(why) => Written::Refused(why),
+        Located::Refused(why) => Written::Refused(why),
     }
 }
 
@@ -95,8 +95,8 @@ pub fn list(book: &[u8], room: &mut [u8]) -> Written
 }
 
 // Writes the whole new book, with an entry more, from the front of the room; the book itself is only read. Refusals: 8 for anything else
-// than a valid book, 2 for a kind that is not known, 5 for anything else than one frame, or for a new book that is outside the limits,
-// 4 for a room that is too short.
+// than a valid book. 2 for a kind that is not known. 5 for anything else than one frame, or for a new book that is outside the limits. 4
+// for a room that is too short.
 pub fn add(book: &[u8], kind: u8, frame: &[u8], room: &mut [u8]) -> Written
     ensures { λ r. ⌜ WritesAdded (now (book .entry)) (record { kind = kind; frame = now (frame .entry) }) (now (room .entry)) r (now (room .exit)) ⌝ }
 {
@@ -106,15 +106,15 @@ pub fn add(book: &[u8], kind: u8, frame: &[u8], room: &mut [u8]) -> Written
     }
 }
 
-// The entry of a number below the count: where the trailer says that it stands.
-fn told(book: &[u8], count: usize, number: usize) -> Kept
+// The entry of a number below the count, which stands where the trailer says.
+fn locate(book: &[u8], count: usize, number: usize) -> Located
     requires { ⌜ Counts (now book) count ⌝ }
     requires { ⌜ number < count ⌝ }
-    ensures { λ r. ⌜ TellsEntry (now (book .entry)) number r ⌝ }
+    ensures { λ r. ⌜ LocatesEntry (now (book .entry)) number r ⌝ }
 {
     let offset = layout::offset(book, count, number);
     let head = layout::head_at(book, offset);
-    Kept::Is {
+    Located::Is {
         kind: head.kind,
         offset: offset,
         from: head.from,

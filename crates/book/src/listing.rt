@@ -7,24 +7,24 @@ use frames::kinds::Resolved;
 use lines::Ended;
 use puts::Written;
 ghost use mathlib.Core.Path.{_≡_};
-ghost use Rattle.frames.specs.Paper.Whole.{OneFrame};
+ghost use Rattle.frames.specs.Paper.OneFrame.{OneFrame};
 ghost use Rattle.lines.specs.Paper.Answers.{endedPlace};
 ghost use Rattle.book.specs.Paper.Answers.{WritesBookLines};
 ghost use Rattle.book.specs.Work.Reading.{Noting};
-ghost use Rattle.book.specs.Work.Writing.{Lists, PutsOne, Sized, Fits};
+ghost use Rattle.book.specs.Work.Writing.{Lists, PutsOne, SizedLines, Fits};
 
-// Writes the lines of a valid book with so many entries, whose payloads' places have been noted.
+// Writes the lines of a valid book with `count` entries, whose payloads' places have been noted.
 pub(crate) fn write(book: &[u8], count: usize, places: &[usize], room: &mut [u8]) -> Written
     requires { ⌜ Noting (now book) count (now places) ⌝ }
     ensures { λ r. ⌜ WritesBookLines (now (book .entry)) (now (room .entry)) r (now (room .exit)) ⌝ }
 {
     if !fits(book, count, places, room.len()) {
-        return Written::Refused(Refusal::Room);
+        return Written::Refused(Refusal::NoRoom);
     }
     Written::Bytes(put(book, count, places, room))
 }
 
-// Whether a room of so many bytes has room for the lines. Only where it might not are they measured.
+// Whether a room of this length has room for the lines. They are measured only if it might not.
 fn fits(book: &[u8], count: usize, places: &[usize], room: usize) -> bool
     requires { ⌜ Noting (now book) count (now places) ⌝ }
     ensures { λ r. ⌜ Fits (now (book .entry)) room r ⌝ }
@@ -38,7 +38,7 @@ fn fits(book: &[u8], count: usize, places: &[usize], room: usize) -> bool
 // How long the lines are: the writer in a room too short.
 fn size(book: &[u8], count: usize, places: &[usize]) -> usize
     requires { ⌜ Noting (now book) count (now places) ⌝ }
-    ensures { λ r. ⌜ Sized (now (book .entry)) r ⌝ }
+    ensures { λ r. ⌜ SizedLines (now (book .entry)) r ⌝ }
 {
     let mut none = [0u8; 1];
     put(book, count, places, &mut none)

@@ -4,19 +4,19 @@ use super::layout;
 use digits::low_first;
 use digits::refusal::Refusal;
 use digits::slices;
-use frames::Whole;
+use frames::FramePayload;
 ghost use mathlib.Core.Path.{_≡_};
 ghost use Prim.Native.Nat.{ℕ, _+_, _*_, _≤_};
 ghost use lib.ListN.{length};
 ghost use Rattle.digits.specs.Paper.Bytes.{part};
-ghost use Rattle.digits.specs.Paper.LowFirst.{lowFirst};
-ghost use Rattle.digits.specs.Paper.Read.{Tells};
+ghost use Rattle.digits.specs.Paper.LowFirst.{lowByteFirst};
+ghost use Rattle.digits.specs.Paper.Read.{Decides};
 ghost use Rattle.book.specs.Work.Reading.{Trailed, Slots, FillsNoting, OpensNoting};
 
 // What stands at a place of a book: an entry, with the places where its frame begins and ends in the book, and its payload in the frame;
 // or none.
 pub(crate) enum Slot {
-    Holds {
+    Taken {
         kind: u8,
         from: usize,
         to: usize,
@@ -33,19 +33,19 @@ pub(crate) fn opened(book: &[u8], places: &mut [usize]) -> Opened
     ensures { λ r. ⌜ OpensNoting (now (book .entry)) (now (places .exit)) r ⌝ }
 {
     if !trailed(book) {
-        return Opened::Refused(Refusal::Book);
+        return Opened::Refused(Refusal::NoBook);
     }
     let count = layout::count(book);
     let end = book.len() - layout::trailer_size(count);
     if !filled(book, count, end, places) {
-        return Opened::Refused(Refusal::Book);
+        return Opened::Refused(Refusal::NoBook);
     }
     Opened::Count(count)
 }
 
 // Whether s ends as a book does, and is not too long: the count and the distance back.
 fn trailed(s: &[u8]) -> bool
-    ensures { λ r. ⌜ Tells ((count : ℕ) × Trailed (now (s .entry)) count) r ⌝ }
+    ensures { λ r. ⌜ Decides ((count : ℕ) × Trailed (now (s .entry)) count) r ⌝ }
 {
     let n = s.len();
     if n < layout::ENDING {
@@ -66,9 +66,9 @@ fn trailed(s: &[u8]) -> bool
     slices::same(&s[n - layout::BACK..n], &back)
 }
 
-// Whether so many entries fill the book up to the trailer, from offset 0 without gaps, and the trailer has their offsets. Where the payload
-// of each begins and ends in its frame is noted in `places`, so that no frame has to be tested twice. The two do not stand side by side:
-// a compiler would then move both at once, in one read of what has just been written in two, and the processor waits for that.
+// Whether `count` entries fill the book up to the trailer, from offset 0 without gaps, and the trailer has their offsets. Where the
+// payload of each begins and ends in its frame is noted in `places`, so that no frame has to be tested twice. The two do not stand side
+// by side: a compiler would then move both at once, in one read of what has just been written in two, and the processor waits for that.
 fn filled(s: &[u8], count: usize, end: usize, places: &mut [usize]) -> bool
     requires { ⌜ end + 4 * count ≤ length (now s) ⌝ }
     requires { ⌜ length (now s) ≤ 65536 ⌝ }
@@ -83,7 +83,7 @@ fn filled(s: &[u8], count: usize, end: usize, places: &mut [usize]) -> bool
             return false;
         }
         match entry_at(s, at, end) {
-            Slot::Holds {
+            Slot::Taken {
                 kind,
                 from,
                 to,
@@ -107,7 +107,7 @@ fn filled(s: &[u8], count: usize, end: usize, places: &mut [usize]) -> bool
 fn is_offset(s: &[u8], from: usize, place: usize) -> bool
     requires { ⌜ from + 4 ≤ length (now s) ⌝ }
     requires { ⌜ place ≤ 65536 ⌝ }
-    ensures { λ r. ⌜ Tells (part from (from + 4) (now (s .entry)) ≡ lowFirst 4 place) r ⌝ }
+    ensures { λ r. ⌜ Decides (part from (from + 4) (now (s .entry)) ≡ lowByteFirst 4 place) r ⌝ }
 {
     let bytes = low_first::four(place as u32);
     if slices::same(&s[from..from + layout::OFFSET], &bytes) {
@@ -134,16 +134,16 @@ fn entry_at(s: &[u8], at: usize, end: usize) -> Slot
         return Slot::Empty;
     }
     match frames::one_frame(kind, &s[from..to]) {
-        Whole::Is {
+        FramePayload::Is {
             from: start,
             to: stop,
-        } => Slot::Holds {
+        } => Slot::Taken {
             kind: kind,
             from: from,
             to: to,
             start: start,
             stop: stop,
         },
-        Whole::Refused(why) => Slot::Empty,
+        FramePayload::Refused(why) => Slot::Empty,
     }
 }

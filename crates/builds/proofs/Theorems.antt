@@ -9,7 +9,7 @@ use Rattle.digits.specs.Paper.Bytes.{Bytes}
 use Rattle.layouts.specs.Paper.Chars.{oneOf}
 use Rattle.layouts.specs.Paper.Homiq as homiqs
 use Rattle.layouts.specs.Paper.Homiq.{homiq}
-use Rattle.layouts.specs.Paper.Layout.{Layout, bytesOf, Frame}
+use Rattle.layouts.specs.Paper.Layout.{Layout, bytesOf, FrameBy}
 use Rattle.layouts.specs.Paper.Made.{linkOf, nestOf, nibeOf, Wire, homiqOf}
 use Rattle.layouts.specs.Paper.Nest.{nest}
 use Rattle.layouts.specs.Paper.Nibe.{nibe, commands}
@@ -20,28 +20,28 @@ use Rattle.builds.specs.Paper.Builds.{HomiqBytes}
 use Rattle.layouts.proofs.Laws.Made.{link-fit, nest-fit, nibe-fit}
 
 -- fields within the limits whose check values are right make a frame
-pub built-frame : (l : Layout) (m : l .Fields) → l .Limits m → l .Passes m → Frame l (bytesOf l m)
+pub built-frame : (l : Layout) (m : l .Fields) → l .Limits m → l .Passes m → FrameBy l (bytesOf l m)
 built-frame l m limits passes = record { form = record { fields = m; limits = limits; laid = refl }; passes = passes }
 
 -- THE BYTES THAT THE CALLS WRITE ARE FRAMES, where they write
-pub link-frame : (p : List ℕ) → 1 ≤ length p → length p ≤ 122 → Bytes p → Frame nikobus (bytesOf nikobus (linkOf p))
+pub link-frame : (p : List ℕ) → 1 ≤ length p → length p ≤ 122 → Bytes p → FrameBy nikobus (bytesOf nikobus (linkOf p))
 link-frame p some short bytes = built-frame nikobus (linkOf p) (link-fit p some short bytes) (link-passes refl refl)
 
-pub press-frame : (d : List ℕ) → nikobuses.Limits (press d) → Frame nikobus (bytesOf nikobus (press d))
+pub press-frame : (d : List ℕ) → nikobuses.Limits (press d) → FrameBy nikobus (bytesOf nikobus (press d))
 press-frame d limits = built-frame nikobus (press d) limits press-passes
 
-pub tail-frame : Frame nikobus (bytesOf nikobus tail)
+pub tail-frame : FrameBy nikobus (bytesOf nikobus tail)
 tail-frame = built-frame nikobus tail tail-limits tail-passes
 
-pub nest-frame : (d : Direction) (i : ℕ) (p : List ℕ) → i < 65536 → length p ≤ 1024 → Bytes p → Frame (nest d) (bytesOf (nest d) (nestOf i p))
+pub nest-frame : (d : Direction) (i : ℕ) (p : List ℕ) → i < 65536 → length p ≤ 1024 → Bytes p → FrameBy (nest d) (bytesOf (nest d) (nestOf i p))
 nest-frame d i p id short bytes = built-frame (nest d) (nestOf i p) (nest-fit i p id short bytes) refl
 
-pub nibe-frame : (c : ℕ) (d : List ℕ) → T (oneOf commands c) → length d ≤ 255 → Bytes d → Frame nibe (bytesOf nibe (nibeOf c d))
+pub nibe-frame : (c : ℕ) (d : List ℕ) → T (oneOf commands c) → length d ≤ 255 → Bytes d → FrameBy nibe (bytesOf nibe (nibeOf c d))
 nibe-frame c d command short bytes = built-frame nibe (nibeOf c d) (nibe-fit c d command short bytes) refl
 
-pub homiq-frame : (w : Wire) → homiqs.Limits (homiqOf w) → Frame homiq (bytesOf homiq (homiqOf w))
+pub homiq-frame : (w : Wire) → homiqs.Limits (homiqOf w) → FrameBy homiq (bytesOf homiq (homiqOf w))
 homiq-frame w limits = built-frame homiq (homiqOf w) limits refl
 
 -- what is written for a payload is a frame too
-pub homiq-payload : (p bs : List ℕ) → HomiqBytes p bs → Frame homiq bs
+pub homiq-payload : (p bs : List ℕ) → HomiqBytes p bs → FrameBy homiq bs
 homiq-payload p bs b = record { form = record { fields = homiqOf (b .wire); limits = b .payload .limits; laid = b .bytes }; passes = refl }

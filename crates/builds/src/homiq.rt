@@ -9,18 +9,18 @@ ghost use Rattle.builds.specs.Work.Homiq.{around};
 // The longest payload: fields of 8, 16, 4, 4, 3 and 1 characters and five separators.
 const LONGEST: usize = 41;
 
-// A frame with this payload, CMD to TYPE. (What stands in it is laid out as a frame and then tried: a frame it is only where the
-// payload is one.)
+// A frame with this payload, CMD to TYPE. (The payload is laid out as a frame and then tested: that is a frame only if the payload is
+// one.)
 pub fn frame(payload: &[u8], room: &mut [u8]) -> Written
     ensures { λ r. ⌜ BuildsHomiq (now (payload .entry)) (now (room .entry)) r (now (room .exit)) ⌝ }
 {
     if LONGEST < payload.len() {
-        return Written::Refused(Refusal::Limits);
+        return Written::Refused(Refusal::OutOfLimits);
     }
     let mut whole = [0u8; 64];
     let n = put_frame(payload, &mut whole);
     if homiq::frame(&whole[0..n]).len != n {
-        return Written::Refused(Refusal::Limits);
+        return Written::Refused(Refusal::OutOfLimits);
     }
     puts::front(&whole[0..n], room)
 }

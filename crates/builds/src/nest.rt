@@ -28,11 +28,11 @@ fn framed(preamble: &[u8], id: u16, payload: &[u8], room: &mut [u8]) -> Written
     ensures { λ r. ⌜ Builds (nestWith (now (preamble .entry))) (nestOf id (now (payload .entry))) (now (room .entry)) r (now (room .exit)) ⌝ }
 {
     if 1024 < payload.len() {
-        return Written::Refused(Refusal::Limits);
+        return Written::Refused(Refusal::OutOfLimits);
     }
     let len = preamble.len() + 4 + payload.len() + 2;
     if room.len() < len {
-        return Written::Refused(Refusal::Room);
+        return Written::Refused(Refusal::NoRoom);
     }
     put_frame(preamble, id, payload, room);
     Written::Bytes(len)

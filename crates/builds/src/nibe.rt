@@ -16,14 +16,14 @@ pub fn frame(command: u8, content: &[u8], room: &mut [u8]) -> Written
     ensures { λ r. ⌜ Builds nibe (nibeOf command (now (content .entry))) (now (room .entry)) r (now (room .exit)) ⌝ }
 {
     if !nibe::is_command(command) {
-        return Written::Refused(Refusal::Limits);
+        return Written::Refused(Refusal::OutOfLimits);
     }
     if 255 < content.len() {
-        return Written::Refused(Refusal::Limits);
+        return Written::Refused(Refusal::OutOfLimits);
     }
     let len = content.len() + 4;
     if room.len() < len {
-        return Written::Refused(Refusal::Room);
+        return Written::Refused(Refusal::NoRoom);
     }
     put_frame(command, content, room);
     Written::Bytes(len)

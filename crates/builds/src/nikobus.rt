@@ -19,20 +19,20 @@ pub fn link(payload: &[u8], room: &mut [u8]) -> Written
 {
     let n = payload.len();
     if n < 1 {
-        return Written::Refused(Refusal::Limits);
+        return Written::Refused(Refusal::OutOfLimits);
     }
     if 122 < n {
-        return Written::Refused(Refusal::Limits);
+        return Written::Refused(Refusal::OutOfLimits);
     }
     let len = n * 2 + 10;
     if room.len() < len {
-        return Written::Refused(Refusal::Room);
+        return Written::Refused(Refusal::NoRoom);
     }
     put_link(payload, room);
     Written::Bytes(len)
 }
 
-// The bytes of a link, where the room has a place for them all. (CRC8 covers the characters before it, as they stand in the room.)
+// The bytes of a link, if the room has a place for them all. (CRC8 covers the characters before it, as they stand in the room.)
 fn put_link(payload: &[u8], room: &mut [u8]) -> usize
     requires { ⌜ (length (now payload) ≤ 122) × (length (now payload) * 2 + 10 ≤ length (now room)) ⌝ }
     ensures { λ r. ⌜ Put (now (room .entry)) (now (room .exit)) 0 r (bytesOf nikobus (linkOf (now (payload .entry)))) ⌝ }
@@ -53,10 +53,10 @@ pub fn press(digits: &[u8], room: &mut [u8]) -> Written
     ensures { λ r. ⌜ Builds nikobus (press (now (digits .entry))) (now (room .entry)) r (now (room .exit)) ⌝ }
 {
     if digits.len() != 6 {
-        return Written::Refused(Refusal::Limits);
+        return Written::Refused(Refusal::OutOfLimits);
     }
     if !nikobus::all_digits(digits) {
-        return Written::Refused(Refusal::Limits);
+        return Written::Refused(Refusal::OutOfLimits);
     }
     let whole = [
         35,

@@ -5,7 +5,7 @@ use super::layout_calls::direction;
 use builds;
 use digits::refusal::Refusal;
 use frames::Found;
-use frames::Whole;
+use frames::FramePayload;
 use frames::kinds;
 use frames::kinds::Kind;
 use frames::kinds::Resolved;
@@ -42,14 +42,14 @@ pub(crate) fn call(function: u64, x: u64, place: usize, s: &[u8], room: &mut [u8
         804 => found(frames::search(n, s, place)),
         805 => answer::bytes(frames::frame(n, s, place), room),
         806 => answer::bytes(frames::payload(n, s, place), room),
-        _ => whole(frames::one_frame(n, s)),
+        _ => frame_payload(frames::one_frame(n, s)),
     }
 }
 
 fn resolved(r: Resolved) -> Answer {
     match r {
         Resolved::Is(kind) => [kind_form(kind), 0, 0, 0, 0],
-        Resolved::Unknown => answer::refused(Refusal::Kind),
+        Resolved::Unknown => answer::refused(Refusal::NoKind),
     }
 }
 
@@ -86,9 +86,9 @@ fn found(r: Found) -> Answer {
     }
 }
 
-fn whole(r: Whole) -> Answer {
+fn frame_payload(r: FramePayload) -> Answer {
     match r {
-        Whole::Is { from, to } => [4, from as u64, to as u64, 0, 0],
-        Whole::Refused(why) => answer::refused(why),
+        FramePayload::Is { from, to } => [4, from as u64, to as u64, 0, 0],
+        FramePayload::Refused(why) => answer::refused(why),
     }
 }

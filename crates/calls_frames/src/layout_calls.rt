@@ -1,7 +1,7 @@
 // The functions of `layouts`.
 use super::answer;
 use super::answer::Answer;
-use layouts::Spot;
+use layouts::AtHead;
 use layouts::homiq;
 use layouts::nest;
 use layouts::nest::Direction;
@@ -11,7 +11,7 @@ use layouts::nikobus;
 // Functions 601 to 604 say where a frame is, 605 is the CRC, the others are tests.
 pub(crate) fn call(function: u64, x: u64, s: &[u8]) -> Answer {
     if function < 605 {
-        return spot(frame(function, x, s));
+        return at_head(frame(function, x, s));
     }
     if function == 605 {
         return answer::number(homiq::crc(s) as u64);
@@ -19,7 +19,7 @@ pub(crate) fn call(function: u64, x: u64, s: &[u8]) -> Answer {
     answer::truth(test(function, x, s))
 }
 
-fn frame(function: u64, x: u64, s: &[u8]) -> Spot {
+fn frame(function: u64, x: u64, s: &[u8]) -> AtHead {
     match function {
         601 => nikobus::frame(s),
         602 => nibe::frame(s),
@@ -48,6 +48,6 @@ pub(crate) fn direction(n: u64) -> Direction {
     Direction::Response
 }
 
-fn spot(s: Spot) -> Answer {
+fn at_head(s: AtHead) -> Answer {
     [5, s.len as u64, s.from as u64, s.to as u64, 0]
 }

@@ -2,7 +2,7 @@
 use super::answer;
 use super::answer::Answer;
 use super::line_calls::written;
-use book::Kept;
+use book::Located;
 use book::Opened;
 use puts::Written;
 
@@ -10,7 +10,7 @@ pub(crate) fn call(function: u64, x: u64, first: &[u8], s: &[u8], room: &mut [u8
     let number = x as usize;
     match function {
         1201 => opened(book::open(s)),
-        1202 => kept(book::entry(s, number)),
+        1202 => located(book::entry(s, number)),
         1203 => answer::bytes(book::frame(s, number), room),
         _ => written(write(function, x, first, s, room)),
     }
@@ -32,14 +32,14 @@ fn opened(r: Opened) -> Answer {
     }
 }
 
-fn kept(r: Kept) -> Answer {
+fn located(r: Located) -> Answer {
     match r {
-        Kept::Is {
+        Located::Is {
             kind,
             offset,
             from,
             to,
         } => answer::four(kind as u64, offset as u64, from as u64, to as u64),
-        Kept::Refused(why) => answer::refused(why),
+        Located::Refused(why) => answer::refused(why),
     }
 }

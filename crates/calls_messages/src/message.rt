@@ -90,7 +90,7 @@ pub(crate) fn response(values: &[u64; 8]) -> Response {
         12 => Response::Text {
             id: (values[2] % 65_536) as u16,
         },
-        _ => Response::Response {
+        _ => Response::Other {
             id: (values[2] % 65_536) as u16,
         },
     }
@@ -112,7 +112,7 @@ fn nibe(row: u64, values: &[u64; 8]) -> Nibe {
         15 => Nibe::Reply(valued(values)),
         16 => Nibe::Put(valued(values)),
         17 => Nibe::Done { ok: values[2] == 1 },
-        _ => Nibe::Nibe {
+        _ => Nibe::Other {
             command: (values[2] % 256) as u8,
         },
     }
@@ -132,7 +132,7 @@ fn homiq(row: u64) -> Homiq {
         20 => Homiq::Input,
         21 => Homiq::Shutter,
         22 => Homiq::Beat,
-        _ => Homiq::Homiq,
+        _ => Homiq::Other,
     }
 }
 
@@ -156,37 +156,37 @@ pub(crate) fn tag(values: &[u64; 8]) -> Tag {
 }
 
 // What is said of a message: its row, and up to three fields.
-pub(crate) fn told(message: Message) -> [u64; 4] {
+pub(crate) fn said(message: Message) -> [u64; 4] {
     match message {
-        Message::Nikobus(m) => told_nikobus(m),
+        Message::Nikobus(m) => said_nikobus(m),
         Message::Command { id } => [7, id as u64, 0, 0],
-        Message::Response(m) => told_response(m),
-        Message::Nibe(m) => told_nibe(m),
+        Message::Response(m) => said_response(m),
+        Message::Nibe(m) => said_nibe(m),
         Message::Homiq(m) => [homiq_row(m), 0, 0, 0],
     }
 }
 
-fn told_nikobus(message: Nikobus) -> [u64; 4] {
+fn said_nikobus(message: Nikobus) -> [u64; 4] {
     match message {
         Nikobus::Read { group, address } => [1, group as u64, address as u64, 0],
         Nikobus::Set {
             group,
             address,
             out,
-        } => [2, group as u64, address as u64, told_six(out)],
+        } => [2, group as u64, address as u64, said_six(out)],
         Nikobus::Answer {
             address,
             third,
             out,
-        } => [3, address as u64, third as u64, told_six(out)],
-        Nikobus::Press(digits) => [4, told_six(digits), 0, 0],
+        } => [3, address as u64, third as u64, said_six(out)],
+        Nikobus::Press(digits) => [4, said_six(digits), 0, 0],
         Nikobus::Tail => [5, 0, 0, 0],
         Nikobus::Link => [6, 0, 0, 0],
     }
 }
 
 // Six bytes as a number, low byte first.
-fn told_six(s: Six) -> u64 {
+fn said_six(s: Six) -> u64 {
     let low = three(s.a, s.b, s.c);
     low + 16_777_216 * three(s.d, s.e, s.f)
 }
@@ -197,7 +197,7 @@ fn three(a: u8, b: u8, c: u8) -> u64
     a as u64 + 256 * (b as u64) + 65536 * (c as u64)
 }
 
-fn told_response(message: Response) -> [u64; 4] {
+fn said_response(message: Response) -> [u64; 4] {
     match message {
         Response::Climate {
             temperature,
@@ -207,25 +207,25 @@ fn told_response(message: Response) -> [u64; 4] {
         Response::Break => [10, 0, 0, 0],
         Response::End => [11, 0, 0, 0],
         Response::Text { id } => [12, id as u64, 0, 0],
-        Response::Response { id } => [13, id as u64, 0, 0],
+        Response::Other { id } => [13, id as u64, 0, 0],
     }
 }
 
-fn told_nibe(message: Nibe) -> [u64; 4] {
+fn said_nibe(message: Nibe) -> [u64; 4] {
     match message {
         Nibe::Ask { register } => [14, register as u64, 0, 0],
-        Nibe::Reply(v) => told_valued(15, v),
-        Nibe::Put(v) => told_valued(16, v),
-        Nibe::Done { ok } => [17, told_truth(ok), 0, 0],
-        Nibe::Nibe { command } => [18, command as u64, 0, 0],
+        Nibe::Reply(v) => said_valued(15, v),
+        Nibe::Put(v) => said_valued(16, v),
+        Nibe::Done { ok } => [17, said_truth(ok), 0, 0],
+        Nibe::Other { command } => [18, command as u64, 0, 0],
     }
 }
 
-fn told_truth(b: bool) -> u64 {
+fn said_truth(b: bool) -> u64 {
     if b { 1 } else { 0 }
 }
 
-fn told_valued(row: u64, v: Valued) -> [u64; 4] {
+fn said_valued(row: u64, v: Valued) -> [u64; 4] {
     [row, v.register as u64, v.width as u64, v.value as u64]
 }
 
@@ -235,6 +235,6 @@ fn homiq_row(message: Homiq) -> u64 {
         Homiq::Input => 20,
         Homiq::Shutter => 21,
         Homiq::Beat => 22,
-        Homiq::Homiq => 23,
+        Homiq::Other => 23,
     }
 }

@@ -3,8 +3,8 @@ use super::answer;
 use super::answer::Answer;
 use super::message;
 use messages::Decoded;
+use messages::FoundMessage;
 use messages::Meant;
-use messages::Seen;
 use messages::Standing;
 use messages::homiq;
 use messages::nest;
@@ -21,7 +21,7 @@ pub(crate) fn call(
     let kind = (values[0] % 256) as u8;
     match function {
         901 => decoded(messages::decode(kind, s)),
-        902 => seen(messages::find(kind, s, values[1] as usize)),
+        902 => found_message(messages::find(kind, s, values[1] as usize)),
         903 => answer::bytes(messages::content(kind, s), room),
         904 => meant(messages::of(message::tag(values), s)),
         905 => standing(messages::allowed(message::of(values, six), s)),
@@ -34,32 +34,32 @@ pub(crate) fn call(
 fn decoded(r: Decoded) -> Answer {
     match r {
         Decoded::Is { message, from, to } => {
-            answer::told(45, message::told(message), [from as u64, to as u64, 0, 0])
+            answer::said(45, message::said(message), [from as u64, to as u64, 0, 0])
         }
         Decoded::Refused(why) => answer::refused(why),
     }
 }
 
-fn seen(r: Seen) -> Answer {
+fn found_message(r: FoundMessage) -> Answer {
     match r {
-        Seen::At {
+        FoundMessage::At {
             start,
             len,
             from,
             to,
             message,
-        } => answer::told(
+        } => answer::said(
             68,
-            message::told(message),
+            message::said(message),
             [start as u64, len as u64, from as u64, to as u64],
         ),
-        Seen::Refused(why) => answer::refused(why),
+        FoundMessage::Refused(why) => answer::refused(why),
     }
 }
 
 fn meant(r: Meant) -> Answer {
     match r {
-        Meant::Is(message) => answer::told(22, message::told(message), [0, 0, 0, 0]),
+        Meant::Is(message) => answer::said(22, message::said(message), [0, 0, 0, 0]),
         Meant::Refused(why) => answer::refused(why),
     }
 }

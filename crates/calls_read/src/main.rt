@@ -22,7 +22,7 @@ fn with_rooms(input: &mut [u8; 300001], record: &mut [u8; 131184], room: &[u8; 2
     read_all(input, record, room);
 }
 
-// Where the reading stands: how many bytes of a line that is not complete stand at the front of the input, whether that line began
+// How far the reading is. The front of the input has the first bytes of a line that is not complete: how many, whether the line began
 // before them and is too long, and whether there may be more.
 struct Reading {
     have: usize,

@@ -228,12 +228,12 @@ fn one(kind: &[u8], line: &[u8], c: Cursor, words: &mut [u64; 14], store: &mut [
 // Takes a value of one slot.
 fn plain(kind: usize, word: &[u8], c: Cursor, words: &mut [u64; 14]) -> Cursor {
     match word::of(kind, word) {
-        Value::Is(v) => kept(v, c, words),
+        Value::Is(v) => stored(v, c, words),
         Value::Wrong => wrong(),
     }
 }
 
-fn kept(v: u64, c: Cursor, words: &mut [u64; 14]) -> Cursor {
+fn stored(v: u64, c: Cursor, words: &mut [u64; 14]) -> Cursor {
     let slot = c.slot;
     if 8 < slot {
         return wrong();

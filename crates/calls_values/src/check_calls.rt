@@ -5,7 +5,7 @@ use checks::homiq;
 use checks::nest;
 use checks::nibe;
 use checks::nikobus;
-use checks::rule::Order;
+use checks::rule::BitOrder;
 use checks::rule::Rule;
 
 pub(crate) fn call(function: u64, b: u8, first: &[u8], s: &[u8]) -> Answer {
@@ -38,10 +38,10 @@ fn constants(r: Rule) -> Answer {
     ]
 }
 
-fn order_form(o: Order) -> u64 {
+fn order_form(o: BitOrder) -> u64 {
     match o {
-        Order::HighFirst => 15,
-        Order::LowFirst => 16,
+        BitOrder::HighBitFirst => 15,
+        BitOrder::LowBitFirst => 16,
     }
 }
 

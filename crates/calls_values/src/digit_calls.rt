@@ -3,7 +3,7 @@ use super::answer;
 use super::answer::Answer;
 use super::value;
 use digits::decimal;
-use digits::decimal::Whole;
+use digits::decimal::Natural;
 use digits::hex;
 use digits::hex::Byte;
 use digits::hex::Word;
@@ -39,7 +39,7 @@ fn in_words(function: u64, x: u64, y: u64, first: &[u8], s: &[u8]) -> Answer {
         102 => byte(hex::value(value::small(x))),
         104 => byte(hex::byte_of(value::small(x), value::small(y))),
         106 => word(s),
-        108 => whole(decimal::number_of(s)),
+        108 => natural(decimal::number_of(s)),
         112 => number(low_first::number_of(s)),
         113 => answer::truth(slices::same(first, s)),
         _ => answer::number(refusal::number(named(x)) as u64),
@@ -49,7 +49,7 @@ fn in_words(function: u64, x: u64, y: u64, first: &[u8], s: &[u8]) -> Answer {
 fn byte(r: Byte) -> Answer {
     match r {
         Byte::Is(v) => answer::number(v as u64),
-        Byte::NoDigit => answer::refused(Refusal::Limits),
+        Byte::NoDigit => answer::refused(Refusal::OutOfLimits),
     }
 }
 
@@ -60,21 +60,21 @@ fn word(s: &[u8]) -> Answer {
     }
     match hex::word_of([s[0], s[1], s[2], s[3]]) {
         Word::Is(v) => answer::number(v as u64),
-        Word::NoDigit => answer::refused(Refusal::Limits),
+        Word::NoDigit => answer::refused(Refusal::OutOfLimits),
     }
 }
 
-fn whole(r: Whole) -> Answer {
+fn natural(r: Natural) -> Answer {
     match r {
-        Whole::Is(v) => answer::number(v as u64),
-        Whole::NoNumber => answer::refused(Refusal::Form),
+        Natural::Is(v) => answer::number(v as u64),
+        Natural::NoNumber => answer::refused(Refusal::BadForm),
     }
 }
 
 fn number(r: Number) -> Answer {
     match r {
         Number::Is(v) => answer::number(v as u64),
-        Number::Width => answer::refused(Refusal::Form),
+        Number::Width => answer::refused(Refusal::BadForm),
     }
 }
 
@@ -89,12 +89,12 @@ fn decimal_digits(n: u64, room: &mut [u8]) -> Answer {
 fn named(n: u64) -> Refusal {
     match n {
         0 => Refusal::NoFrame,
-        1 => Refusal::Kind,
-        2 => Refusal::Place,
-        3 => Refusal::Room,
-        4 => Refusal::Limits,
-        5 => Refusal::Above,
-        6 => Refusal::Form,
-        _ => Refusal::Book,
+        1 => Refusal::NoKind,
+        2 => Refusal::NoPlace,
+        3 => Refusal::NoRoom,
+        4 => Refusal::OutOfLimits,
+        5 => Refusal::ContentAbove,
+        6 => Refusal::BadForm,
+        _ => Refusal::NoBook,
     }
 }

@@ -1,6 +1,6 @@
 // Answers as lines. An answer's form is a row of the tables below, and in it a mark stands for each value, in the order of the record:
-// `#` for a number, `~` for a signed one, as the bits of the float that it is, `?` for `true` (1) or `false`, `&` for the six bytes that a
-// number is, low byte first, and `%` for so many bytes of the room.
+// `#` for a number, `~` for a signed one, as the bits of the float that it is, `?` for `true` (1) or `false`. `&` stands for the six
+// bytes that a number is, low byte first, and `%` for that many bytes of the room.
 use super::float;
 use super::number;
 use super::part;
@@ -50,7 +50,8 @@ fn say(form: u64, record: &[u8], room: &[u8], out: &mut [u8]) -> usize {
     message(form - 68, 10, 0, record, room, out)
 }
 
-// A message, with so much of what may stand before it, and behind it. Its own values come first, and those beside it from the fourth on.
+// A message; `before` and `behind` say how much of what may stand before it and behind it is written. Its own values come first, and those
+// beside it from the fourth on.
 fn message(
     n: u64,
     before: usize,

@@ -7,7 +7,7 @@ use mathlib.Core.Path.{_≡_}
 use Prim.Native.Nat.{ℕ, _^_, _<_}
 use lib.ListN.{length}
 use Rattle.digits.specs.Paper.Bytes.{Bytes}
-use Rattle.checks.specs.Paper.Bits.{highFirst, bitsOfBytes}
+use Rattle.checks.specs.Paper.Bits.{highBitFirst, bitsOfBytes}
 use Rattle.checks.specs.Paper.Check.{Check, polyBits, feed, check}
 use Rattle.checks.specs.Paper.Buses.{nestCrc, nibeXor, checks}
 use Rattle.checks.specs.Paper.Xor.{xorOf}
@@ -42,7 +42,7 @@ pub nibe-xor : (s : List ℕ) → Bytes s → check nibeXor s ≡ xorOf s
 nibe-xor = rotates.xor-law
 
 -- 01, known point (l): A STRETCH OF 17 CAN GO UNSEEN by a check of 16 bits, whatever stands before it
-pub seventeen : FitIn 17 (bitsOfBytes highFirst (0x00 ∷ 0x00 ∷ 0x00 ∷ [])) (bitsOfBytes highFirst (0x01 ∷ 0x10 ∷ 0x21 ∷ []))
+pub seventeen : FitIn 17 (bitsOfBytes highBitFirst (0x00 ∷ 0x00 ∷ 0x00 ∷ [])) (bitsOfBytes highBitFirst (0x01 ∷ 0x10 ∷ 0x21 ∷ []))
 seventeen = unseen.fit-in-17
 
 pub seventeen-unseen : (head : List ℕ)

@@ -10,8 +10,8 @@ use Rattle.checks.specs.declared.nest.Crc as nest
 use Rattle.checks.specs.declared.nibe.Xor as nibe
 use Rattle.checks.specs.declared.nikobus.Crc16 as nikobus16
 use Rattle.checks.specs.declared.nikobus.Crc8 as nikobus8
-use Rattle.checks.specs.declared.rule.Order.{Order}
-use Rattle.checks.specs.declared.rule.Order.the-variants.{HighFirst, LowFirst}
+use Rattle.checks.specs.declared.rule.BitOrder.{BitOrder}
+use Rattle.checks.specs.declared.rule.BitOrder.the-variants.{HighBitFirst, LowBitFirst}
 use Rattle.checks.specs.declared.rule.Rule.{Rule}
 
 -- ---- a number, `r ≡ x`: `equation` of the crate digits
@@ -35,11 +35,11 @@ nikobus8-unique x r q e f = ap (λ (n : ℕ). record { value = n }) (equation e 
 
 -- ---- a check's constants, `checkOf r ≡ c`
 
-order-inj : (a b : Order) → orderOf a ≡ orderOf b → a ≡ b
-order-inj HighFirst HighFirst e = refl
-order-inj HighFirst LowFirst e = cc
-order-inj LowFirst HighFirst e = cc
-order-inj LowFirst LowFirst e = refl
+order-inj : (a b : BitOrder) → orderOf a ≡ orderOf b → a ≡ b
+order-inj HighBitFirst HighBitFirst e = refl
+order-inj HighBitFirst LowBitFirst e = cc
+order-inj LowBitFirst HighBitFirst e = cc
+order-inj LowBitFirst LowBitFirst e = refl
 
 pub rule-unique : (c : Check) (r q : Rule) → checkOf r ≡ c → checkOf q ≡ c → r ≡ q
 rule-unique c r q e f =

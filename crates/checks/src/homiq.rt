@@ -1,6 +1,6 @@
 // The check of a Homiq frame.
 use super::bitwise::low8;
-use super::rule::Order;
+use super::rule::BitOrder;
 use super::rule::Rule;
 ghost use mathlib.Core.Path.{_≡_};
 ghost use mathlib.Core.List.{[], _∷_};
@@ -20,7 +20,7 @@ impl Crc {
 
     pub const START: u8 = 0;
 
-    pub const ORDER: Order = Order::LowFirst;
+    pub const ORDER: BitOrder = BitOrder::LowBitFirst;
 
     // The check's constants.
     pub fn rule() -> Rule

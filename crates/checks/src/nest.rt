@@ -1,6 +1,6 @@
 // The check of a Nest frame.
 use super::bitwise::high16;
-use super::rule::Order;
+use super::rule::BitOrder;
 use super::rule::Rule;
 ghost use mathlib.Core.Path.{_≡_};
 ghost use mathlib.Core.List.{[], _∷_};
@@ -20,7 +20,7 @@ impl Crc {
 
     pub const START: u16 = 0;
 
-    pub const ORDER: Order = Order::HighFirst;
+    pub const ORDER: BitOrder = BitOrder::HighBitFirst;
 
     // The check's constants.
     pub fn rule() -> Rule

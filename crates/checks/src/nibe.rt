@@ -1,5 +1,5 @@
 // The check of a Nibe frame: the exclusive or of the bytes, which is the check of polynomial x^8 + 1.
-use super::rule::Order;
+use super::rule::BitOrder;
 use super::rule::Rule;
 ghost use mathlib.Core.Path.{_≡_};
 ghost use mathlib.Core.List.{[], _∷_};
@@ -19,7 +19,7 @@ impl Xor {
 
     pub const START: u8 = 0;
 
-    pub const ORDER: Order = Order::HighFirst;
+    pub const ORDER: BitOrder = BitOrder::HighBitFirst;
 
     // The check's constants.
     pub fn rule() -> Rule

@@ -1,7 +1,7 @@
 // The two checks of a Nikobus link.
 use super::bitwise::high8;
 use super::bitwise::high16;
-use super::rule::Order;
+use super::rule::BitOrder;
 use super::rule::Rule;
 ghost use mathlib.Core.Path.{_≡_};
 ghost use mathlib.Core.List.{[], _∷_};
@@ -21,7 +21,7 @@ impl Crc16 {
 
     pub const START: u16 = 0xFFFF;
 
-    pub const ORDER: Order = Order::HighFirst;
+    pub const ORDER: BitOrder = BitOrder::HighBitFirst;
 
     // The check's constants.
     pub fn rule() -> Rule
@@ -80,7 +80,7 @@ impl Crc8 {
 
     pub const START: u8 = 0;
 
-    pub const ORDER: Order = Order::HighFirst;
+    pub const ORDER: BitOrder = BitOrder::HighBitFirst;
 
     // The check's constants.
     pub fn rule() -> Rule

@@ -1,9 +1,9 @@
-// What makes a check the one it is.
+// The constants of a check.
 
 // In which order a check takes the bits of each byte.
-pub enum Order {
-    HighFirst,
-    LowFirst,
+pub enum BitOrder {
+    HighBitFirst,
+    LowBitFirst,
 }
 
 // A check's constants: the polynomial's bits stand in the check's order, without the highest term.
@@ -11,5 +11,5 @@ pub struct Rule {
     pub width: u8,
     pub poly: u16,
     pub start: u16,
-    pub order: Order,
+    pub order: BitOrder,
 }

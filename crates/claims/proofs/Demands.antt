@@ -9,7 +9,7 @@ use native.Mathlib.Omega.{arith}
 use lib.ListN.{length, take}
 use prog.Routine.{Name}
 use Rattle.digits.proofs.Laws.Refusals.{one-refusal, some-number, cause-at, cause-of, keep, answered}
-use Rattle.digits.specs.Paper.Refusals.{refusalNumber, order}
+use Rattle.digits.specs.Paper.Refusals.{refusalNumber, refusalOrder}
 use Rattle.digits.specs.declared.refusal.Refusal.{Refusal}
 use Rattle.digits.specs.declared.refusal.Refusal.the-variants.{NoFrame}
 use Rattle.numbers.proofs.Theorems.Text.{exact, written-then-read, read-then-written}
@@ -76,7 +76,7 @@ table =
     ++ host.rows))))))))))))
 
 -- the functions of two lists
-joined : {Holds : Row → Type 3} {xs ys : List Row} → Every Holds xs → Every Holds ys → Every Holds (xs ++ ys)
+joined : {Property : Row → Type 3} {xs ys : List Row} → Every Property xs → Every Property ys → Every Property (xs ++ ys)
 joined none k = k
 joined (and h later) k = and h (joined later k)
 
@@ -102,7 +102,7 @@ pub the-table : map listed table ≡ functions
 the-table = refl
 
 -- that order is the paper's
-pub in-order : map (λ (f : Name × List ℕ). keep (λ n. oneOf (f .1) n) order) functions ≡ map (λ (f : Name × List ℕ). f .1) functions
+pub in-order : map (λ (f : Name × List ℕ). keep (λ n. oneOf (f .1) n) refusalOrder) functions ≡ map (λ (f : Name × List ℕ). f .1) functions
 unfolding oneOf
 in-order = refl
 

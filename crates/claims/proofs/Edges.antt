@@ -18,14 +18,14 @@ use Rattle.digits.specs.Paper.Bits.{lows}
 use Rattle.digits.specs.Paper.Bytes.{Bytes}
 use Rattle.digits.specs.Paper.Decimal.{decimal, decimalIn, enough}
 use Rattle.digits.specs.Paper.Hex.{hexDigit, hexByte, hexWord}
-use Rattle.digits.specs.Paper.LowFirst.{Width, one, two, four, Held, SixteenBits, lowFirst}
+use Rattle.digits.specs.Paper.LowFirst.{Width, one, two, four, Held, SixteenBits, lowByteFirst}
 use Rattle.digits.proofs.Laws.Bytes.{bytes-nil, bytes-cons}
 use Rattle.digits.proofs.Laws.Tests.{T-and, T-true, told, untold}
-use Rattle.digits.specs.Paper.Read.{Tells, holds, fails}
+use Rattle.digits.specs.Paper.Read.{Decides, holds, fails}
 use Rattle.digits.specs.Work.Decimal.{guess}
 use Rattle.digits.specs.Work.Hex.{placeOf}
-use Rattle.digits.specs.declared.refusal.Refusal.the-variants.{NoFrame, Place}
-use Rattle.checks.specs.Paper.Bits.{bits, ofLows, number, bitsOfBytes}
+use Rattle.digits.specs.declared.refusal.Refusal.the-variants.{NoFrame, NoPlace}
+use Rattle.checks.specs.Paper.Bits.{bits, ofLows, ofBits, bitsOfBytes}
 use Rattle.checks.specs.Paper.Check.{polyBits, feed}
 use Rattle.numbers.specs.Paper.Raw.{Between, mostDecimals}
 use Rattle.numbers.specs.Paper.Text.{InLimits}
@@ -47,7 +47,7 @@ use Rattle.layouts.proofs.Laws.ByteRuns.{all-bytes, bytes-all}
 use Rattle.layouts.proofs.Laws.Made.{press-said}
 use Rattle.layouts.proofs.Laws.Nest.{nest-size}
 use Rattle.frames.specs.Paper.Kinds.{layoutOf, numberOf, known, Frame}
-use Rattle.frames.specs.Paper.Search.{FrameAt, foundNumber, Searches}
+use Rattle.frames.specs.Paper.Search.{FrameAt, foundRefusal, Searches}
 use Rattle.frames.specs.Work.Frames.{lenAt}
 use Rattle.frames.specs.Work.Seek.{searched, resolved, among, seek, seekAmong}
 use Rattle.frames.specs.declared.Found.{Found}
@@ -57,8 +57,8 @@ use Rattle.frames.specs.declared.kinds.Kind.the-variants.{Nikobus, NestCommand,
 use Rattle.frames.proofs.Laws.Places.{at-place, stands, frame-alone, alone-frame, positive}
 use Rattle.frames.proofs.Theorems.{an-answer, one-answer}
 use Rattle.messages.specs.Paper.Message.{Message, read, set, answer, press, tail, link, command, climate, state, break, end, text, response, ask, reply, put, done, nibe, output, input, shutter, beat, homiq}
-use Rattle.messages.specs.Paper.Table.{Group, SixBytes, Sized, leastState, textIds, Numbered, Letter, Sends, Limits, contentOf, bytes}
-use Rattle.messages.specs.Work.Homiq.{same, isNumbered, isLetter}
+use Rattle.messages.specs.Paper.Table.{Group, SixBytes, BytesBetween, leastState, textIds, MarkedNumber, Letter, Sends, Limits, contentOf, bytes}
+use Rattle.messages.specs.Work.Homiq.{same, isMarkedNumber, isLetter}
 use Rattle.messages.proofs.Laws.HomiqTests.{same-tells, numbered-tells, letter-tells}
 use Rattle.messages.proofs.Laws.Telling.{both-tell}
 use Rattle.messages.proofs.Theorems.{bytes-frame}
@@ -67,7 +67,7 @@ use Rattle.list.proofs.Laws.Sizes.{refused-size}
 use Rattle.list.proofs.Laws.Some.{some-lists}
 use Rattle.list.proofs.Laws.Written.{last-line}
 use Rattle.list.proofs.Theorems.{one-listing}
-use Rattle.book.specs.Paper.Book.{Entry, entries, book, Framed, none as no-entries, also, mostEntries, mostBytes, Within, Numbered as EntryAt}
+use Rattle.book.specs.Paper.Book.{Entry, entries, book, Framed, none as no-entries, also, mostEntries, mostBytes, Within, EntryAt}
 use Rattle.book.proofs.Laws.Entries.{has-entry}
 use Rattle.book.proofs.Laws.Layout.{length-entry, length-entries, entries-append, framed-append, length-book}
 use Rattle.claims.specs.Paper.Edges as E
@@ -75,23 +75,23 @@ use Rattle.claims.specs.Paper.Edges.{Fact, Listed, Right, Edge, AllHold,
 
 -- ---- tests that tell
 
-by : {A B : Type 0} {b : Bool} → (A → B) → (B → A) → Tells A b → Tells B b
+by : {A B : Type 0} {b : Bool} → (A → B) → (B → A) → Decides A b → Decides B b
 by f g (holds a) = holds (f a)
 by f g (fails n) = fails (λ b. n (g b))
 
-either-tells : {A B : Type 0} {a b : Bool} → Tells A a → Tells B b → Tells (A ⊎ B) (a || b)
+either-tells : {A B : Type 0} {a b : Bool} → Decides A a → Decides B b → Decides (A ⊎ B) (a || b)
 either-tells (holds x) q = holds (inl x)
 either-tells (fails f) (holds y) = holds (inr y)
 either-tells (fails f) (fails g) = fails (⊎-elim f g)
 
-T-tells : (b : Bool) → Tells (T b) b
+T-tells : (b : Bool) → Decides (T b) b
 T-tells true = holds tt
 T-tells false = fails (λ t. t)
 
 -- whether A holds, computed
 record Decided (A : Type 0) : Type 0 where
   answer : Bool
-  tells : Tells A answer
+  tells : Decides A answer
 
 -- and so of what says the same as A
 abbrev turn : {A B : Type 0} → (A → B) → (B → A) → Decided A → Decided B
@@ -258,7 +258,7 @@ a-frame bus f = turn (found-whole bus f) (whole-found bus f) (test (ltb 0 (lengt
 
 -- ---- messages
 
-abbrev sized : (least most : ℕ) (p : List ℕ) → Decided (Sized least most p)
+abbrev sized : (least most : ℕ) (p : List ℕ) → Decided (BytesBetween least most p)
 sized least most p =
     turn (λ q. record { enough = q .0; short = q .1 .0; bytes = q .1 .1 }) (λ r. (r .enough, (r .short, r .bytes)))
     (both (le least (length p)) (both (le (length p) most) (are-bytes p)))
@@ -274,8 +274,8 @@ sends w c v =
     turn (λ q. record { limits = q .0; cmd = q .1 .0; val = q .1 .1 }) (λ r. (r .limits, (r .cmd, r .val)))
     (both (of-homiq (homiqOf w)) (both c v))
 
-abbrev numbered : (mark : List ℕ) (most : ℕ) (cmd : List ℕ) → Decided (Numbered mark most cmd)
-numbered mark most cmd = record { answer = isNumbered mark most cmd; tells = numbered-tells mark most cmd }
+abbrev numbered : (mark : List ℕ) (most : ℕ) (cmd : List ℕ) → Decided (MarkedNumber mark most cmd)
+numbered mark most cmd = record { answer = isMarkedNumber mark most cmd; tells = numbered-tells mark most cmd }
 
 abbrev letter : (letters val : List ℕ) → Decided (Letter letters val)
 letter letters val = record { answer = isLetter letters val; tells = letter-tells letters val }
@@ -362,11 +362,11 @@ join [] later a b = b
 join (e ∷ es) later a b = (a .0, join es later (a .1) b)
 
 of-frames : AllHold frameEdges
-unfolding known oneOf lenAt nikobusFormLen nikobusPasses linkFormLen linkHeadLen llOf pressLen tailLen passes16 passes8 bytesOf placeOf isHex all onlyIf starts wordLen runLen on hexDigit hexByte hexWord nestFormLen nestPasses crcPasses bodyLen isByte lowFirst nibeFormLen nibePasses homiqFormLen homiqPasses headLen typeLen numberLen numberIn guess isFigure fieldLen homiqs.fieldChar homiqs.kept leading decimal decimalIn enough feed polyBits bits lows number ofLows bitsOfBytes
+unfolding known oneOf lenAt nikobusFormLen nikobusPasses linkFormLen linkHeadLen llOf pressLen tailLen passes16 passes8 bytesOf placeOf isHex all onlyIf starts wordLen runLen on hexDigit hexByte hexWord nestFormLen nestPasses crcPasses bodyLen isByte lowByteFirst nibeFormLen nibePasses homiqFormLen homiqPasses headLen typeLen numberLen numberIn guess isFigure fieldLen homiqs.fieldChar homiqs.withoutSeparators leading decimal decimalIn enough feed polyBits bits lows ofBits ofLows bitsOfBytes
 of-frames = holds-all frameEdges tt
 
 of-messages : AllHold messageEdges
-unfolding oneOf all isHex isByte homiqs.fieldChar isNumbered isLetter starts guess decimal decimalIn enough feed polyBits bits lows number ofLows bitsOfBytes
+unfolding oneOf all isHex isByte homiqs.fieldChar isMarkedNumber isLetter starts guess decimal decimalIn enough feed polyBits bits lows ofBits ofLows bitsOfBytes
 of-messages = holds-all messageEdges tt
 
 of-numbers : AllHold numberEdges
@@ -379,8 +379,8 @@ at-end : (place : ℕ) {r : Found} → searched 4 (0xC0 ∷ []) place ≡ r → 
 at-end place e = subst (Searches 4 (0xC0 ∷ []) place) e (an-answer 4 (0xC0 ∷ []) place)
 
 -- another answer than the right one
-not-this : Searches 4 (0xC0 ∷ []) 2 (Refused Place) → Searches 4 (0xC0 ∷ []) 2 (Refused NoFrame) → ⊥
-not-this a b = let e : _≡_ {A = ℕ} 3 1 = ap foundNumber (one-answer (Refused Place) (Refused NoFrame) a b) in omega (arith, e)
+not-this : Searches 4 (0xC0 ∷ []) 2 (Refused NoPlace) → Searches 4 (0xC0 ∷ []) 2 (Refused NoFrame) → ⊥
+not-this a b = let e : _≡_ {A = ℕ} 3 1 = ap foundRefusal (one-answer (Refused NoPlace) (Refused NoFrame) a b) in omega (arith, e)
 
 -- an input of so many bytes behind its first two
 of-kind-1 : (n : ℕ) → Input (wholeInput n)

@@ -8,7 +8,7 @@ use lib.Dec.{lit≤}
 use lib.ListN.{length}
 use Rattle.digits.specs.Paper.Ascii.{ascii}
 use Rattle.digits.specs.Paper.Bytes.{part}
-use Rattle.digits.specs.Paper.LowFirst.{lowFirst}
+use Rattle.digits.specs.Paper.LowFirst.{lowByteFirst}
 use Rattle.digits.proofs.Laws.Parts.{part-all}
 use Rattle.digits.specs.declared.refusal.Refusal.the-variants.{NoFrame}
 use Rattle.checks.proofs.Known.{nest-six}
@@ -81,7 +81,7 @@ known = (
                             do-not-fit .1,
                             (
                               books.k,
-                              (((λ id. seventeen-unseen (lowFirst 2 id ++ lowFirst 2 3)), seventeen), tt),
+                              (((λ id. seventeen-unseen (lowByteFirst 2 id ++ lowByteFirst 2 3)), seventeen), tt),
                             ),
                           ),
                         ),

@@ -30,7 +30,7 @@ use Rattle.layouts.specs.declared.nest.Direction.the-variants.{Command}
 use Rattle.builds.specs.Paper.Builds.{BuildCause, HomiqCause}
 use Rattle.frames.specs.Paper.Kinds.{known, knownKinds, KindCause, Frame}
 use Rattle.frames.specs.Paper.Search.{SearchCause, Searches, Leftmost}
-use Rattle.frames.specs.Paper.Whole.{WholeCause}
+use Rattle.frames.specs.Paper.OneFrame.{OneFrameCause}
 use Rattle.frames.specs.Work.Seek.{searched}
 use Rattle.frames.proofs.Laws.Runs.{leftmost, none-found}
 use Rattle.frames.proofs.Theorems.{an-answer, never-empty}
@@ -55,7 +55,7 @@ use Rattle.json.specs.Paper.Json.{object}
 use Rattle.lines.specs.Paper.Line.{line}
 use Rattle.lines.specs.Paper.Answers.{LineOf, LineCause, SaidCause, NextCause}
 use Rattle.lines.proofs.Theorems.{has-line, has-line-said}
-use Rattle.book.specs.Paper.Answers.{NoBook, OpenCause, EntryCause, EntryLine, EntryLineCause, BookLines, ListCause, AddCause}
+use Rattle.book.specs.Paper.Answers.{NoValidBook, OpenCause, EntryCause, EntryLine, EntryLineCause, BookLines, ListCause, AddCause}
 use Rattle.book.specs.Paper.Book.{Entry, Book, Within, book}
 use Rattle.book.proofs.Laws.Layout.{length-book}
 use Rattle.book.proofs.Theorems.{has-entry, entry-line, book-lines, line-in, last-added, a-book}
@@ -246,7 +246,7 @@ payload = (
 )
 
 pub one-frame : Occur (frames.one-frame .Cause) (frames.one-frame .refusals)
-one-frame = ((record { kind = 0; s = [] }, WholeCause.no-kind unknown), ((record { kind = 1; s = [] }, WholeCause.no-frame no-frame), tt))
+one-frame = ((record { kind = 0; s = [] }, OneFrameCause.no-kind unknown), ((record { kind = 1; s = [] }, OneFrameCause.no-frame no-frame), tt))
 
 pub kinds-of : Occur (frames.kinds-of .Cause) (frames.kinds-of .refusals)
 kinds-of = ((record { number = 0 }, KindCause.no-kind unknown), tt)
@@ -282,7 +282,7 @@ taken = record { other = end; above = lit< tt; limits = tt; same = refl }
 pub allowed : Occur (messages.allowed .Cause) (messages.allowed .refusals)
 allowed = (
   (record { message = coded.Homiq Beat; content = [] }, StandingCause.outside (λ m s l. no-payload (s .payload))),
-  ((record { message = coded.Response (responses.Response 0x002F); content = [] }, StandingCause.taken refl taken), tt),
+  ((record { message = coded.Response (responses.Other 0x002F); content = [] }, StandingCause.taken refl taken), tt),
 )
 
 pub nest-for-panel : Occur (messages.nest-for-panel .Cause) (messages.nest-for-panel .refusals)
@@ -309,7 +309,7 @@ encode = (
       (record { kind = 1; message = coded.Command 0; content = []; room = [] }, EncodeCause.other-kind (λ e. omega (arith, e))),
       (
         (
-          record { kind = 3; message = coded.Response (responses.Response 0x002F); content = []; room = [] },
+          record { kind = 3; message = coded.Response (responses.Other 0x002F); content = []; room = [] },
           EncodeCause.by-message (MessageCause.taken refl taken),
         ),
         (
@@ -407,7 +407,7 @@ put-content = (
 
 -- ---- book
 
-no-book : NoBook []
+no-book : NoValidBook []
 no-book es b = let none : 0 ≡ length (book es) = ap length (b .is) in omega (arith, none, length-book es)
 
 -- the empty book, and that of the reset frame with its line

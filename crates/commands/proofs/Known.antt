@@ -6,7 +6,7 @@ use lib.Dec.{lit≤}
 use Rattle.digits.specs.Paper.Ascii.{ascii}
 use Rattle.digits.specs.Paper.Bits.{lows}
 use Rattle.digits.specs.Paper.Decimal.{decimal, decimalIn, enough}
-use Rattle.checks.specs.Paper.Bits.{bits, ofLows, number, bitsOfBytes}
+use Rattle.checks.specs.Paper.Bits.{bits, ofLows, ofBits, bitsOfBytes}
 use Rattle.checks.specs.Paper.Check.{polyBits, feed}
 use Rattle.layouts.specs.Paper.Chars.{oneOf, all, CR, LF}
 use Rattle.layouts.specs.Paper.Homiq.{fieldChar}
@@ -19,7 +19,7 @@ third = record { cmd = ascii "I.3"; val = ascii "1"; src = ascii "0H"; dst = asc
 
 -- (g) it is their frame
 pub g : FrameOf (ascii "<;I.3;1;0H;0;42;s;134;>" ++ (CR ∷ LF ∷ [])) third
-unfolding oneOf all fieldChar decimal decimalIn enough feed polyBits bits lows number ofLows bitsOfBytes
+unfolding oneOf all fieldChar decimal decimalIn enough feed polyBits bits lows ofBits ofLows bitsOfBytes
 g =
     record {
       limits =
@@ -38,5 +38,5 @@ g =
 
 -- (h) "its acknowledgement has 64"
 pub h : acknowledgement third ≡ ascii "<;I.3;1;0;0H;42;a;64;>" ++ (CR ∷ LF ∷ [])
-unfolding decimal decimalIn enough feed polyBits bits lows number ofLows bitsOfBytes
+unfolding decimal decimalIn enough feed polyBits bits lows ofBits ofLows bitsOfBytes
 h = refl

@@ -10,7 +10,7 @@ use lib.Dec.{lit<}
 use lib.ListN.{length, take, drop}
 use Rattle.digits.specs.Paper.Bytes.{part}
 use Rattle.digits.specs.Paper.LowFirst.{Width}
-use Rattle.digits.specs.Paper.Refusals.{order, First, here, after}
+use Rattle.digits.specs.Paper.Refusals.{refusalOrder, First, here, after}
 use Rattle.digits.proofs.Laws.Refusals.{cause-at, cause-of, some-number}
 use Rattle.puts.specs.declared.Written.{Written}
 use Rattle.puts.specs.Paper.Wrote.{writtenRefusal, writtenCount}
@@ -108,7 +108,7 @@ none-first p z (here c) = absurd (omega arith)
 none-first p z (after n f) = (n, f)
 
 -- a message that is not refused is of the kind asked
-of-the-kind : {k n first : ℕ} (e : Coded) (s : List ℕ) → First (EncodeCause k e s n) order first → first ≡ 0 → numberOf (kindIn e) ≡ k
+of-the-kind : {k n first : ℕ} (e : Coded) (s : List ℕ) → First (EncodeCause k e s n) refusalOrder first → first ≡ 0 → numberOf (kindIn e) ≡ k
 of-the-kind {k} {n} e s f z = go (ℕ-discrete (numberOf (kindIn e)) k)
   where
     not-5 : EncodeCause k e s n 5 → ⊥

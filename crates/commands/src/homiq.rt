@@ -1,7 +1,7 @@
 // Homiq: messages into frames, and the acknowledgement.
 use builds::homiq;
 use digits::refusal::Refusal;
-use frames::Whole;
+use frames::FramePayload;
 use frames::kinds;
 use frames::kinds::Kind;
 use messages::homiq::Homiq;
@@ -28,8 +28,8 @@ pub(crate) fn acknowledge(frame: &[u8], room: &mut [u8]) -> Written
     ensures { λ r. ⌜ Acknowledges (now (frame .entry)) (now (room .entry)) r (now (room .exit)) ⌝ }
 {
     match frames::one_frame(kinds::number(Kind::Homiq), frame) {
-        Whole::Is { from, to } => answer(&frame[from..to], room),
-        Whole::Refused(why) => Written::Refused(Refusal::Limits),
+        FramePayload::Is { from, to } => answer(&frame[from..to], room),
+        FramePayload::Refused(why) => Written::Refused(Refusal::OutOfLimits),
     }
 }
 
@@ -41,7 +41,7 @@ fn answer(payload: &[u8], room: &mut [u8]) -> Written
     ensures { λ r. ⌜ Answered (now (payload .entry)) (now (room .entry)) r (now (room .exit)) ⌝ }
 {
     if payload[payload.len() - 1] == b'a' {
-        return Written::Refused(Refusal::Limits);
+        return Written::Refused(Refusal::OutOfLimits);
     }
     let mut reply = [0u8; 64];
     exchange(payload, &mut reply);

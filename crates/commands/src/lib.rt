@@ -11,26 +11,26 @@ use messages::Message;
 use messages::Standing;
 use puts::Written;
 ghost use mathlib.Core.Path.{_≡_};
-ghost use Rattle.digits.specs.Paper.Read.{Tells};
+ghost use Rattle.digits.specs.Paper.Read.{Decides};
 ghost use Rattle.messages.specs.Paper.Says.{Says, kindIn};
 ghost use Rattle.commands.specs.Paper.Answers.{Encodes};
 ghost use Rattle.commands.specs.Paper.Acknowledge.{Acknowledges};
 ghost use Rattle.commands.specs.Work.Answers.{WidthIn, WritesMeant, WritesMessage};
 
-// Writes the frame of a message from the front of the room. Refusals: 2 for a kind that is not known, 7 for a width that is not 1,
-// 2 or 4, 5 for a message of another kind or a field outside its limits, 6 for a content that a message above has, 4 for a room
-// too short.
+// Writes the frame of a message from the front of the room. Refusals: 2 for a kind that is not known. 7 for a width that is not 1, 2 or
+// 4. 5 for a message of another kind or a field outside its limits. 6 for a content that a message above has. 4 for a room that is too
+// short.
 pub fn encode(kind: u8, message: Message, content: &[u8], room: &mut [u8]) -> Written
     ensures { λ r. ⌜ Encodes kind message (now (content .entry)) (now (room .entry)) r (now (room .exit)) ⌝ }
 {
     if !kinds::known(kind) {
-        return Written::Refused(Refusal::Kind);
+        return Written::Refused(Refusal::NoKind);
     }
     if !has_width(message) {
-        return Written::Refused(Refusal::Form);
+        return Written::Refused(Refusal::BadForm);
     }
     if kinds::number(kind_of(message)) != kind {
-        return Written::Refused(Refusal::Limits);
+        return Written::Refused(Refusal::OutOfLimits);
     }
     write_allowed(message, content, room)
 }
@@ -66,9 +66,9 @@ pub fn acknowledge(frame: &[u8], room: &mut [u8]) -> Written
     homiq::acknowledge(frame, room)
 }
 
-// Whether a message's value has a width that there is; a message without a value needs none.
+// Whether the width of a message's value is 1, 2 or 4; a message without a value has none to test.
 fn has_width(message: Message) -> bool
-    ensures { λ r. ⌜ Tells (WidthIn message) r ⌝ }
+    ensures { λ r. ⌜ Decides (WidthIn message) r ⌝ }
 {
     match message {
         Message::Nikobus(m) => true,

@@ -32,7 +32,7 @@ pub(crate) fn write(message: Response, payload: &[u8], room: &mut [u8]) -> Writt
         Response::Break => nest::frame(Direction::Response, 0x0001, b"BRK", room),
         Response::End => nest::frame(Direction::Response, 0x002F, b"", room),
         Response::Text { id } => nest::frame(Direction::Response, id, payload, room),
-        Response::Response { id } => nest::frame(Direction::Response, id, payload, room),
+        Response::Other { id } => nest::frame(Direction::Response, id, payload, room),
     }
 }
 

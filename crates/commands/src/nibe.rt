@@ -7,7 +7,7 @@ use puts::Written;
 ghost use mathlib.Core.Path.{_≡_};
 ghost use mathlib.Core.Bool.{cond};
 ghost use Rattle.digits.specs.Paper.LowFirst.{Width};
-ghost use Rattle.digits.specs.Paper.Read.{Tells};
+ghost use Rattle.digits.specs.Paper.Read.{Decides};
 ghost use Rattle.layouts.specs.Paper.Made.{nibeOf};
 ghost use Rattle.layouts.specs.Paper.Nibe as paper;
 ghost use Rattle.builds.specs.Paper.Builds.{Builds};
@@ -16,21 +16,21 @@ ghost use Rattle.messages.specs.Paper.Table.{valued};
 ghost use Rattle.messages.specs.Work.Answers.{Only};
 ghost use Rattle.commands.specs.Work.Answers.{WritesMessage, NibeWidth};
 
-// Whether a message's value has a width that there is.
+// Whether the width of a message's value is 1, 2 or 4.
 pub(crate) fn has_width(message: Nibe) -> bool
-    ensures { λ r. ⌜ Tells (NibeWidth message) r ⌝ }
+    ensures { λ r. ⌜ Decides (NibeWidth message) r ⌝ }
 {
     match message {
         Nibe::Ask { register } => true,
         Nibe::Reply(v) => is_width(v.width),
         Nibe::Put(v) => is_width(v.width),
         Nibe::Done { ok } => true,
-        Nibe::Nibe { command } => true,
+        Nibe::Other { command } => true,
     }
 }
 
 fn is_width(width: u8) -> bool
-    ensures { λ r. ⌜ Tells (Width width) r ⌝ }
+    ensures { λ r. ⌜ Decides (Width width) r ⌝ }
 {
     if width == 1 {
         return true;
@@ -53,22 +53,22 @@ pub(crate) fn write(message: Nibe, content: &[u8], room: &mut [u8]) -> Written
         Nibe::Reply(v) => write_valued(0x6A, v.register, v.width, v.value, room),
         Nibe::Put(v) => write_valued(0x6B, v.register, v.width, v.value, room),
         Nibe::Done { ok } => nibe::frame(0x6C, &[bit_of(ok)], room),
-        Nibe::Nibe { command } => nibe::frame(command, content, room),
+        Nibe::Other { command } => nibe::frame(command, content, room),
     }
 }
 
-// Writes the frame of a register and a value of one of the widths that there are. (Nothing is built for a wider one.)
+// Writes the frame of a register and a value of 1, 2 or 4 bytes. (Nothing is built for a wider one.)
 fn write_valued(command: u8, register: u16, width: u8, value: u32, room: &mut [u8]) -> Written
     ensures { λ r. ⌜ (Width width → Builds paper.nibe (nibeOf command (valued register width value)) (now (room .entry)) r (now (room .exit))) ⌝ }
 {
     if 4 < width {
-        return Written::Refused(Refusal::Form);
+        return Written::Refused(Refusal::BadForm);
     }
     let content = valued_bytes(register, value);
     nibe::frame(command, &content[0..width as usize + 2], room)
 }
 
-// A register and a value of four bytes: of a value of fewer, those are the first.
+// A register and a value as four bytes, of which a narrower value's are the first.
 fn valued_bytes(register: u16, value: u32) -> [u8; 6]
     ensures { λ r. ⌜ r ≡ valued register 4 value ⌝ }
 {

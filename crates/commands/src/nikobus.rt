@@ -81,7 +81,7 @@ fn write_link(digits: &[u8], room: &mut [u8]) -> Written
     nikobus::link(&bytes[0..n], room)
 }
 
-// Puts the bytes that digits are at the front of the room, and answers how many; 0 where they are none, or too many.
+// Puts the bytes that digits are at the front of the room, and answers how many; 0 if the digits are not those of bytes, or of too many.
 fn values(digits: &[u8], room: &mut [u8]) -> usize
     ensures { λ r. ⌜ Unhexed (now (digits .entry)) (length (now (room .entry))) r (now (room .exit)) ⌝ }
 {

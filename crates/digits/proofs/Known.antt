@@ -5,7 +5,7 @@ use mathlib.Core.List.{[], _∷_}
 use Rattle.digits.specs.Paper.Ascii.{ascii}
 use Rattle.digits.specs.Paper.Hex.{hexDigit, hexByte, hexWord, hexBytes}
 use Rattle.digits.specs.Paper.Decimal.{decimalIn, enough, decimal}
-use Rattle.digits.specs.Paper.LowFirst.{lowFirst}
+use Rattle.digits.specs.Paper.LowFirst.{lowByteFirst}
 
 -- 01, known point (a): the payload, CRC16 and CRC8 of `$10110000B8CF9D`
 pub payload : hexBytes (0x11 ∷ 0x00 ∷ 0x00 ∷ []) ≡ ascii "110000"
@@ -35,6 +35,6 @@ unfolding decimal enough decimalIn
 ends = (refl, refl, refl, refl)
 
 -- 01: register 47011 is 0xB7A3; known point (e): `44 9C` asks 40004
-pub register : (hexWord 47011 ≡ ascii "B7A3") × (lowFirst 2 40004 ≡ 0x44 ∷ 0x9C ∷ [])
-unfolding hexWord hexByte hexDigit lowFirst
+pub register : (hexWord 47011 ≡ ascii "B7A3") × (lowByteFirst 2 40004 ≡ 0x44 ∷ 0x9C ∷ [])
+unfolding hexWord hexByte hexDigit lowByteFirst
 register = (refl, refl)

@@ -9,7 +9,7 @@ use lib.ListN.{length, getD}
 use Rattle.digits.specs.Paper.Bytes.{Bytes}
 use Rattle.digits.specs.Paper.Hex.{hexDigit, hexByte, hexWord, hexBytes}
 use Rattle.digits.specs.Paper.Decimal.{decimal}
-use Rattle.digits.specs.Paper.LowFirst.{lowFirst}
+use Rattle.digits.specs.Paper.LowFirst.{lowByteFirst}
 use Rattle.digits.proofs.Laws.Hex as hex
 use Rattle.digits.proofs.Laws.Decimal as decimals
 use Rattle.digits.proofs.Laws.LowFirst as low
@@ -34,7 +34,7 @@ one-hex = hex.hex-inj
 pub one-decimal : (m n : ℕ) → decimal m ≡ decimal n → m ≡ n
 one-decimal = decimals.decimal-inj
 
-pub one-low-first : (width u v : ℕ) → u < 256 ^ width → v < 256 ^ width → lowFirst width u ≡ lowFirst width v → u ≡ v
+pub one-low-first : (width u v : ℕ) → u < 256 ^ width → v < 256 ^ width → lowByteFirst width u ≡ lowByteFirst width v → u ≡ v
 one-low-first = low.low-inj
 
 -- DECIMAL DIGITS ARE `0` TO `9`, WITHOUT LEADING ZEROS, and k are enough for a number below 10 ^ k
@@ -48,5 +48,5 @@ pub decimal-short : (k n : ℕ) → n < 10 ^ suc k → length (decimal n) ≤ su
 decimal-short = decimals.length-decimal
 
 -- ALL BYTES OF A WIDTH ARE A NUMBER'S
-pub low-first-all : (s : List ℕ) → Bytes s → (n : ℕ) × (n < 256 ^ length s) × (lowFirst (length s) n ≡ s)
+pub low-first-all : (s : List ℕ) → Bytes s → (n : ℕ) × (n < 256 ^ length s) × (lowByteFirst (length s) n ≡ s)
 low-first-all = low.low-all

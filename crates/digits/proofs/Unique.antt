@@ -7,15 +7,15 @@ use Prim.Native.Nat.{ℕ}
 use native.Mathlib.Omega.{arith}
 use lib.ListN.{length, replicate}
 use Rattle.digits.specs.Paper.Decimal.{decimal}
-use Rattle.digits.specs.Paper.Read.{Tells, holds, fails}
-use Rattle.digits.specs.Paper.Answers.{byteRefusal, byteValue, wordRefusal, wordValue, numberRefusal, numberValue, wholeRefusal, wholeValue, ReadsDigit, ReadsByte, ReadsWord, ReadsNumber, ReadsDecimal, AtEnd}
+use Rattle.digits.specs.Paper.Read.{Decides, holds, fails}
+use Rattle.digits.specs.Paper.Answers.{byteRefusal, byteValue, wordRefusal, wordValue, numberRefusal, numberValue, naturalRefusal, naturalValue, ReadsDigit, ReadsByte, ReadsWord, ReadsNumber, ReadsDecimal, AtEnd}
 use Rattle.digits.specs.declared.hex.Byte.{Byte}
 use Rattle.digits.specs.declared.hex.Byte.the-variants.{Is, NoDigit}
 use Rattle.digits.specs.declared.hex.Word.{Word}
 use Rattle.digits.specs.declared.hex.Word.the-variants.{Is as WordIs, NoDigit as NoWord}
 use Rattle.digits.specs.declared.decimal.Decimal.{Decimal}
-use Rattle.digits.specs.declared.decimal.Whole.{Whole}
-use Rattle.digits.specs.declared.decimal.Whole.the-variants.{Is as WholeIs, NoNumber}
+use Rattle.digits.specs.declared.decimal.Natural.{Natural}
+use Rattle.digits.specs.declared.decimal.Natural.the-variants.{Is as WholeIs, NoNumber}
 use Rattle.digits.specs.declared.low_first.Number.{Number}
 use Rattle.digits.specs.declared.low_first.Number.the-variants.{Is as NumberIs, Width as NoWidth}
 use Rattle.digits.proofs.Laws.Reads.{one-reading}
@@ -30,7 +30,7 @@ equation e f = e ∙ sym f
 
 -- ---- slices::same
 
-pub test : {A : Type 0} {r q : Bool} → Tells A r → Tells A q → r ≡ q
+pub test : {A : Type 0} {r q : Bool} → Decides A r → Decides A q → r ≡ q
 test (holds a) (holds b) = refl
 test (holds a) (fails f) = absurd (f a)
 test (fails f) (holds a) = absurd (f a)
@@ -53,7 +53,7 @@ word-answer (WordIs u) NoWord e f = differ (omega (arith, e))
 word-answer NoWord (WordIs v) e f = differ (omega (arith, e))
 word-answer NoWord NoWord e f = refl
 
-whole-answer : (r q : Whole) → wholeRefusal r ≡ wholeRefusal q → wholeValue r ≡ wholeValue q → r ≡ q
+whole-answer : (r q : Natural) → naturalRefusal r ≡ naturalRefusal q → naturalValue r ≡ naturalValue q → r ≡ q
 whole-answer (WholeIs u) (WholeIs v) e f = ap WholeIs f
 whole-answer (WholeIs u) NoNumber e f = differ (omega (arith, e))
 whole-answer NoNumber (WholeIs v) e f = differ (omega (arith, e))
@@ -78,7 +78,7 @@ two-digits high low r q a b = let e = one-reading (omega arith) byte-inj a b in 
 pub four-digits : (d : List ℕ) (r q : Word) → ReadsWord d r → ReadsWord d q → r ≡ q
 four-digits d r q a b = let e = one-reading (omega arith) word-inj a b in word-answer r q (e .0) (e .1)
 
-pub decimal-number : (s : List ℕ) (r q : Whole) → ReadsDecimal s r → ReadsDecimal s q → r ≡ q
+pub decimal-number : (s : List ℕ) (r q : Natural) → ReadsDecimal s r → ReadsDecimal s q → r ≡ q
 decimal-number s r q a b =
     let e = one-reading (omega arith) (λ u v h k f. decimal-inj u v f) a b in
     whole-answer r q (e .0) (e .1)

@@ -13,8 +13,8 @@ pub struct Decimal {
     pub from: usize,
 }
 
-// What decimal digits are read as: a number of 32 bits, or that they are none's.
-pub enum Whole {
+// What decimal digits are read as: a number of 32 bits, or `NoNumber` if no such number is written so.
+pub enum Natural {
     Is(u32),
     NoNumber,
 }
@@ -36,27 +36,27 @@ pub fn digits(n: u64) -> Decimal
 }
 
 // The number whose digits are the characters of s.
-pub fn number_of(s: &[u8]) -> Whole
+pub fn number_of(s: &[u8]) -> Natural
     ensures { λ r. ⌜ ReadsDecimal (now (s .entry)) r ⌝ }
 {
     if 10 < s.len() {
-        return Whole::NoNumber;
+        return Natural::NoNumber;
     }
     let n = guessed(s);
     if 0xFFFF_FFFF < n {
-        return Whole::NoNumber;
+        return Natural::NoNumber;
     }
     let d = digits(n);
     let chars = d.chars;
     let from = d.from;
     if slices::same(&chars[from..20], s) {
-        return Whole::Is(n as u32);
+        return Natural::Is(n as u32);
     }
-    Whole::NoNumber
+    Natural::NoNumber
 }
 
-// The number that the characters of s make, each taken for a digit: what it is if s is a number's. (`0` is 48, so 2 more makes a
-// digit's character end in its value.)
+// The number that the characters of s make if each is taken for a digit. (`0` is 48, so adding 2 makes the character of a digit end in
+// its value.)
 fn guessed(s: &[u8]) -> u64
     requires { ⌜ length (now s) ≤ 10 ⌝ }
     ensures { λ r. ⌜ r ≡ guess 0 (now (s .entry)) ⌝ }

@@ -6,19 +6,19 @@ ghost use Rattle.digits.specs.Paper.Hex.{hexDigit, hexByte, hexWord};
 ghost use Rattle.digits.specs.Paper.Answers.{ReadsDigit, ReadsByte, ReadsWord};
 ghost use Rattle.digits.specs.Work.Hex.{placeOf};
 
-// What digits are read as: a byte, or that they are no digits.
+// What two hex digits are read as: a byte, or `NoDigit` if one of them is no digit.
 pub enum Byte {
     Is(u8),
     NoDigit,
 }
 
-// The same of 16 bits.
+// What four hex digits are read as: a number of 16 bits, or `NoDigit`.
 pub enum Word {
     Is(u16),
     NoDigit,
 }
 
-// The digit table: what is here goes by it, and nothing else does. It is copied at each use, so a byte's two digits share a copy.
+// The digit table, which only this module uses. It is copied at each use, so the two digits of a byte share one copy.
 const DIGITS: [u8; 16] = *b"0123456789ABCDEF";
 
 // The digit of the low four bits of v.

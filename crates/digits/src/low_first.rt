@@ -2,30 +2,30 @@
 ghost use mathlib.Core.Path.{_≡_};
 ghost use Prim.Native.Nat.{_≤_};
 ghost use lib.ListN.{length};
-ghost use Rattle.digits.specs.Paper.LowFirst.{lowFirst};
+ghost use Rattle.digits.specs.Paper.LowFirst.{lowByteFirst};
 ghost use Rattle.digits.specs.Paper.Answers.{ReadsNumber};
 ghost use Rattle.digits.specs.Work.LowFirst.{lowValue};
 
-// What bytes are read as: a number, or that they are not 1, 2 or 4.
+// What bytes are read as: a number, or `Width` if there are not 1, 2 or 4 of them.
 pub enum Number {
     Is(u32),
     Width,
 }
 
 pub fn one(n: u8) -> [u8; 1]
-    ensures { λ r. ⌜ r ≡ lowFirst 1 n ⌝ }
+    ensures { λ r. ⌜ r ≡ lowByteFirst 1 n ⌝ }
 {
     [n]
 }
 
 pub fn two(n: u16) -> [u8; 2]
-    ensures { λ r. ⌜ r ≡ lowFirst 2 n ⌝ }
+    ensures { λ r. ⌜ r ≡ lowByteFirst 2 n ⌝ }
 {
     [(n % 256) as u8, (n / 256 % 256) as u8]
 }
 
 pub fn four(n: u32) -> [u8; 4]
-    ensures { λ r. ⌜ r ≡ lowFirst 4 n ⌝ }
+    ensures { λ r. ⌜ r ≡ lowByteFirst 4 n ⌝ }
 {
     [
         (n % 256) as u8,

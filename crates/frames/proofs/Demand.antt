@@ -7,7 +7,7 @@ use Prim.Native.Nat.{ℕ}
 use lib.ListN.{length}
 use Rattle.digits.specs.Paper.Bytes.{Bytes}
 use Rattle.checks.proofs.Theorems.{burst-found-on-the-buses}
-use Rattle.checks.specs.Paper.Bits.{highFirst, bitsOfBytes}
+use Rattle.checks.specs.Paper.Bits.{highBitFirst, bitsOfBytes}
 use Rattle.checks.specs.Paper.Buses.{nikobusCrc16, nestCrc, nibeXor, homiqCrc, checks}
 use Rattle.checks.specs.Paper.Check.{Check, check}
 use Rattle.checks.specs.Paper.Stretch.{FitIn, Burst}
@@ -39,7 +39,7 @@ CarriedBy kind (some v) = Carried kind v
 abbrev third : List·Memᴰ nestCrc checks
 third = List·Memᴰ·tail (List·Memᴰ·tail (List·Memᴰ·head refl))
 
-nest-carried : (kind : Kind) (m : nests.Nest) → nests.Limits m → nests.Passes m → 16 ≡ stretch kind → highFirst ≡ bitOrder kind
+nest-carried : (kind : Kind) (m : nests.Nest) → nests.Limits m → nests.Passes m → 16 ≡ stretch kind → highBitFirst ≡ bitOrder kind
     → Carried kind (record { check = nestCrc; bytes = nests.covered (m .id) (m .payload); value = m .crc })
 nest-carried kind m l p w o = record { value = p; bytes = covered-bytes (m .id) (m .payload) (l .bytes); one-of = third; wide = w; ordered = o }
 

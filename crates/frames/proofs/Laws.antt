@@ -4,6 +4,6 @@ pub mod Causes
 pub mod Seek
 pub mod Starts
 pub mod Loops
-pub mod Whole
+pub mod OneFrame
 pub mod Hands
 pub mod Runs

@@ -10,7 +10,7 @@ use Rattle.digits.proofs.Laws.Handed.{bytes-of}
 use Rattle.digits.proofs.Laws.Refusals.{answered}
 use Rattle.digits.specs.Paper.Bytes.{part}
 use Rattle.digits.specs.Paper.Hex.{hexByte}
-use Rattle.digits.specs.Paper.LowFirst.{lowFirst}
+use Rattle.digits.specs.Paper.LowFirst.{lowByteFirst}
 use Rattle.frames.specs.Paper.Kinds.{Frame}
 use Rattle.frames.specs.Paper.Runs.{Run, InOrder, TakenUp}
 use Rattle.frames.specs.Paper.Search.{FrameAt, Hit, Leftmost, Searches, frameEnds, payloadEnds, Hands, framePart}
@@ -106,18 +106,18 @@ link-length {f} {p} {crc16} {crc8} r e = made (limits (r .limits) e) (r .laid �
 -- 01, Nest: "payload 0 to 1,024 bytes", and its length stands in the frame
 pub record NestLength (d : Direction) (f : List ℕ) : Type 0 where
   pub payload-length : ℕ
-  pub stands : part (length (nests.preamble d) + 2) (length (nests.preamble d) + 4) f ≡ lowFirst 2 payload-length
+  pub stands : part (length (nests.preamble d) + 2) (length (nests.preamble d) + 4) f ≡ lowByteFirst 2 payload-length
   pub most : payload-length ≤ 1024
   pub frame-length : length f ≡ length (nests.preamble d) + payload-length + 6
 
 pub nest-length : (d : Direction) {f : List ℕ} (r : layout.Form (nests.nest d) f) → NestLength d f
-unfolding lowFirst
+unfolding lowByteFirst
 nest-length d r =
     let m = r .fields in
     rw (layout.Form.laid r)
     (record { payload-length = length (m .payload); stands = stands d m; most = r .limits .short; frame-length = nest-size (nests.preamble d) m })
   where
     stands : (d : Direction) (m : nests.Nest)
-        → part (length (nests.preamble d) + 2) (length (nests.preamble d) + 4) (layout.bytesOf (nests.nest d) m) ≡ lowFirst 2 (length (m .payload))
+        → part (length (nests.preamble d) + 2) (length (nests.preamble d) + 4) (layout.bytesOf (nests.nest d) m) ≡ lowByteFirst 2 (length (m .payload))
     stands Command m = refl
     stands Response m = refl

@@ -17,12 +17,12 @@ use Rattle.digits.specs.Paper.Refusals.{refusalNumber}
 use Rattle.digits.specs.declared.refusal.Refusal.{Refusal}
 use Rattle.frames.specs.Paper.Kinds.{Resolves}
 use Rattle.frames.specs.Paper.Runs.{Run}
-use Rattle.frames.specs.Paper.Search.{FrameAt, Hit, Leftmost, foundNumber, foundHit, Searches, Hands}
-use Rattle.frames.specs.Paper.Whole.{OneFrame, wholeNumber, wholeEnds, TestsWhole}
+use Rattle.frames.specs.Paper.Search.{FrameAt, Hit, Leftmost, foundRefusal, foundHit, Searches, Hands}
+use Rattle.frames.specs.Paper.OneFrame.{OneFrame, framePayloadRefusal, framePayloadEnds, TestsOneFrame}
 use Rattle.frames.specs.declared.Found.{Found}
 use Rattle.frames.specs.declared.Found.the-variants.{At, Refused}
-use Rattle.frames.specs.declared.Whole.{Whole}
-use Rattle.frames.specs.declared.Whole.the-variants.{Is, Refused as NotWhole}
+use Rattle.frames.specs.declared.FramePayload.{FramePayload}
+use Rattle.frames.specs.declared.FramePayload.the-variants.{Is, Refused as NotOneFrame}
 use Rattle.frames.specs.declared.kinds.Resolved.{Resolved}
 use Rattle.frames.specs.declared.kinds.Resolved.the-variants.{Is as Kinded, Unknown}
 use Rattle.frames.proofs.Laws.Kinds.{one-payload, one-kind, known-of, kind-is, kind-not}
@@ -65,15 +65,15 @@ found-cases : (P : Found → Type 0) → ((v : Hit) → P (At (v .start) (v .len
 found-cases P f g (At i n x y) = f (hit i n x y)
 found-cases P f g (Refused why) = g why
 
-found-answer : (r q : Found) → foundNumber r ≡ foundNumber q → foundHit r ≡ foundHit q → r ≡ q
-found-answer = same-answer (λ (v : Hit). At (v .start) (v .len) (v .from) (v .to)) Refused foundNumber foundHit (λ v. refl) (λ why. refl) (λ v. refl) found-cases
+found-answer : (r q : Found) → foundRefusal r ≡ foundRefusal q → foundHit r ≡ foundHit q → r ≡ q
+found-answer = same-answer (λ (v : Hit). At (v .start) (v .len) (v .from) (v .to)) Refused foundRefusal foundHit (λ v. refl) (λ why. refl) (λ v. refl) found-cases
 
 pub searched-one : {k : ℕ} {s : List ℕ} {place : ℕ} (r q : Found) → Searches k s place r → Searches k s place q → r ≡ q
 searched-one r q a b = let e = one-answer leftmost-one a b in found-answer r q (e .0) (e .1)
 
 -- a find is no refusal
 pub hit-or-none : {a b c d : ℕ} {why : Refusal} → At a b c d ≡ Refused why → ⊥
-hit-or-none {why = why} e = let h : 0 ≡ refusalNumber why = ap foundNumber e in omega (arith, some-number why)
+hit-or-none {why = why} e = let h : 0 ≡ refusalNumber why = ap foundRefusal e in omega (arith, some-number why)
 
 -- ---- frames::frame and frames::payload
 
@@ -89,15 +89,15 @@ module _ {k : ℕ} {s : List ℕ} where
       let q = one-payload refl (a .frame) (b .frame) in
       same-ends (a .from-is ∙ q .0 ∙ sym (b .from-is)) (a .to-is ∙ q .1 ∙ sym (b .to-is))
 
-  pub whole-one : (r q : Whole) → TestsWhole k s r → TestsWhole k s q → r ≡ q
+  pub whole-one : (r q : FramePayload) → TestsOneFrame k s r → TestsOneFrame k s q → r ≡ q
   whole-one r q a b = let e = one-answer ends-one a b in whole-answer r q (e .0) (e .1)
     where
-      whole-cases : (P : Whole → Type 0) → ((v : Ends) → P (Is (v .from) (v .to))) → ((why : Refusal) → P (NotWhole why)) → (r : Whole) → P r
+      whole-cases : (P : FramePayload → Type 0) → ((v : Ends) → P (Is (v .from) (v .to))) → ((why : Refusal) → P (NotOneFrame why)) → (r : FramePayload) → P r
       whole-cases P f g (Is x y) = f (record { from = x; to = y })
-      whole-cases P f g (NotWhole why) = g why
+      whole-cases P f g (NotOneFrame why) = g why
 
-      whole-answer : (r q : Whole) → wholeNumber r ≡ wholeNumber q → wholeEnds r ≡ wholeEnds q → r ≡ q
-      whole-answer = same-answer (λ (v : Ends). Is (v .from) (v .to)) NotWhole wholeNumber wholeEnds (λ v. refl) (λ why. refl) (λ v. refl) whole-cases
+      whole-answer : (r q : FramePayload) → framePayloadRefusal r ≡ framePayloadRefusal q → framePayloadEnds r ≡ framePayloadEnds q → r ≡ q
+      whole-answer = same-answer (λ (v : Ends). Is (v .from) (v .to)) NotOneFrame framePayloadRefusal framePayloadEnds (λ v. refl) (λ why. refl) (λ v. refl) whole-cases
 
 -- ---- frames::kinds::of
 

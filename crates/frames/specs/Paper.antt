@@ -1,5 +1,5 @@
 pub mod Kinds
 pub mod Search
 pub mod Runs
-pub mod Whole
+pub mod OneFrame
 pub mod Demand

@@ -1,5 +1,5 @@
 // The kinds. Outside, a kind is a number; inside, it is a case of `Kind`, and what belongs to one kind is an arm of a `match` here.
-use layouts::Spot;
+use layouts::AtHead;
 use layouts::homiq;
 use layouts::nest;
 use layouts::nest::Direction;
@@ -10,7 +10,7 @@ ghost use Prim.Native.Nat.{_+_, _≤_};
 ghost use lib.ListN.{length};
 ghost use Rattle.frames.specs.Paper.Kinds as paper;
 ghost use Rattle.frames.specs.Paper.Kinds.{Resolves, numberOf};
-ghost use Rattle.frames.specs.Work.Frames.{Spotted, mayStart};
+ghost use Rattle.frames.specs.Work.Frames.{HeadAt, mayStart};
 
 // A bus and a direction.
 pub enum Kind {
@@ -65,9 +65,9 @@ pub fn known(number: u8) -> bool
 }
 
 // The frame at a place of a buffer.
-pub(crate) fn at(kind: Kind, buffer: &[u8], place: usize) -> Spot
+pub(crate) fn at(kind: Kind, buffer: &[u8], place: usize) -> AtHead
     requires { ⌜ place ≤ length (now buffer) ⌝ }
-    ensures { λ r. ⌜ Spotted kind (now (buffer .entry)) place (r .len) (r .from) (r .to) ⌝ }
+    ensures { λ r. ⌜ HeadAt kind (now (buffer .entry)) place (r .len) (r .from) (r .to) ⌝ }
 {
     let s = &buffer[place..];
     match kind {
@@ -80,7 +80,7 @@ pub(crate) fn at(kind: Kind, buffer: &[u8], place: usize) -> Spot
 }
 
 // Whether a frame can begin at a place of a buffer, by the first three bytes from there on. (A part of three bytes, whose length the
-// compiler knows: the layouts' own test for so many costs nothing then.)
+// compiler knows: the layouts' own test of the length costs nothing then.)
 pub(crate) fn may_start(kind: Kind, buffer: &[u8], place: usize) -> bool
     requires { ⌜ place + 3 ≤ length (now buffer) ⌝ }
     ensures { λ r. ⌜ r ≡ mayStart kind (now (buffer .entry)) place ⌝ }

@@ -8,7 +8,7 @@ use kinds::Resolved;
 ghost use Rattle.digits.specs.Paper.Part.{zeroEnds, IsPart};
 ghost use Rattle.frames.specs.Paper.Kinds.{numberOf};
 ghost use Rattle.frames.specs.Paper.Search.{Searches, Hands, frameEnds, payloadEnds};
-ghost use Rattle.frames.specs.Paper.Whole.{TestsWhole};
+ghost use Rattle.frames.specs.Paper.OneFrame.{TestsOneFrame};
 
 // What a search finds: the frame's start and length, and the places where its payload begins and ends.
 pub enum Found {
@@ -22,7 +22,7 @@ pub enum Found {
 }
 
 // Whether bytes are one frame: the places where its payload begins and ends.
-pub enum Whole {
+pub enum FramePayload {
     Is { from: usize, to: usize },
     Refused(Refusal),
 }
@@ -35,11 +35,11 @@ pub fn search(kind: u8, buffer: &[u8], place: usize) -> Found
     match kinds::of(kind) {
         Resolved::Is(known) => {
             if buffer.len() < place {
-                return Found::Refused(Refusal::Place);
+                return Found::Refused(Refusal::NoPlace);
             }
             seek::first(known, buffer, place)
         }
-        Resolved::Unknown => Found::Refused(Refusal::Kind),
+        Resolved::Unknown => Found::Refused(Refusal::NoKind),
     }
 }
 
@@ -81,29 +81,29 @@ fn nothing(buffer: &[u8]) -> &[u8]
 }
 
 // Whether s is one frame and no byte more. Refusals: 2 for a kind that is not known, 5 for anything else than one frame.
-pub fn one_frame(kind: u8, s: &[u8]) -> Whole
-    ensures { λ r. ⌜ TestsWhole kind (now (s .entry)) r ⌝ }
+pub fn one_frame(kind: u8, s: &[u8]) -> FramePayload
+    ensures { λ r. ⌜ TestsOneFrame kind (now (s .entry)) r ⌝ }
 {
     match kinds::of(kind) {
         Resolved::Is(known) => one_of_kind(known, s),
-        Resolved::Unknown => Whole::Refused(Refusal::Kind),
+        Resolved::Unknown => FramePayload::Refused(Refusal::NoKind),
     }
 }
 
 // The same for a kind that there is.
-fn one_of_kind(kind: Kind, s: &[u8]) -> Whole
-    ensures { λ r. ⌜ TestsWhole (numberOf kind) (now (s .entry)) r ⌝ }
+fn one_of_kind(kind: Kind, s: &[u8]) -> FramePayload
+    ensures { λ r. ⌜ TestsOneFrame (numberOf kind) (now (s .entry)) r ⌝ }
 {
-    let spot = kinds::at(kind, s, 0);
-    let len = spot.len;
+    let head = kinds::at(kind, s, 0);
+    let len = head.len;
     if len == 0 {
-        return Whole::Refused(Refusal::Limits);
+        return FramePayload::Refused(Refusal::OutOfLimits);
     }
     if len != s.len() {
-        return Whole::Refused(Refusal::Limits);
+        return FramePayload::Refused(Refusal::OutOfLimits);
     }
-    Whole::Is {
-        from: spot.from,
-        to: spot.to,
+    FramePayload::Is {
+        from: head.from,
+        to: head.to,
     }
 }

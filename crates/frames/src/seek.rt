@@ -3,7 +3,7 @@ use super::Found;
 use super::kinds;
 use super::kinds::Kind;
 use digits::refusal::Refusal;
-use layouts::Spot;
+use layouts::AtHead;
 ghost use mathlib.Core.Path.{_≡_};
 ghost use Prim.Native.Nat.{_+_, _^_, _≤_, _<_};
 ghost use lib.ListN.{length};
@@ -35,9 +35,9 @@ fn first_of(kind: Kind, buffer: &[u8], place: usize) -> Found
     let end = buffer.len() - 3;
     let mut at = skip(kind, buffer, place, end);
     while at < end {
-        let spot = kinds::at(kind, buffer, at);
-        if spot.len != 0 {
-            return found(at, spot);
+        let head = kinds::at(kind, buffer, at);
+        if head.len != 0 {
+            return found(at, head);
         }
         at = skip(kind, buffer, at + 1, end);
     }
@@ -63,15 +63,15 @@ fn skip(kind: Kind, buffer: &[u8], place: usize, end: usize) -> usize
 }
 
 // The frame at a place.
-fn found(at: usize, spot: Spot) -> Found
-    requires { ⌜ at + spot .from < 2 ^ 64 ⌝ }
-    requires { ⌜ at + spot .to < 2 ^ 64 ⌝ }
-    ensures { λ r. ⌜ r ≡ At at (spot .len) (at + spot .from) (at + spot .to) ⌝ }
+fn found(at: usize, head: AtHead) -> Found
+    requires { ⌜ at + head .from < 2 ^ 64 ⌝ }
+    requires { ⌜ at + head .to < 2 ^ 64 ⌝ }
+    ensures { λ r. ⌜ r ≡ At at (head .len) (at + head .from) (at + head .to) ⌝ }
 {
     Found::At {
         start: at,
-        len: spot.len,
-        from: at + spot.from,
-        to: at + spot.to,
+        len: head.len,
+        from: at + head.from,
+        to: at + head.to,
     }
 }

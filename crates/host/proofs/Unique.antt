@@ -22,7 +22,7 @@ use Rattle.numbers.specs.Paper.Single.{fitsSingle}
 use Rattle.numbers.specs.Paper.Text.{text, InLimits}
 use Rattle.numbers.proofs.Unique.{same-number, same-value}
 use Rattle.frames.specs.Paper.Search.{Hit, zeroHit, SearchCause, Leftmost}
-use Rattle.frames.specs.Paper.Whole.{WholeCause, OneFrame}
+use Rattle.frames.specs.Paper.OneFrame.{OneFrameCause, OneFrame}
 use Rattle.frames.proofs.Unique.{leftmost-one, ends-one}
 use Rattle.host.specs.Paper.Answers.{hitIn, endsIn, numberIn, flag}
 use Rattle.puts.specs.declared.Written.{Written}
@@ -72,8 +72,8 @@ pub search : {k place : ℕ} {s : List ℕ} (r q : Found) → Answers zeroHit (S
     → Answers zeroHit (SearchCause k s place) (Leftmost k s place) (q .refusal) (hitIn q) → r ≡ q
 search r q a b = let e = one-answer leftmost-one a b in same-found r q (e .0) (e .1)
 
-pub one-frame : {k : ℕ} {s : List ℕ} (r q : Payload) → Answers zeroEnds (WholeCause k s) (OneFrame k s) (r .refusal) (endsIn r)
-    → Answers zeroEnds (WholeCause k s) (OneFrame k s) (q .refusal) (endsIn q) → r ≡ q
+pub one-frame : {k : ℕ} {s : List ℕ} (r q : Payload) → Answers zeroEnds (OneFrameCause k s) (OneFrame k s) (r .refusal) (endsIn r)
+    → Answers zeroEnds (OneFrameCause k s) (OneFrame k s) (q .refusal) (endsIn q) → r ≡ q
 one-frame r q a b = let e = one-answer ends-one a b in same-payload r q (e .0) (e .1)
 
 -- ---- the calls that write from a room's front
@@ -127,7 +127,7 @@ climate {t} {h} r q a b =
     one u v x y =
         ap₂ (λ (f g : Float). record { temperature = f; humidity = g }) (x .first .cast ∙ sym (y .first .cast)) (x .second .cast ∙ sym (y .second .cast))
 
--- ---- the answers' own functions: `numbered` promises an equation
+-- ---- the answers' own functions: `refusal_number` promises an equation
 
 pub counted : (w : Written) (r q : Count) → (r .refusal ≡ writtenRefusal w) × (r .length ≡ writtenCount w)
     → (q .refusal ≡ writtenRefusal w) × (q .length ≡ writtenCount w) → r ≡ q

@@ -75,8 +75,8 @@ pub struct Climate {
     pub humidity: f32,
 }
 
-// The paper's number of a refusal, as an answer has it.
-pub fn numbered(why: Refusal) -> u32
+// The number that document 01 gives a refusal, as an answer has it.
+pub fn refusal_number(why: Refusal) -> u32
     ensures { λ r. ⌜ r ≡ refusalNumber why ⌝ }
 {
     refusal::number(why) as u32
@@ -92,7 +92,7 @@ pub fn counted(w: Written) -> Count
             length: n,
         },
         Written::Refused(why) => Count {
-            refusal: numbered(why),
+            refusal: refusal_number(why),
             length: 0,
         },
     }

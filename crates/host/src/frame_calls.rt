@@ -2,11 +2,11 @@
 use super::answers;
 use super::answers::Found;
 use super::answers::Payload;
-use frames::Whole;
+use frames::FramePayload;
 ghost use Rattle.digits.specs.Paper.Part.{zeroEnds};
 ghost use Rattle.digits.specs.Paper.Refusals.{Answers};
 ghost use Rattle.frames.specs.Paper.Search.{zeroHit, SearchCause, Leftmost};
-ghost use Rattle.frames.specs.Paper.Whole.{WholeCause, OneFrame};
+ghost use Rattle.frames.specs.Paper.OneFrame.{OneFrameCause, OneFrame};
 ghost use Rattle.host.specs.Paper.Answers.{hitIn, endsIn};
 
 // The frame with the smallest start at or after the place: `frames::search`.
@@ -28,7 +28,7 @@ pub extern "C" fn bolsterweft_search(kind: u32, buffer: &[u8], place: usize) -> 
             payload_length: to - from,
         },
         frames::Found::Refused(why) => Found {
-            refusal: answers::numbered(why),
+            refusal: answers::refusal_number(why),
             start: 0,
             length: 0,
             payload_start: 0,
@@ -40,16 +40,16 @@ pub extern "C" fn bolsterweft_search(kind: u32, buffer: &[u8], place: usize) -> 
 // Whether bytes are one frame and no byte more: `frames::one_frame`.
 #[no_mangle]
 pub extern "C" fn bolsterweft_one_frame(kind: u32, frame: &[u8]) -> Payload
-    ensures { λ r. ⌜ Answers zeroEnds (WholeCause kind (now (frame .entry))) (OneFrame kind (now (frame .entry))) (r .refusal) (endsIn r) ⌝ }
+    ensures { λ r. ⌜ Answers zeroEnds (OneFrameCause kind (now (frame .entry))) (OneFrame kind (now (frame .entry))) (r .refusal) (endsIn r) ⌝ }
 {
     match frames::one_frame(answers::kind_byte(kind), frame) {
-        Whole::Is { from, to } => Payload {
+        FramePayload::Is { from, to } => Payload {
             refusal: 0,
             payload_start: from,
             payload_length: to - from,
         },
-        Whole::Refused(why) => Payload {
-            refusal: answers::numbered(why),
+        FramePayload::Refused(why) => Payload {
+            refusal: answers::refusal_number(why),
             payload_start: 0,
             payload_length: 0,
         },

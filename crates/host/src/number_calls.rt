@@ -47,14 +47,14 @@ pub extern "C" fn bolsterweft_number(text: &[u8]) -> Reading
             raw,
         },
         text::Reading::Refused(why) => Reading {
-            refusal: answers::numbered(why),
+            refusal: answers::refusal_number(why),
             decimals: 0,
             raw: 0,
         },
     }
 }
 
-// Writes a number as so many bytes from the front of the room, low byte first, signed unless `is_signed` is 0: `byte_values::write`.
+// Writes a number as `width` bytes from the front of the room, low byte first, signed unless `is_signed` is 0: `byte_values::write`.
 #[no_mangle]
 pub extern "C" fn bolsterweft_value(raw: i64, width: u32, is_signed: u32, room: &mut [u8]) -> Count
     ensures { λ r. ⌜ Wrote (ValueCause width (not (eqb «is_signed» 0)) raw (length (now (room .entry)))) (valueBytes width raw) (now (room .entry)) (r .refusal) (r .length) (now (room .exit)) ⌝ }
@@ -62,7 +62,7 @@ pub extern "C" fn bolsterweft_value(raw: i64, width: u32, is_signed: u32, room: 
     answers::counted(byte_values::write(raw, width as usize, is_signed != 0, room))
 }
 
-// The number that so many bytes are: `byte_values::read`.
+// The number that `width` bytes are: `byte_values::read`.
 #[no_mangle]
 pub extern "C" fn bolsterweft_value_read(bytes: &[u8], width: u32, is_signed: u32) -> Raw
     ensures { λ r. ⌜ Answers (pos 0) (BytesCause width (now (bytes .entry))) (ValueIn width (not (eqb «is_signed» 0)) (now (bytes .entry))) (r .refusal) (r .raw) ⌝ }
@@ -70,7 +70,7 @@ pub extern "C" fn bolsterweft_value_read(bytes: &[u8], width: u32, is_signed: u3
     match byte_values::read(bytes, width as usize, is_signed != 0) {
         byte_values::Value::Is(raw) => Raw { refusal: 0, raw },
         byte_values::Value::Refused(why) => Raw {
-            refusal: answers::numbered(why),
+            refusal: answers::refusal_number(why),
             raw: 0,
         },
     }
@@ -87,7 +87,7 @@ pub extern "C" fn bolsterweft_fits(raw: i64) -> Fit
             fits: holds as u32,
         },
         single::Fit::Refused(why) => Fit {
-            refusal: answers::numbered(why),
+            refusal: answers::refusal_number(why),
             fits: 0,
         },
     }
@@ -114,7 +114,7 @@ pub extern "C" fn bolsterweft_panel(raw: i64) -> PanelValue
             },
         },
         Shown::Refused(why) => PanelValue {
-            refusal: answers::numbered(why),
+            refusal: answers::refusal_number(why),
             size: 0,
             single: 0.0,
             wide: 0.0,
@@ -150,7 +150,7 @@ fn no_climate() -> Climate
     ensures { λ r. ⌜ climateIn r ≡ zeroClimate ⌝ }
 {
     Climate {
-        refusal: answers::numbered(Refusal::Limits),
+        refusal: answers::refusal_number(Refusal::OutOfLimits),
         temperature: 0.0,
         humidity: 0.0,
     }

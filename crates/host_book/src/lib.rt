@@ -1,13 +1,13 @@
 // What a program in C calls for the capture book: its entries, their lines, and a book with an entry more.
-use book::Kept;
+use book::Located;
 use book::Opened;
 use host::answers;
 use host::answers::Count;
 ghost use lib.ListN.{length};
 ghost use Rattle.digits.specs.Paper.Refusals.{Answers};
 ghost use Rattle.puts.specs.Paper.Right.{WroteRight};
-ghost use Rattle.book.specs.Paper.Answers.{OpenCause, Counts, zeroTold, EntryCause, EntryOf, EntryLineCause, EntryLine, ListCause, BookLines, AddCause, Adds};
-ghost use Rattle.host_book.specs.Paper.Answers.{toldIn};
+ghost use Rattle.book.specs.Paper.Answers.{OpenCause, Counts, zeroLocation, EntryCause, EntryOf, EntryLineCause, EntryLine, ListCause, BookLines, AddCause, Adds};
+ghost use Rattle.host_book.specs.Paper.Answers.{locationIn};
 
 // How many entries a book has.
 #[repr(C)]
@@ -34,7 +34,7 @@ pub extern "C" fn bolsterweft_book_open(book: &[u8]) -> Entries
     match book::open(book) {
         Opened::Count(count) => Entries { refusal: 0, count },
         Opened::Refused(why) => Entries {
-            refusal: answers::numbered(why),
+            refusal: answers::refusal_number(why),
             count: 0,
         },
     }
@@ -43,10 +43,10 @@ pub extern "C" fn bolsterweft_book_open(book: &[u8]) -> Entries
 // The entry of a number, counted from 0: `book::entry`.
 #[no_mangle]
 pub extern "C" fn bolsterweft_book_entry(book: &[u8], number: u32) -> Entry
-    ensures { λ r. ⌜ Answers zeroTold (EntryCause (now (book .entry)) number) (EntryOf (now (book .entry)) number) (r .refusal) (toldIn r) ⌝ }
+    ensures { λ r. ⌜ Answers zeroLocation (EntryCause (now (book .entry)) number) (EntryOf (now (book .entry)) number) (r .refusal) (locationIn r) ⌝ }
 {
     match book::entry(book, number as usize) {
-        Kept::Is {
+        Located::Is {
             kind,
             offset,
             from,
@@ -58,8 +58,8 @@ pub extern "C" fn bolsterweft_book_entry(book: &[u8], number: u32) -> Entry
             frame_start: from,
             frame_length: to - from,
         },
-        Kept::Refused(why) => Entry {
-            refusal: answers::numbered(why),
+        Located::Refused(why) => Entry {
+            refusal: answers::refusal_number(why),
             kind: 0,
             offset: 0,
             frame_start: 0,

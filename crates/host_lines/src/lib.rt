@@ -44,7 +44,7 @@ pub extern "C" fn bolsterweft_line_next(
             line_length: behind,
         },
         lines::Listed::Refused(why) => Listed {
-            refusal: answers::numbered(why),
+            refusal: answers::refusal_number(why),
             start: 0,
             length: 0,
             line_length: 0,

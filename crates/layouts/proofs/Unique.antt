@@ -6,17 +6,17 @@ use mathlib.Core.Path.{_≡_}
 use Prim.Native.Nat.{ℕ, suc, _<_}
 use native.Mathlib.Omega.{arith}
 use Rattle.digits.proofs.Unique.{equation, test}
-use Rattle.digits.specs.Paper.Read.{Tells}
+use Rattle.digits.specs.Paper.Read.{Decides}
 use Rattle.checks.specs.Paper.Buses.{homiqCrc}
 use Rattle.checks.specs.Paper.Check.{check}
 use Rattle.layouts.specs.Paper.Chars.{oneOf, all, isHex}
-use Rattle.layouts.specs.Paper.Homiq.{homiq, kept}
+use Rattle.layouts.specs.Paper.Homiq.{homiq, withoutSeparators}
 use Rattle.layouts.specs.Paper.Layout.{Layout, Leads}
 use Rattle.layouts.specs.Paper.Made.{Wire, Payload}
 use Rattle.layouts.specs.Paper.Nest.{preamble, nest}
 use Rattle.layouts.specs.Paper.Nibe.{nibe, commands}
 use Rattle.layouts.specs.Paper.Nikobus.{nikobus}
-use Rattle.layouts.specs.declared.Spot.{Spot}
+use Rattle.layouts.specs.declared.AtHead.{AtHead}
 use Rattle.layouts.specs.declared.nest.Direction.{Direction}
 use Rattle.layouts.specs.declared.nest.Direction.the-variants.{Command, Response}
 use Rattle.layouts.proofs.Laws.Buses.{Bus, one-lead}
@@ -26,38 +26,38 @@ use Rattle.layouts.proofs.Laws.Nibe.{nibe-bus}
 use Rattle.layouts.proofs.Laws.Nikobus.{nikobus-bus}
 
 -- an answer is its three numbers
-abbrev Answered : Layout → List ℕ → Spot → Type 0
+abbrev Answered : Layout → List ℕ → AtHead → Type 0
 Answered l s r = Leads l s (r .len) (r .from) (r .to)
 
-one-spot : {l : Layout} {form : List ℕ → ℕ} {test : List ℕ → Bool} {from to : List ℕ → ℕ} → Bus l form test from to
-    → {s : List ℕ} (r q : Spot) → Answered l s r → Answered l s q → r ≡ q
-one-spot b r q x y = let e = one-lead b x y in same (r .len) (q .len) (r .from) (q .from) (r .to) (q .to) (e .0) (e .1) (e .2)
+one-at-head : {l : Layout} {form : List ℕ → ℕ} {test : List ℕ → Bool} {from to : List ℕ → ℕ} → Bus l form test from to
+    → {s : List ℕ} (r q : AtHead) → Answered l s r → Answered l s q → r ≡ q
+one-at-head b r q x y = let e = one-lead b x y in same (r .len) (q .len) (r .from) (q .from) (r .to) (q .to) (e .0) (e .1) (e .2)
   where
-    same : (i j k l m n : ℕ) → i ≡ j → k ≡ l → m ≡ n → _≡_ {A = Spot} (record { len = i; from = k; to = m }) (record { len = j; from = l; to = n })
+    same : (i j k l m n : ℕ) → i ≡ j → k ≡ l → m ≡ n → _≡_ {A = AtHead} (record { len = i; from = k; to = m }) (record { len = j; from = l; to = n })
     same i j k l m n p q r = rw (p, q, r)
 
 -- nikobus::frame
-pub nikobus-frame : {s : List ℕ} (r q : Spot) → Answered nikobus s r → Answered nikobus s q → r ≡ q
-nikobus-frame = one-spot nikobus-bus
+pub nikobus-frame : {s : List ℕ} (r q : AtHead) → Answered nikobus s r → Answered nikobus s q → r ≡ q
+nikobus-frame = one-at-head nikobus-bus
 
 -- nest::frame
 some : {n : ℕ} → 0 < suc n
 some = omega arith
 
-pub nest-frame : (d : Direction) {s : List ℕ} (r q : Spot) → Answered (nest d) s r → Answered (nest d) s q → r ≡ q
-nest-frame Command = one-spot (nest-bus (preamble Command) some)
-nest-frame Response = one-spot (nest-bus (preamble Response) some)
+pub nest-frame : (d : Direction) {s : List ℕ} (r q : AtHead) → Answered (nest d) s r → Answered (nest d) s q → r ≡ q
+nest-frame Command = one-at-head (nest-bus (preamble Command) some)
+nest-frame Response = one-at-head (nest-bus (preamble Response) some)
 
 -- nibe::frame
-pub nibe-frame : {s : List ℕ} (r q : Spot) → Answered nibe s r → Answered nibe s q → r ≡ q
-nibe-frame = one-spot nibe-bus
+pub nibe-frame : {s : List ℕ} (r q : AtHead) → Answered nibe s r → Answered nibe s q → r ≡ q
+nibe-frame = one-at-head nibe-bus
 
 -- homiq::frame
-pub homiq-frame : {s : List ℕ} (r q : Spot) → Answered homiq s r → Answered homiq s q → r ≡ q
-homiq-frame = one-spot homiq-bus
+pub homiq-frame : {s : List ℕ} (r q : AtHead) → Answered homiq s r → Answered homiq s q → r ≡ q
+homiq-frame = one-at-head homiq-bus
 
 -- homiq::crc: the promise is an equation
-pub homiq-crc : (s : List ℕ) {r q : ℕ} → r ≡ check homiqCrc (kept s) → q ≡ check homiqCrc (kept s) → r ≡ q
+pub homiq-crc : (s : List ℕ) {r q : ℕ} → r ≡ check homiqCrc (withoutSeparators s) → q ≡ check homiqCrc (withoutSeparators s) → r ≡ q
 homiq-crc s = equation
 
 -- nibe::is_command and nikobus::all_digits: so too
@@ -68,5 +68,5 @@ pub nikobus-all-digits : (s : List ℕ) {r q : Bool} → r ≡ all isHex s → q
 nikobus-all-digits s = equation
 
 -- homiq::is_payload
-pub homiq-is-payload : (p : List ℕ) {r q : Bool} → Tells ((w : Wire) × Payload p w) r → Tells ((w : Wire) × Payload p w) q → r ≡ q
+pub homiq-is-payload : (p : List ℕ) {r q : Bool} → Decides ((w : Wire) × Payload p w) r → Decides ((w : Wire) × Payload p w) q → r ≡ q
 homiq-is-payload p = test

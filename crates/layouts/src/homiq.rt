@@ -1,5 +1,5 @@
 // Homiq: `<;CMD;VAL;SRC;DST;ID;TYPE;CRC;>` CR LF.
-use super::Spot;
+use super::AtHead;
 use super::nothing;
 use super::words;
 use checks::homiq::Crc;
@@ -9,20 +9,20 @@ ghost use Prim.Native.Nat.{_≤_, _<_, _^_};
 ghost use lib.ListN.{length, take, drop};
 ghost use Rattle.digits.specs.Paper.Ascii.{ascii};
 ghost use Rattle.digits.specs.Paper.Decimal.{decimal};
-ghost use Rattle.digits.specs.Paper.Read.{Tells};
+ghost use Rattle.digits.specs.Paper.Read.{Decides};
 ghost use Rattle.digits.specs.Work.Decimal.{guess};
 ghost use Rattle.checks.specs.Paper.Check.{feed, check};
 ghost use Rattle.checks.specs.Paper.Buses.{homiqCrc};
 ghost use Rattle.layouts.specs.Paper.Chars.{oneOf};
 ghost use Rattle.layouts.specs.Paper.Layout.{Leads};
-ghost use Rattle.layouts.specs.Paper.Homiq.{homiq, fieldChar, kept};
+ghost use Rattle.layouts.specs.Paper.Homiq.{homiq, fieldChar, withoutSeparators};
 ghost use Rattle.layouts.specs.Paper.Starts.{homiqStarts};
 ghost use Rattle.layouts.specs.Paper.Made.{Wire, Payload};
 ghost use Rattle.layouts.specs.Work.Heads.{leading, onward};
 ghost use Rattle.layouts.specs.Work.Homiq.{fieldLen, isFigure, numberIn, numberLen, typeLen, headLen, fiveLen};
 
 // The frame at the head of s; its payload is CMD to TYPE.
-pub fn frame(s: &[u8]) -> Spot
+pub fn frame(s: &[u8]) -> AtHead
     ensures { λ r. ⌜ Leads homiq (now (s .entry)) (r .len) (r .from) (r .to) ⌝ }
 {
     let before = head(s);
@@ -35,7 +35,7 @@ pub fn frame(s: &[u8]) -> Spot
     if crc(&s[2..before]) as u16 != claimed.value {
         return nothing();
     }
-    Spot {
+    AtHead {
         len: n,
         from: 2,
         to: before - 1,
@@ -57,7 +57,7 @@ pub fn may_start(s: &[u8]) -> bool
 
 // The CRC that closes a payload, CMD to TYPE: over its characters without the separators.
 pub fn crc(s: &[u8]) -> u8
-    ensures { λ r. ⌜ r ≡ check homiqCrc (kept (now (s .entry))) ⌝ }
+    ensures { λ r. ⌜ r ≡ check homiqCrc (withoutSeparators (now (s .entry))) ⌝ }
 {
     let mut sum = Crc::new();
     let mut i = 0;
@@ -70,7 +70,7 @@ pub fn crc(s: &[u8]) -> u8
 
 // Whether p is CMD;VAL;SRC;DST;ID;TYPE of fields within their limits: five fields with their `;`, and then TYPE, with which it ends.
 pub fn is_payload(p: &[u8]) -> bool
-    ensures { λ r. ⌜ Tells ((w : Wire) × Payload (now (p .entry)) w) r ⌝ }
+    ensures { λ r. ⌜ Decides ((w : Wire) × Payload (now (p .entry)) w) r ⌝ }
 {
     let last = five(p);
     if last == 0 {
@@ -115,7 +115,7 @@ fn head(s: &[u8]) -> usize
     type_at(s, f)
 }
 
-// The end of a field of at most so many characters, with its `;`.
+// The end of a field of at most `most` characters, with its `;`.
 fn field_at(s: &[u8], at: usize, most: usize) -> usize
     requires { ⌜ at ≤ length (now s) ⌝ }
     requires { ⌜ most < 2 ^ 32 ⌝ }
@@ -296,9 +296,9 @@ fn type_of(s: &[u8]) -> usize
     words::word(s, b"a;")
 }
 
-// The CRC after a character, where that is not `;`.
+// The CRC after a character, if that is not `;`.
 fn crc_on(crc: Crc, c: u8) -> Crc
-    ensures { λ r. ⌜ r .value ≡ feed homiqCrc (crc .value) (kept (c ∷ [])) ⌝ }
+    ensures { λ r. ⌜ r .value ≡ feed homiqCrc (crc .value) (withoutSeparators (c ∷ [])) ⌝ }
 {
     if c != b';' {
         return crc.byte(c);

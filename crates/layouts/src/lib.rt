@@ -8,19 +8,19 @@ mod words;
 ghost use mathlib.Core.Path.{_≡_};
 
 // A frame at the head of a slice: how long it is, and where in it its payload begins and ends. All zeros where no frame is there.
-pub struct Spot {
+pub struct AtHead {
     pub len: usize,
     pub from: usize,
     pub to: usize,
 }
 
 // No frame.
-fn nothing() -> Spot
+fn nothing() -> AtHead
     ensures { λ r. ⌜ r .len ≡ 0 ⌝ }
     ensures { λ r. ⌜ r .from ≡ 0 ⌝ }
     ensures { λ r. ⌜ r .to ≡ 0 ⌝ }
 {
-    Spot {
+    AtHead {
         len: 0,
         from: 0,
         to: 0,

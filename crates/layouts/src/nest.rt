@@ -1,5 +1,5 @@
 // Nest: preamble; id, length, payload; CRC.
-use super::Spot;
+use super::AtHead;
 use super::nothing;
 use super::words;
 use checks::nest::Crc;
@@ -22,7 +22,7 @@ pub enum Direction {
 }
 
 // The frame at the head of s.
-pub fn frame(direction: Direction, s: &[u8]) -> Spot
+pub fn frame(direction: Direction, s: &[u8]) -> AtHead
     ensures { λ r. ⌜ Leads (nest direction) (now (s .entry)) (r .len) (r .from) (r .to) ⌝ }
 {
     match direction {
@@ -57,7 +57,7 @@ fn three(s: &[u8], first: u8, second: u8, third: u8) -> bool
 }
 
 // The frame with this preamble.
-fn framed(s: &[u8], preamble: &[u8]) -> Spot
+fn framed(s: &[u8], preamble: &[u8]) -> AtHead
     requires { ⌜ 0 < length (now preamble) ⌝ }
     ensures { λ r. ⌜ Leads (nestWith (now (preamble .entry))) (now (s .entry)) (r .len) (r .from) (r .to) ⌝ }
 {
@@ -69,7 +69,7 @@ fn framed(s: &[u8], preamble: &[u8]) -> Spot
     if !passes(&s[before..n]) {
         return nothing();
     }
-    Spot {
+    AtHead {
         len: n,
         from: before + 4,
         to: n - 2,

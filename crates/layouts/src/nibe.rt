@@ -1,5 +1,5 @@
 // Nibe: C0, command, length, data, check.
-use super::Spot;
+use super::AtHead;
 use super::nothing;
 use checks::nibe::Xor;
 ghost use mathlib.Core.Path.{_≡_};
@@ -12,7 +12,7 @@ ghost use Rattle.layouts.specs.Paper.Starts.{nibeStarts};
 ghost use Rattle.layouts.specs.Work.Nibe.{nibeFormLen, nibePasses};
 
 // The frame at the head of s; its payload is the data.
-pub fn frame(s: &[u8]) -> Spot
+pub fn frame(s: &[u8]) -> AtHead
     ensures { λ r. ⌜ Leads nibe (now (s .entry)) (r .len) (r .from) (r .to) ⌝ }
 {
     let n = form(s);
@@ -22,7 +22,7 @@ pub fn frame(s: &[u8]) -> Spot
     if !passes(&s[0..n]) {
         return nothing();
     }
-    Spot {
+    AtHead {
         len: n,
         from: 3,
         to: n - 1,

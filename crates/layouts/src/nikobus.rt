@@ -1,5 +1,5 @@
 // Nikobus: link, press and tail.
-use super::Spot;
+use super::AtHead;
 use super::nothing;
 use super::words;
 use checks::nikobus::Crc8;
@@ -21,11 +21,11 @@ ghost use Rattle.layouts.specs.Work.Heads.{onward};
 ghost use Rattle.layouts.specs.Work.Nikobus as work;
 ghost use Rattle.layouts.specs.Work.Nikobus.{hexPair, bytesOf, digitsLen, llOf, linkFormLen, linkLen, pressLen, tailLen};
 
-// So many characters are tested at a time, with no branch between them: the compiler makes vector instructions of that.
+// This many characters are tested at a time, with no branch between them: the compiler makes vector instructions of that.
 const BLOCK: usize = 32;
 
 // The frame at the head of s; its payload is a link's digits or a press's, and a tail has none.
-pub fn frame(s: &[u8]) -> Spot
+pub fn frame(s: &[u8]) -> AtHead
     ensures { λ r. ⌜ Leads nikobus (now (s .entry)) (r .len) (r .from) (r .to) ⌝ }
 {
     if s.len() == 0 {
@@ -58,7 +58,7 @@ pub fn may_start(s: &[u8]) -> bool
 }
 
 // A link.
-fn linked(s: &[u8]) -> Spot
+fn linked(s: &[u8]) -> AtHead
     requires { ⌜ getD (now s) 0 0 ≡ 36 ⌝ }
     ensures { λ r. ⌜ Leads nikobus (now (s .entry)) (r .len) (r .from) (r .to) ⌝ }
 {
@@ -66,7 +66,7 @@ fn linked(s: &[u8]) -> Spot
     if n == 0 {
         return nothing();
     }
-    Spot {
+    AtHead {
         len: n,
         from: 3,
         to: n - 7,
@@ -74,20 +74,20 @@ fn linked(s: &[u8]) -> Spot
 }
 
 // A press or a tail.
-fn button(s: &[u8]) -> Spot
+fn button(s: &[u8]) -> AtHead
     requires { ⌜ getD (now s) 0 0 ≡ 35 ⌝ }
     ensures { λ r. ⌜ Leads nikobus (now (s .entry)) (r .len) (r .from) (r .to) ⌝ }
 {
     let m = press(s);
     if m != 0 {
-        return Spot {
+        return AtHead {
             len: m,
             from: 2,
             to: 8,
         };
     }
     let k = words::word(s, b"#E1\r");
-    Spot {
+    AtHead {
         len: k,
         from: k,
         to: k,
@@ -132,7 +132,7 @@ fn link_form(s: &[u8]) -> usize
     words::word_at(s, end, b"\r")
 }
 
-// LL, where `$` and an LL that there may be are at the head of s; else 0.
+// LL, if `$` and an allowed LL are at the head of s; else 0.
 fn ll(s: &[u8]) -> usize
     ensures { λ r. ⌜ r ≡ llOf (now (s .entry)) ⌝ }
 {
@@ -165,7 +165,7 @@ fn digits_at(s: &[u8], at: usize, k: usize) -> usize
     words::onto(at, digits(&s[at..], k))
 }
 
-// k where s starts with so many digits, else 0.
+// k if s starts with k digits, else 0.
 fn digits(s: &[u8], k: usize) -> usize
     ensures { λ r. ⌜ r ≡ digitsLen k (now (s .entry)) ⌝ }
 {

@@ -22,7 +22,7 @@ pub(crate) fn starts_with(s: &[u8], p: &[u8]) -> bool
     true
 }
 
-// The length of p, where s starts with it, else 0.
+// The length of p, if s starts with it, else 0.
 pub(crate) fn word(s: &[u8], p: &[u8]) -> usize
     ensures { λ r. ⌜ r ≡ wordLen (now (p .entry)) (now (s .entry)) ⌝ }
 {
@@ -43,7 +43,7 @@ pub(crate) fn word_at(s: &[u8], at: usize, p: &[u8]) -> usize
     onto(at, word(&s[at..], p))
 }
 
-// A place and a length behind it, 0 where either is.
+// A place and a length behind it; 0 if either is.
 pub(crate) fn onto(at: usize, n: usize) -> usize
     requires { ⌜ at + n < 2 ^ 64 ⌝ }
     ensures { λ r. ⌜ r ≡ on at n ⌝ }
@@ -57,7 +57,7 @@ pub(crate) fn onto(at: usize, n: usize) -> usize
     at + n
 }
 
-// The first k bytes of s, or all where there are no more.
+// The first k bytes of s, or all if there are no more.
 pub(crate) fn first(s: &[u8], k: usize) -> &[u8]
     ensures { λ r. ⌜ now r ≡ take k (now (s .entry)) ⌝ }
 {

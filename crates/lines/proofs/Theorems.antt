@@ -5,7 +5,7 @@ use mathlib.Core.Path.{_≡_, refl, sym, ap, _∙_, subst}
 use Prim.Native.Nat.{ℕ, _+_, _-_, _*_, _^_, _≤_, _<_}
 use native.Mathlib.Omega.{arith}
 use lib.ListN.{length, take, drop}
-use Rattle.digits.specs.declared.refusal.Refusal.the-variants.{Room}
+use Rattle.digits.specs.declared.refusal.Refusal.the-variants.{NoRoom}
 use Rattle.digits.proofs.Laws.Refusals.{answered}
 use Rattle.frames.specs.Paper.Kinds.{Frame}
 use Rattle.frames.specs.Paper.Search.{no-frame, no-kind, no-place}
@@ -20,7 +20,7 @@ use Rattle.messages.specs.declared.Tag.{Tag}
 use Rattle.messages.proofs.Laws.Frames.{one-content}
 use Rattle.messages.proofs.Laws.Says.{one-said}
 use Rattle.messages.proofs.Theorems.{has-message}
-use Rattle.puts.specs.Paper.Put.{last}
+use Rattle.puts.specs.Paper.Put.{largestPlace}
 use Rattle.puts.specs.Paper.Wrote.{writtenRefusal, writtenCount}
 use Rattle.puts.specs.declared.Written.{Written}
 use Rattle.puts.proofs.Laws.Right.{written-right, rest-kept}
@@ -62,7 +62,7 @@ pub line-room : {k : ℕ} {f : List ℕ} {at : ℕ} {t : List ℕ} → at < 10 ^
 line-room h l = sizes.line-room h l
 
 -- so a room of that size is never refused with 4
-pub never-short : {k : ℕ} {f : List ℕ} {at room : ℕ} → at ≤ last → lineRoom (length f) ≤ room → LineCause k f at room 4 → ⊥
+pub never-short : {k : ℕ} {f : List ℕ} {at room : ℕ} → at ≤ largestPlace → lineRoom (length f) ≤ room → LineCause k f at room 4 → ⊥
 never-short {f = f} {at = at} h r (short l g) = let few : at < 10 ^ 20 = omega arith in omega (arith, line-room few l)
 
 -- no line of a frame is longer than 8,368 bytes
@@ -98,14 +98,14 @@ content-of-frame {k} {f} x tag p {at} w l =
 
 -- A LINE IS WITHIN 8 TIMES WHAT STANDS BESIDE ITS MESSAGE AND 352 BYTES (place and length are numbers of 64 bits): so such a room is never
 -- refused with 4
-pub never-short-said : (e : Coded) (s : List ℕ) {at len left : ℕ} → at ≤ last → len ≤ last → 8 * length s + 352 ≤ left
+pub never-short-said : (e : Coded) (s : List ℕ) {at len left : ℕ} → at ≤ largestPlace → len ≤ largestPlace → 8 * length s + 352 ≤ left
     → SaidCause (Says e s) at len left 4 → ⊥
 never-short-said e s h k r (short l g) = omega (arith, sizes.line-bounded e s h k l .most)
 
 -- ---- THE NEXT LINE OF A CAPTURE
 
 -- no line of a frame is longer than 8,368 bytes, so where so many are left of the room it is not refused with 4
-pub never-short-next : {k : ℕ} {s : List ℕ} {place left : ℕ} → length s ≤ last → 8368 ≤ left → NextCause k s place left 4 → ⊥
+pub never-short-next : {k : ℕ} {s : List ℕ} {place left : ℕ} → length s ≤ largestPlace → 8368 ≤ left → NextCause k s place left 4 → ⊥
 never-short-next {k} {s} {place} {left} h r c = go 4 c refl
   where
     go : (n : ℕ) → NextCause k s place left n → n ≡ 4 → ⊥
@@ -126,5 +126,5 @@ module _ {k : ℕ} {s : List ℕ} {place : ℕ} {room : List ℕ} {to start len 
       let q = nexts.next-placed {room = room} {to = to} (size-at .found) (size-at .line) (all (omega (arith, n))) in
       unique.next k s place room to r (At start len (to + length (size-at .text))) p q .0 ∙ ap (λ (i : ℕ). At start len (to + i)) (sym n)
 
-  pub measured-refused : length room - to < size → r ≡ Refused Room
-  measured-refused h = unique.next k s place room to r (Refused Room) p (nexts.next-placed (size-at .found) (size-at .line) (none (omega (arith, size-at .size-is)))) .0
+  pub measured-refused : length room - to < size → r ≡ Refused NoRoom
+  measured-refused h = unique.next k s place room to r (Refused NoRoom) p (nexts.next-placed (size-at .found) (size-at .line) (none (omega (arith, size-at .size-is)))) .0

@@ -11,7 +11,7 @@ use Rattle.messages.specs.declared.Tag.{Tag}
 use Rattle.puts.specs.declared.Written.{Written}
 use Rattle.puts.proofs.Laws.Right.{one-wrote}
 use Rattle.puts.proofs.Unique.{written-answer}
-use Rattle.lines.specs.Paper.Answers.{WritesLine, WritesSaid, endedNumber, endedPlace, PutsContent, Placed, listedNumber, listedPlaced, PutsNext, Size, measuredNumber, measuredSize, Measures}
+use Rattle.lines.specs.Paper.Answers.{WritesLine, WritesSaid, endedRefusal, endedPlace, PutsContent, Placed, listedRefusal, listedPlaced, PutsNext, Size, measuredRefusal, measuredSize, Measures}
 use Rattle.lines.specs.declared.Ended.{Ended}
 use Rattle.lines.specs.declared.Ended.the-variants.{At as EndedAt, Refused as Unended}
 use Rattle.lines.specs.declared.Listed.{Listed}
@@ -37,8 +37,8 @@ ended-cases : (P : Ended → Type 0) → ((n : ℕ) → P (EndedAt n)) → ((why
 ended-cases P f g (EndedAt n) = f n
 ended-cases P f g (Unended why) = g why
 
-ended-answer : (r q : Ended) → endedNumber r ≡ endedNumber q → endedPlace r ≡ endedPlace q → r ≡ q
-ended-answer = same-answer EndedAt Unended endedNumber endedPlace (λ n. refl) (λ why. refl) (λ n. refl) ended-cases
+ended-answer : (r q : Ended) → endedRefusal r ≡ endedRefusal q → endedPlace r ≡ endedPlace q → r ≡ q
+ended-answer = same-answer EndedAt Unended endedRefusal endedPlace (λ n. refl) (λ why. refl) (λ n. refl) ended-cases
 
 pub put-content : (t : Tag) (p : List ℕ) {at len : ℕ} {room : List ℕ} {to : ℕ} {x y : List ℕ} (r q : Ended) → PutsContent t p at len room to r x
     → PutsContent t p at len room to q y → (r ≡ q) × (x ≡ y)
@@ -51,16 +51,16 @@ listed-cases : (P : Listed → Type 0) → ((v : Placed) → P (At (v .start) (v
 listed-cases P f g (At start len behind) = f (record { start = start; len = len; behind = behind })
 listed-cases P f g (Refused why) = g why
 
-listed-answer : (r q : Listed) → listedNumber r ≡ listedNumber q → listedPlaced r ≡ listedPlaced q → r ≡ q
-listed-answer = same-answer (λ (v : Placed). At (v .start) (v .len) (v .behind)) Refused listedNumber listedPlaced (λ v. refl) (λ why. refl) (λ v. refl) listed-cases
+listed-answer : (r q : Listed) → listedRefusal r ≡ listedRefusal q → listedPlaced r ≡ listedPlaced q → r ≡ q
+listed-answer = same-answer (λ (v : Placed). At (v .start) (v .len) (v .behind)) Refused listedRefusal listedPlaced (λ v. refl) (λ why. refl) (λ v. refl) listed-cases
 
 measured-cases : (P : Measured → Type 0) → ((v : Size) → P (SizedAt (v .start) (v .len) (v .size))) → ((why : Refusal) → P (Unmeasured why)) → (r : Measured) → P r
 measured-cases P f g (SizedAt start len size) = f (record { start = start; len = len; size = size })
 measured-cases P f g (Unmeasured why) = g why
 
-measured-answer : (r q : Measured) → measuredNumber r ≡ measuredNumber q → measuredSize r ≡ measuredSize q → r ≡ q
+measured-answer : (r q : Measured) → measuredRefusal r ≡ measuredRefusal q → measuredSize r ≡ measuredSize q → r ≡ q
 measured-answer =
-    same-answer (λ (v : Size). SizedAt (v .start) (v .len) (v .size)) Unmeasured measuredNumber measuredSize (λ v. refl) (λ why. refl) (λ v. refl) measured-cases
+    same-answer (λ (v : Size). SizedAt (v .start) (v .len) (v .size)) Unmeasured measuredRefusal measuredSize (λ v. refl) (λ why. refl) (λ v. refl) measured-cases
 
 module _ (k : ℕ) (s : List ℕ) (place : ℕ) where
   pub next : (room : List ℕ) (to : ℕ) (r q : Listed) {x y : List ℕ} → PutsNext k s place room to r x → PutsNext k s place room to q y → (r ≡ q) × (x ≡ y)

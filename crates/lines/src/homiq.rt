@@ -13,7 +13,7 @@ ghost use Rattle.puts.specs.Paper.Put.{Put};
 ghost use Rattle.lines.specs.Work.Put.{commaed, homiqName, fieldMembers};
 
 // The content are CMD to TYPE. Their ID is a number's digits.
-pub(crate) fn rest(message: Homiq, content: &[u8], room: &mut [u8], at: usize) -> usize
+pub(crate) fn name_and_members(message: Homiq, content: &[u8], room: &mut [u8], at: usize) -> usize
     ensures { λ r. ⌜ Put (now (room .entry)) (now (room .exit)) at r (homiqName message ++ commaed (fieldMembers (now (content .entry)))) ⌝ }
 {
     let a = name(message, room, at);
@@ -63,6 +63,6 @@ fn name(message: Homiq, room: &mut [u8], at: usize) -> usize
         Homiq::Input => puts::bytes(b"input\"", room, at),
         Homiq::Shutter => puts::bytes(b"shutter\"", room, at),
         Homiq::Beat => puts::bytes(b"beat\"", room, at),
-        Homiq::Homiq => puts::bytes(b"homiq\"", room, at),
+        Homiq::Other => puts::bytes(b"homiq\"", room, at),
     }
 }

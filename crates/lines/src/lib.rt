@@ -7,9 +7,9 @@ mod nikobus;
 
 use digits::refusal::Refusal;
 use messages::Decoded;
+use messages::FoundMessage;
 use messages::Meant;
 use messages::Message;
-use messages::Seen;
 use messages::Standing;
 use messages::Tag;
 use puts::Written;
@@ -20,10 +20,10 @@ ghost use lib.ListN.{length};
 ghost use Rattle.puts.specs.Paper.Put.{Put};
 ghost use Rattle.messages.specs.Paper.Says.{Says};
 ghost use Rattle.lines.specs.Paper.Answers.{WritesLine, WritesSaid, PutsContent, PutsNext, Measures};
-ghost use Rattle.lines.specs.Work.Put.{restOf, put, Bounded, AllOrNone};
+ghost use Rattle.lines.specs.Work.Put.{nameAndMembers, put, Bounded, AllOrNone};
 ghost use Rattle.lines.specs.Work.Tried.{Tries, Surely};
 
-// No line is longer than so many bytes, and so many more for each byte that stands beside its message.
+// The bound on a line's length: `MOST` bytes, and `MOST_A_BYTE` more for each byte that stands beside its message.
 const MOST: usize = 352;
 
 const MOST_A_BYTE: usize = 8;
@@ -54,8 +54,7 @@ pub enum Measured {
     Refused(Refusal),
 }
 
-// What comes of trying to put the next line: where it ends; or the start of its frame, where it might not fit and is not
-// put.
+// What comes of trying to put the next line: where it ends; or the start of its frame, if it might not fit and is not put.
 pub(crate) enum Tried {
     At {
         start: usize,
@@ -79,8 +78,8 @@ pub fn write(kind: u8, frame: &[u8], at: usize, room: &mut [u8]) -> Written
     }
 }
 
-// Puts the line of a message, with its content beside it, at a place of the room: all of it, or none where too little of the room is left
-// behind that place. Refusals: 5 where message and content say no message of the table, 4 for a room that is too short.
+// Puts the line of a message, with its content beside it, at a place of the room: all of it, or none if too little of the room is left
+// behind that place. Refusals: 5 if message and content say no message of the table, 4 for a room that is too short.
 pub fn of(
     message: Message,
     content: &[u8],
@@ -93,7 +92,7 @@ pub fn of(
 {
     match messages::allowed(message, content) {
         Standing::Good => placed(message, content, at, len, room, to),
-        Standing::Refused(why) => Written::Refused(Refusal::Limits),
+        Standing::Refused(why) => Written::Refused(Refusal::OutOfLimits),
     }
 }
 
@@ -116,9 +115,9 @@ pub fn put_content(
     }
 }
 
-// Puts the line of the frame with the smallest start at or after a place of the capture, at a place of the room: all of
-// it, or none where too little of the room is left behind that place. So a capture is listed line by line, each frame
-// tested once. Refusals: those of the search, 4 for a room that is too short.
+// Finds the frame with the smallest start at or after a place of the capture, and puts its line at a place of the room: all of it, or
+// none if too little of the room is left there. So a capture is listed line by line, each frame tested once. Refusals: those of the
+// search, 4 for a room that is too short.
 pub fn next(kind: u8, capture: &[u8], place: usize, room: &mut [u8], to: usize) -> Listed
     ensures { λ r. ⌜ PutsNext kind (now (capture .entry)) place (now (room .entry)) to r (now (room .exit)) ⌝ }
 {
@@ -146,7 +145,7 @@ pub fn measure(kind: u8, capture: &[u8], place: usize) -> Measured
             size: behind,
         },
         // never: a line that is put whatever the room is leaves no doubt
-        Tried::Unsure(start) => Measured::Refused(Refusal::Room),
+        Tried::Unsure(start) => Measured::Refused(Refusal::NoRoom),
         Tried::Refused(why) => Measured::Refused(why),
     }
 }
@@ -158,7 +157,7 @@ fn after_measuring(kind: u8, capture: &[u8], place: usize, room: &mut [u8], to: 
     match measure(kind, capture, place) {
         Measured::At { start, len, size } => {
             if left(room.len(), to) < size {
-                return Listed::Refused(Refusal::Room);
+                return Listed::Refused(Refusal::NoRoom);
             }
             attempt(kind, capture, place, true, room, to);
             Listed::At {
@@ -171,14 +170,14 @@ fn after_measuring(kind: u8, capture: &[u8], place: usize, room: &mut [u8], to: 
     }
 }
 
-// Puts the next line as far as the room goes, where that is wanted whatever the room is, or where no line with such a
-// content is longer than what is left of it. There is one call of the search and one of the writer for `next` and
-// `measure` together, and so the compiler makes one function of all three.
+// Puts the next line as far as the room goes, if `sure` asks for that, or if no line with a content of this length is longer than what is
+// left of the room. There is one call of the search and one of the writer for `next` and `measure` together, and so the compiler makes
+// one function of all three.
 fn attempt(kind: u8, capture: &[u8], place: usize, sure: bool, room: &mut [u8], to: usize) -> Tried
     ensures { λ r. ⌜ Tries kind (now (capture .entry)) place sure (now (room .entry)) to r (now (room .exit)) ⌝ }
 {
     match messages::find(kind, capture, place) {
-        Seen::At {
+        FoundMessage::At {
             start,
             len,
             from,
@@ -194,11 +193,11 @@ fn attempt(kind: u8, capture: &[u8], place: usize, sure: bool, room: &mut [u8], 
                 behind: line(message, &capture[from..end], start, len, room, to),
             }
         }
-        Seen::Refused(why) => Tried::Refused(why),
+        FoundMessage::Refused(why) => Tried::Refused(why),
     }
 }
 
-// Whether a line is put where so many bytes stand beside its message, and so many are left of the room.
+// Whether a line is put if `beside` bytes stand beside its message and `bytes` bytes of the room are left.
 fn surely(sure: bool, beside: usize, bytes: usize) -> bool
     ensures { λ r. ⌜ Surely sure beside bytes r ⌝ }
 {
@@ -211,7 +210,7 @@ fn surely(sure: bool, beside: usize, bytes: usize) -> bool
     beside <= (bytes - MOST) / MOST_A_BYTE
 }
 
-// Puts a line at a place of the room: all of it, or none where too little of the room is left.
+// Puts a line at a place of the room: all of it, or none if too little of the room is left.
 fn placed(
     message: Message,
     content: &[u8],
@@ -224,12 +223,12 @@ fn placed(
     ensures { λ r. ⌜ AllOrNone (put message (now (content .entry)) at len) (now (room .entry)) to r (now (room .exit)) ⌝ }
 {
     if !fits(message, content, at, len, left(room.len(), to)) {
-        return Written::Refused(Refusal::Room);
+        return Written::Refused(Refusal::NoRoom);
     }
     Written::Bytes(line(message, content, at, len, room, to) - to)
 }
 
-// How much of a room of so many bytes is left behind a place.
+// How much of a room of `room` bytes is left behind a place.
 fn left(room: usize, to: usize) -> usize
     ensures { λ r. ⌜ r ≡ room - to ⌝ }
 {
@@ -239,7 +238,7 @@ fn left(room: usize, to: usize) -> usize
     room - to
 }
 
-// Whether a line fits into so many bytes. Only where it might not is it measured.
+// Whether a line fits into `bytes` bytes. It is measured only if it might not.
 fn fits(message: Message, content: &[u8], at: usize, len: usize, bytes: usize) -> bool
     requires { ⌜ Bounded (put message (now content) at len) (length (now content)) ⌝ }
     ensures { λ r. ⌜ r ≡ leb (length (put message (now (content .entry)) at len)) bytes ⌝ }
@@ -250,7 +249,7 @@ fn fits(message: Message, content: &[u8], at: usize, len: usize, bytes: usize) -
     size(message, content, at, len) <= bytes
 }
 
-// How long a line is: the writer in a room too short.
+// How long a line is: the writer measures it in a room of one byte.
 fn size(message: Message, content: &[u8], at: usize, len: usize) -> usize
     requires { ⌜ Bounded (put message (now content) at len) (length (now content)) ⌝ }
     ensures { λ r. ⌜ r ≡ length (put message (now (content .entry)) at len) ⌝ }
@@ -275,19 +274,19 @@ fn line(
     let c = puts::bytes(b",\"len\":", room, b);
     let d = puts::whole(len as u64, room, c);
     let e = puts::bytes(b",\"msg\":\"", room, d);
-    let f = rest(message, content, room, e);
+    let f = name_and_members(message, content, room, e);
     puts::bytes(b"}\n", room, f)
 }
 
 // Puts a line from the message's name to its last member.
-fn rest(message: Message, content: &[u8], room: &mut [u8], at: usize) -> usize
-    ensures { λ r. ⌜ Put (now (room .entry)) (now (room .exit)) at r (restOf message (now (content .entry))) ⌝ }
+fn name_and_members(message: Message, content: &[u8], room: &mut [u8], at: usize) -> usize
+    ensures { λ r. ⌜ Put (now (room .entry)) (now (room .exit)) at r (nameAndMembers message (now (content .entry))) ⌝ }
 {
     match message {
-        Message::Nikobus(m) => nikobus::rest(m, content, room, at),
+        Message::Nikobus(m) => nikobus::name_and_members(m, content, room, at),
         Message::Command { id } => nest::command(id, content, room, at),
-        Message::Response(m) => nest::rest(m, content, room, at),
-        Message::Nibe(m) => nibe::rest(m, content, room, at),
-        Message::Homiq(m) => homiq::rest(m, content, room, at),
+        Message::Response(m) => nest::name_and_members(m, content, room, at),
+        Message::Nibe(m) => nibe::name_and_members(m, content, room, at),
+        Message::Homiq(m) => homiq::name_and_members(m, content, room, at),
     }
 }

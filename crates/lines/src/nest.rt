@@ -9,10 +9,15 @@ ghost use Rattle.digits.specs.Paper.Ascii.{ascii};
 ghost use Rattle.json.specs.Paper.Json as paper;
 ghost use Rattle.messages.specs.Paper.Message.{command, climate, text, response};
 ghost use Rattle.puts.specs.Paper.Put.{Put};
-ghost use Rattle.lines.specs.Work.Put.{named, stateMembers, responseRest};
+ghost use Rattle.lines.specs.Work.Put.{named, stateMembers, responseNameAndMembers};
 
-pub(crate) fn rest(message: Response, payload: &[u8], room: &mut [u8], at: usize) -> usize
-    ensures { λ r. ⌜ Put (now (room .entry)) (now (room .exit)) at r (responseRest message (now (payload .entry))) ⌝ }
+pub(crate) fn name_and_members(
+    message: Response,
+    payload: &[u8],
+    room: &mut [u8],
+    at: usize,
+) -> usize
+    ensures { λ r. ⌜ Put (now (room .entry)) (now (room .exit)) at r (responseNameAndMembers message (now (payload .entry))) ⌝ }
 {
     match message {
         Response::Climate {
@@ -23,7 +28,7 @@ pub(crate) fn rest(message: Response, payload: &[u8], room: &mut [u8], at: usize
         Response::Break => puts::bytes(b"break\"", room, at),
         Response::End => puts::bytes(b"end\"", room, at),
         Response::Text { id } => text(id, payload, room, at),
-        Response::Response { id } => response(id, payload, room, at),
+        Response::Other { id } => response(id, payload, room, at),
     }
 }
 

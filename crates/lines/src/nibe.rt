@@ -14,7 +14,7 @@ ghost use Rattle.puts.specs.Paper.Put.{Put};
 ghost use Rattle.lines.specs.Work.Put.{commaed, named};
 
 // The content are a message's data.
-pub(crate) fn rest(message: Nibe, content: &[u8], room: &mut [u8], at: usize) -> usize
+pub(crate) fn name_and_members(message: Nibe, content: &[u8], room: &mut [u8], at: usize) -> usize
     ensures { λ r. ⌜ Put (now (room .entry)) (now (room .exit)) at r (named (ofNibe message (now (content .entry)))) ⌝ }
 {
     match message {
@@ -31,7 +31,7 @@ pub(crate) fn rest(message: Nibe, content: &[u8], room: &mut [u8], at: usize) ->
             let a = puts::bytes(b"done\",\"ok\":", room, at);
             json::truth(ok, room, a)
         }
-        Nibe::Nibe { command } => {
+        Nibe::Other { command } => {
             let a = members::number(b"nibe\",\"cmd\":", command as u32, room, at);
             members::hex(b",\"data\":", content, room, a)
         }

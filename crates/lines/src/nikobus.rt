@@ -9,12 +9,12 @@ ghost use Rattle.json.specs.Paper.Json as paper;
 ghost use Rattle.messages.specs.Paper.Message.{read, set, answer, press};
 ghost use Rattle.messages.specs.Paper.Says.{six};
 ghost use Rattle.puts.specs.Paper.Put.{Put};
-ghost use Rattle.lines.specs.Paper.Line.{highFirst};
-ghost use Rattle.lines.specs.Work.Put.{named, nikobusRest};
+ghost use Rattle.lines.specs.Paper.Line.{highByteFirst};
+ghost use Rattle.lines.specs.Work.Put.{named, nikobusNameAndMembers};
 
 // The digits are those of a link's payload.
-pub(crate) fn rest(message: Nikobus, digits: &[u8], room: &mut [u8], at: usize) -> usize
-    ensures { λ r. ⌜ Put (now (room .entry)) (now (room .exit)) at r (nikobusRest message (now (digits .entry))) ⌝ }
+pub(crate) fn name_and_members(message: Nikobus, digits: &[u8], room: &mut [u8], at: usize) -> usize
+    ensures { λ r. ⌜ Put (now (room .entry)) (now (room .exit)) at r (nikobusNameAndMembers message (now (digits .entry))) ⌝ }
 {
     match message {
         Nikobus::Read { group, address } => read(group, address, room, at),
@@ -75,7 +75,7 @@ fn link(digits: &[u8], room: &mut [u8], at: usize) -> usize
 
 // The address of a module, high byte first.
 fn shown_address(address: u16, room: &mut [u8], at: usize) -> usize
-    ensures { λ r. ⌜ Put (now (room .entry)) (now (room .exit)) at r (ascii ",\"addr\":" ++ paper.hex (highFirst address)) ⌝ }
+    ensures { λ r. ⌜ Put (now (room .entry)) (now (room .exit)) at r (ascii ",\"addr\":" ++ paper.hex (highByteFirst address)) ⌝ }
 {
     let digits = hex::four_digits(address);
     let a = puts::bytes(b",\"addr\":\"", room, at);

@@ -11,9 +11,9 @@ use Rattle.digits.specs.Paper.Ascii.{ascii}
 use Rattle.digits.specs.Paper.Bits.{lows}
 use Rattle.digits.specs.Paper.Decimal.{decimal, decimalIn, enough}
 use Rattle.digits.specs.Paper.Hex.{hexBytes}
-use Rattle.digits.specs.Paper.LowFirst.{lowFirst}
+use Rattle.digits.specs.Paper.LowFirst.{lowByteFirst}
 use Rattle.digits.specs.declared.refusal.Refusal.the-variants.{NoFrame}
-use Rattle.checks.specs.Paper.Bits.{bits, ofLows, number, bitsOfBytes}
+use Rattle.checks.specs.Paper.Bits.{bits, ofLows, ofBits, bitsOfBytes}
 use Rattle.checks.specs.Paper.Check.{polyBits, feed}
 use Rattle.layouts.specs.Paper.Chars.{all, oneOf, CR, LF}
 use Rattle.layouts.specs.Work.Heads.{onlyIf, starts, wordLen, runLen, isByte, on}
@@ -40,11 +40,11 @@ abbrev capture : List ℕ
 capture = 0xD5 ∷ 0xAA ∷ 0x96 ∷ 0xFF ∷ 0x00 ∷ 0x00 ∷ 0x00 ∷ 0xA3 ∷ 0x4B ∷ 0xFF ∷ []
 
 first : searched 2 capture 0 ≡ At 0 9 7 7
-unfolding searched resolved among seek seekAmong lenAt fromAt toAt nestFormLen nestPasses crcPasses bodyLen isByte all onlyIf starts wordLen runLen on lowFirst feed polyBits bits lows number ofLows bitsOfBytes
+unfolding searched resolved among seek seekAmong lenAt fromAt toAt nestFormLen nestPasses crcPasses bodyLen isByte all onlyIf starts wordLen runLen on lowByteFirst feed polyBits bits lows ofBits ofLows bitsOfBytes
 first = refl
 
 second : searched 2 capture 9 ≡ Refused NoFrame
-unfolding searched resolved among seek seekAmong lenAt fromAt toAt nestFormLen nestPasses crcPasses bodyLen isByte all onlyIf starts wordLen runLen on lowFirst feed polyBits bits lows number ofLows bitsOfBytes
+unfolding searched resolved among seek seekAmong lenAt fromAt toAt nestFormLen nestPasses crcPasses bodyLen isByte all onlyIf starts wordLen runLen on lowByteFirst feed polyBits bits lows ofBits ofLows bitsOfBytes
 second = refl
 
 its-line : LineOf 2 (0xD5 ∷ 0xAA ∷ 0x96 ∷ 0xFF ∷ 0x00 ∷ 0x00 ∷ 0x00 ∷ 0xA3 ∷ 0x4B ∷ []) 0 (ascii "{\"at\":0,\"len\":9,\"msg\":\"command\",\"id\":255,\"data\":\"\"}\n")

@@ -1,5 +1,5 @@
 pub mod Inputs
-pub mod Rest
+pub mod Remaining
 pub mod One
 pub mod Sizes
 pub mod Skipped

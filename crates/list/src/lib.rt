@@ -7,13 +7,13 @@ use puts::Written;
 ghost use mathlib.Core.Path.{_≡_};
 ghost use Prim.Native.Nat.{_+_, min};
 ghost use lib.ListN.{length};
-ghost use Rattle.digits.specs.Paper.Read.{Tells};
-ghost use Rattle.puts.specs.Paper.Put.{Put, last};
+ghost use Rattle.digits.specs.Paper.Read.{Decides};
+ghost use Rattle.puts.specs.Paper.Put.{Put, largestPlace};
 ghost use Rattle.list.specs.Paper.Answers.{WritesListing};
 ghost use Rattle.list.specs.Paper.Listing.{Input, lastLine};
-ghost use Rattle.list.specs.Work.Rest.{Listable, WritesLists, Fits, Sized, Roomy, PutsLists};
+ghost use Rattle.list.specs.Work.Remaining.{Listable, WritesLists, Fits, SizedListing, Roomy, PutsLists};
 
-// No capture's listing is longer than so many bytes, and so many more for each byte of the capture.
+// The bound on a listing's length: `MOST` bytes, and `MOST_A_BYTE` more for each byte of the capture.
 const MOST: usize = 50;
 
 const MOST_A_BYTE: usize = 32;
@@ -33,7 +33,7 @@ pub fn write(input: &[u8], room: &mut [u8]) -> Written
 
 // Whether an input begins with a kind's digit and LF.
 fn begins(input: &[u8]) -> bool
-    ensures { λ r. ⌜ Tells (Input (now (input .entry))) r ⌝ }
+    ensures { λ r. ⌜ Decides (Input (now (input .entry))) r ⌝ }
 {
     if input.len() < 2 {
         return false;
@@ -44,18 +44,18 @@ fn begins(input: &[u8]) -> bool
     kinds::known(input[0] - b'0') && input[1] == b'\n'
 }
 
-// Writes the listing of a capture: all of it, or nothing where the room is too short.
+// Writes the listing of a capture: all of it, or nothing if the room is too short.
 fn capture(kind: u8, s: &[u8], room: &mut [u8]) -> Written
     requires { ⌜ Listable kind (now s) ⌝ }
     ensures { λ r. ⌜ WritesLists kind (now (s .entry)) (now (room .entry)) r (now (room .exit)) ⌝ }
 {
     if !fits(kind, s, room.len()) {
-        return Written::Refused(Refusal::Room);
+        return Written::Refused(Refusal::NoRoom);
     }
     Written::Bytes(put(kind, s, room))
 }
 
-// Whether a room of so many bytes has room for the listing. Only where it might not is the listing measured.
+// Whether a room of `room` bytes has room for the listing. The listing is measured only if it might not.
 fn fits(kind: u8, s: &[u8], room: usize) -> bool
     requires { ⌜ Listable kind (now s) ⌝ }
     ensures { λ r. ⌜ Fits kind (now (s .entry)) room r ⌝ }
@@ -71,7 +71,7 @@ fn fits(kind: u8, s: &[u8], room: usize) -> bool
 // How long the listing is, line by line.
 fn size(kind: u8, s: &[u8]) -> usize
     requires { ⌜ Listable kind (now s) ⌝ }
-    ensures { λ r. ⌜ Sized kind (now (s .entry)) r ⌝ }
+    ensures { λ r. ⌜ SizedListing kind (now (s .entry)) r ⌝ }
 {
     let mut place = 0;
     let mut frames = 0;
@@ -117,9 +117,9 @@ fn put(kind: u8, s: &[u8], room: &mut [u8]) -> usize
     }
 }
 
-// The place behind the last line, where it is put at a place.
+// The place behind the last line if that is put at a place.
 fn behind(frames: usize, skipped: usize, at: usize) -> usize
-    ensures { λ r. ⌜ r ≡ min (at + length (lastLine frames skipped)) last ⌝ }
+    ensures { λ r. ⌜ r ≡ min (at + length (lastLine frames skipped)) largestPlace ⌝ }
 {
     let mut none = [0u8; 1];
     ending(frames, skipped, &mut none, at)

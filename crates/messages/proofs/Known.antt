@@ -8,9 +8,9 @@ use lib.Dec.{lit<, lit≤}
 use Rattle.digits.specs.Paper.Ascii.{ascii}
 use Rattle.digits.specs.Paper.Bits.{lows}
 use Rattle.digits.specs.Paper.Hex.{hexDigit, hexByte, hexBytes, hexWord}
-use Rattle.digits.specs.Paper.LowFirst.{lowFirst}
+use Rattle.digits.specs.Paper.LowFirst.{lowByteFirst}
 use Rattle.digits.proofs.Laws.Bytes.{bytes-nil, bytes-cons}
-use Rattle.checks.specs.Paper.Bits.{bits, ofLows, number, bitsOfBytes}
+use Rattle.checks.specs.Paper.Bits.{bits, ofLows, ofBits, bitsOfBytes}
 use Rattle.checks.specs.Paper.Check.{polyBits, feed}
 use Rattle.checks.specs.Paper.Xor.{xorFrom}
 use Rattle.layouts.specs.Paper.Chars.{CR}
@@ -23,7 +23,7 @@ use Rattle.messages.proofs.Theorems.{bytes-stand}
 
 -- (a) "`$10110000B8CF9D` CR is link"
 pub a : Stands 1 (ascii "$10110000B8CF9D" ++ (CR ∷ [])) (link (0x11 ∷ 0x00 ∷ 0x00 ∷ []))
-unfolding contentOf look lookLink isRead isSet hexDigit hexByte hexBytes hexWord feed polyBits bits lows number ofLows bitsOfBytes
+unfolding contentOf look lookLink isRead isSet hexDigit hexByte hexBytes hexWord feed polyBits bits lows ofBits ofLows bitsOfBytes
 a =
     bytes-stand
     (record {
@@ -33,12 +33,12 @@ a =
 
 -- (b) "`$10120747402BFC` CR is read, group 1, 4707"
 pub b : Stands 1 (ascii "$10120747402BFC" ++ (CR ∷ [])) (read 1 0x4707)
-unfolding contentOf look lookLink isRead lowFirst hexDigit hexByte hexBytes hexWord feed polyBits bits lows number ofLows bitsOfBytes
+unfolding contentOf look lookLink isRead lowByteFirst hexDigit hexByte hexBytes hexWord feed polyBits bits lows ofBits ofLows bitsOfBytes
 b = bytes-stand (record { limits = (inl refl, lit< tt); free = free (read 1 0x4707) refl }) refl refl
 
 -- (c) the reset frame
 pub c : Stands 2 (0xD5 ∷ 0xAA ∷ 0x96 ∷ 0xFF ∷ 0x00 ∷ 0x00 ∷ 0x00 ∷ 0xA3 ∷ 0x4B ∷ []) (command 0x00FF [])
-unfolding contentOf look lowFirst feed polyBits bits lows number ofLows bitsOfBytes
+unfolding contentOf look lowByteFirst feed polyBits bits lows ofBits ofLows bitsOfBytes
 c =
     bytes-stand
     (record {
@@ -48,5 +48,5 @@ c =
 
 -- (e) "`C0 69 02 44 9C DA` asks 40004"
 pub e : Stands 4 (0xC0 ∷ 0x69 ∷ 0x02 ∷ 0x44 ∷ 0x9C ∷ 0xDA ∷ []) (ask 40004)
-unfolding contentOf look lookNibe isAsk lowFirst xorFrom
+unfolding contentOf look lookNibe isAsk lowByteFirst xorFrom
 e = bytes-stand (record { limits = lit< tt; free = free (ask 40004) refl }) refl refl

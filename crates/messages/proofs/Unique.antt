@@ -23,8 +23,8 @@ use Rattle.messages.specs.declared.Message.{Message as Coded}
 use Rattle.messages.specs.declared.Decoded.{Decoded}
 use Rattle.messages.specs.declared.Decoded.the-variants.{Is, Refused}
 use Rattle.messages.specs.declared.Message.the-variants.{Command}
-use Rattle.messages.specs.declared.Seen.{Seen}
-use Rattle.messages.specs.declared.Seen.the-variants.{At, Refused as Unseen}
+use Rattle.messages.specs.declared.FoundMessage.{FoundMessage}
+use Rattle.messages.specs.declared.FoundMessage.the-variants.{At, Refused as NotFound}
 use Rattle.messages.specs.Paper.Panel.{ShowsPair, ReadsVolts}
 use Rattle.messages.specs.declared.nest.Pair.{Pair}
 use Rattle.messages.specs.declared.nest.Response.{Response}
@@ -60,21 +60,21 @@ decode k f (Refused why) (Is e x y) s t = let e = one-first (cause-of s) (cause-
 decode k f (Refused why) (Refused other) s t = ap Refused (one-refusal why other (one-first (cause-of s) (cause-of t)))
 
 -- find: what the search finds is the same, and then the message
-abbrev with : Coded → Found → Seen
+abbrev with : Coded → Found → FoundMessage
 with e (Hit start len from to) = At start len from to e
-with e (NoHit why) = Unseen why
+with e (NoHit why) = NotFound why
 
 abbrev SaidOf : ℕ → List ℕ → Coded → Found → Type 0
 SaidOf k s e (Hit start len from to) = Said k (part start (start + len) s) e (from - start) (to - start)
 SaidOf k s e (NoHit why) = Unit
 
-pub find : (k : ℕ) (s : List ℕ) (place : ℕ) (r q : Seen) → Finds k s place r → Finds k s place q → r ≡ q
+pub find : (k : ℕ) (s : List ℕ) (place : ℕ) (r q : FoundMessage) → Finds k s place r → Finds k s place q → r ≡ q
 find k s place (At a b c d e) (At v w x y z) f g =
     let one : Hit a b c d ≡ Hit v w x y = searched-one (Hit a b c d) (Hit v w x y) (search-in f) (search-in g) in
     ap (with e) one ∙ ap (At v w x y) (one-coded (subst (SaidOf k s e) one (found-in f)) (found-in g))
-find k s place (At a b c d e) (Unseen why) f g = absurd (hit-or-none (searched-one (Hit a b c d) (NoHit why) (search-in f) (search-refused why g)))
-find k s place (Unseen why) (At a b c d e) f g = absurd (hit-or-none (searched-one (Hit a b c d) (NoHit why) (search-in g) (search-refused why f)))
-find k s place (Unseen why) (Unseen other) f g = ap (with (Command 0)) (searched-one (NoHit why) (NoHit other) (search-refused why f) (search-refused other g))
+find k s place (At a b c d e) (NotFound why) f g = absurd (hit-or-none (searched-one (Hit a b c d) (NoHit why) (search-in f) (search-refused why g)))
+find k s place (NotFound why) (At a b c d e) f g = absurd (hit-or-none (searched-one (Hit a b c d) (NoHit why) (search-in g) (search-refused why f)))
+find k s place (NotFound why) (NotFound other) f g = ap (with (Command 0)) (searched-one (NoHit why) (NoHit other) (search-refused why f) (search-refused other g))
 
 -- content
 pub content : (k : ℕ) (s r q : RefT (List ℕ)) → Contents k s r → Contents k s q → (ptr r ≡ ptr q) × (now r ≡ now q)

@@ -3,7 +3,7 @@ use super::Meant;
 use super::Message;
 use super::Standing;
 use digits::decimal;
-use digits::decimal::Whole;
+use digits::decimal::Natural;
 use digits::refusal::Refusal;
 use digits::slices;
 use layouts::homiq;
@@ -12,15 +12,15 @@ ghost use Prim.Native.Nat.{_+_, _≤_};
 ghost use lib.ListN.{length, drop};
 ghost use Rattle.digits.specs.Paper.Ascii.{ascii};
 ghost use Rattle.digits.specs.Paper.Part.{IsPart};
-ghost use Rattle.digits.specs.Paper.Read.{Tells};
+ghost use Rattle.digits.specs.Paper.Read.{Decides};
 ghost use Rattle.messages.specs.Paper.Allowed.{StandsSo};
 ghost use Rattle.messages.specs.Paper.Homiq.{upTo, fieldAt, fieldEnds};
 ghost use Rattle.messages.specs.Paper.Meant.{Means, HomiqWith};
 ghost use Rattle.messages.specs.Paper.Says.{SaysHomiq};
-ghost use Rattle.messages.specs.Paper.Table.{Numbered, Letter};
+ghost use Rattle.messages.specs.Paper.Table.{MarkedNumber, Letter};
 ghost use Rattle.messages.specs.Work.Homiq.{whichOf, caseNumber};
 
-// The number of the message that all the rest is.
+// The case number of `Other`.
 const REST: u8 = 4;
 
 // Beside each stands CMD to TYPE.
@@ -29,15 +29,15 @@ pub enum Homiq {
     Input,
     Shutter,
     Beat,
-    Homiq,
+    Other,
 }
 
-// The message of CMD to TYPE; 5 where they are not the six fields within their limits.
+// The message of CMD to TYPE; 5 if they are not six fields within their limits.
 pub(crate) fn of(payload: &[u8]) -> Meant
     ensures { λ r. ⌜ Means (HomiqWith (now (payload .entry))) r ⌝ }
 {
     if !homiq::is_payload(payload) {
-        return Meant::Refused(Refusal::Limits);
+        return Meant::Refused(Refusal::OutOfLimits);
     }
     Meant::Is(Message::Homiq(message_of(payload)))
 }
@@ -47,19 +47,19 @@ pub(crate) fn allowed(message: Homiq, payload: &[u8]) -> Standing
     ensures { λ r. ⌜ StandsSo (SaysHomiq message (now (payload .entry))) r ⌝ }
 {
     if !homiq::is_payload(payload) {
-        return Standing::Refused(Refusal::Limits);
+        return Standing::Refused(Refusal::OutOfLimits);
     }
     let own = case_number(message);
     if own == case_number(message_of(payload)) {
         return Standing::Good;
     }
     if own == REST {
-        return Standing::Refused(Refusal::Above);
+        return Standing::Refused(Refusal::ContentAbove);
     }
-    Standing::Refused(Refusal::Limits)
+    Standing::Refused(Refusal::OutOfLimits)
 }
 
-// Which case a message is: two are compared by this.
+// The number of a message's case, by which two cases are compared.
 fn case_number(message: Homiq) -> u8
     ensures { λ r. ⌜ r ≡ caseNumber message ⌝ }
 {
@@ -68,11 +68,11 @@ fn case_number(message: Homiq) -> u8
         Homiq::Input => 1,
         Homiq::Shutter => 2,
         Homiq::Beat => 3,
-        Homiq::Homiq => REST,
+        Homiq::Other => REST,
     }
 }
 
-// A field of CMD to TYPE, by its number from 0, as a part of them; where there is none, the empty part at their end.
+// A field of CMD to TYPE, by its number from 0, as a part of them; if there is none, the empty part at their end.
 pub fn field(content: &[u8], number: usize) -> &[u8]
     ensures { λ r. ⌜ IsPart (content .entry) (fieldEnds number (now (content .entry))) r ⌝ }
 {
@@ -127,29 +127,29 @@ fn which(cmd: &[u8], val: &[u8]) -> Homiq
     if is_beat(cmd, val) {
         return Homiq::Beat;
     }
-    Homiq::Homiq
+    Homiq::Other
 }
 
 fn is_output(cmd: &[u8], val: &[u8]) -> bool
-    ensures { λ r. ⌜ Tells (Numbered (ascii "O.") 9 (now (cmd .entry)) × Letter (ascii "01") (now (val .entry))) r ⌝ }
+    ensures { λ r. ⌜ Decides (MarkedNumber (ascii "O.") 9 (now (cmd .entry)) × Letter (ascii "01") (now (val .entry))) r ⌝ }
 {
-    if !is_numbered(b"O.", 9, cmd) {
+    if !is_marked_number(b"O.", 9, cmd) {
         return false;
     }
     is_letter(b"01", val)
 }
 
 fn is_input(cmd: &[u8], val: &[u8]) -> bool
-    ensures { λ r. ⌜ Tells (Numbered (ascii "I.") 15 (now (cmd .entry)) × Letter (ascii "01") (now (val .entry))) r ⌝ }
+    ensures { λ r. ⌜ Decides (MarkedNumber (ascii "I.") 15 (now (cmd .entry)) × Letter (ascii "01") (now (val .entry))) r ⌝ }
 {
-    if !is_numbered(b"I.", 15, cmd) {
+    if !is_marked_number(b"I.", 15, cmd) {
         return false;
     }
     is_letter(b"01", val)
 }
 
 fn is_shutter(cmd: &[u8], val: &[u8]) -> bool
-    ensures { λ r. ⌜ Tells ((now (cmd .entry) ≡ ascii "UD") × Letter (ascii "uds") (now (val .entry))) r ⌝ }
+    ensures { λ r. ⌜ Decides ((now (cmd .entry) ≡ ascii "UD") × Letter (ascii "uds") (now (val .entry))) r ⌝ }
 {
     if !slices::same(cmd, b"UD") {
         return false;
@@ -158,7 +158,7 @@ fn is_shutter(cmd: &[u8], val: &[u8]) -> bool
 }
 
 fn is_beat(cmd: &[u8], val: &[u8]) -> bool
-    ensures { λ r. ⌜ Tells ((now (cmd .entry) ≡ ascii "HB") × Letter (ascii "1") (now (val .entry))) r ⌝ }
+    ensures { λ r. ⌜ Decides ((now (cmd .entry) ≡ ascii "HB") × Letter (ascii "1") (now (val .entry))) r ⌝ }
 {
     if !slices::same(cmd, b"HB") {
         return false;
@@ -166,9 +166,9 @@ fn is_beat(cmd: &[u8], val: &[u8]) -> bool
     is_letter(b"1", val)
 }
 
-// Whether a command is a text and a number behind it, at most so large.
-fn is_numbered(mark: &[u8], most: u32, cmd: &[u8]) -> bool
-    ensures { λ r. ⌜ Tells (Numbered (now (mark .entry)) most (now (cmd .entry))) r ⌝ }
+// Whether a command is a mark and behind it a number, at most `most`.
+fn is_marked_number(mark: &[u8], most: u32, cmd: &[u8]) -> bool
+    ensures { λ r. ⌜ Decides (MarkedNumber (now (mark .entry)) most (now (cmd .entry))) r ⌝ }
 {
     let k = mark.len();
     if cmd.len() < k {
@@ -178,13 +178,13 @@ fn is_numbered(mark: &[u8], most: u32, cmd: &[u8]) -> bool
         return false;
     }
     match decimal::number_of(&cmd[k..]) {
-        Whole::Is(n) => at_most(n, most),
-        Whole::NoNumber => false,
+        Natural::Is(n) => at_most(n, most),
+        Natural::NoNumber => false,
     }
 }
 
 fn at_most(n: u32, most: u32) -> bool
-    ensures { λ r. ⌜ Tells (n ≤ most) r ⌝ }
+    ensures { λ r. ⌜ Decides (n ≤ most) r ⌝ }
 {
     if n <= most {
         return true;
@@ -194,7 +194,7 @@ fn at_most(n: u32, most: u32) -> bool
 
 // Whether a value is one character, one of these.
 fn is_letter(letters: &[u8], val: &[u8]) -> bool
-    ensures { λ r. ⌜ Tells (Letter (now (letters .entry)) (now (val .entry))) r ⌝ }
+    ensures { λ r. ⌜ Decides (Letter (now (letters .entry)) (now (val .entry))) r ⌝ }
 {
     if val.len() != 1 {
         return false;

@@ -8,7 +8,7 @@ mod words;
 
 use digits::refusal::Refusal;
 use frames::Found;
-use frames::Whole;
+use frames::FramePayload;
 use frames::kinds;
 use frames::kinds::Kind;
 use frames::kinds::Resolved;
@@ -44,7 +44,7 @@ pub enum Decoded {
 
 // What a search finds, decoded: the frame's start and length, the places in the buffer where its payload begins and ends, and its
 // message.
-pub enum Seen {
+pub enum FoundMessage {
     At {
         start: usize,
         len: usize,
@@ -85,7 +85,7 @@ pub fn decode(kind: u8, frame: &[u8]) -> Decoded
 {
     match kinds::of(kind) {
         Resolved::Is(known) => decode_as(known, frame),
-        Resolved::Unknown => Decoded::Refused(Refusal::Kind),
+        Resolved::Unknown => Decoded::Refused(Refusal::NoKind),
     }
 }
 
@@ -93,27 +93,27 @@ fn decode_as(kind: Kind, frame: &[u8]) -> Decoded
     ensures { λ r. ⌜ Decodes (numberOf kind) (now (frame .entry)) r ⌝ }
 {
     match frames::one_frame(kinds::number(kind), frame) {
-        Whole::Is { from, to } => Decoded::Is {
+        FramePayload::Is { from, to } => Decoded::Is {
             message: message_in(kind, frame, from, to),
             from: from,
             to: to,
         },
-        Whole::Refused(why) => Decoded::Refused(why),
+        FramePayload::Refused(why) => Decoded::Refused(why),
     }
 }
 
 // The frame with the smallest start at or after the place, and its message: search and decoder in one pass. Refusals: those of the
 // search.
-pub fn find(kind: u8, buffer: &[u8], place: usize) -> Seen
+pub fn find(kind: u8, buffer: &[u8], place: usize) -> FoundMessage
     ensures { λ r. ⌜ Finds kind (now (buffer .entry)) place r ⌝ }
 {
     match kinds::of(kind) {
         Resolved::Is(known) => find_as(known, buffer, place),
-        Resolved::Unknown => Seen::Refused(Refusal::Kind),
+        Resolved::Unknown => FoundMessage::Refused(Refusal::NoKind),
     }
 }
 
-fn find_as(kind: Kind, buffer: &[u8], place: usize) -> Seen
+fn find_as(kind: Kind, buffer: &[u8], place: usize) -> FoundMessage
     ensures { λ r. ⌜ Finds (numberOf kind) (now (buffer .entry)) place r ⌝ }
 {
     match frames::search(kinds::number(kind), buffer, place) {
@@ -122,14 +122,14 @@ fn find_as(kind: Kind, buffer: &[u8], place: usize) -> Seen
             len,
             from,
             to,
-        } => Seen::At {
+        } => FoundMessage::At {
             start: start,
             len: len,
             from: from,
             to: to,
             message: message_in(kind, &buffer[start..start + len], from - start, to - start),
         },
-        Found::Refused(why) => Seen::Refused(why),
+        Found::Refused(why) => FoundMessage::Refused(why),
     }
 }
 
@@ -138,8 +138,8 @@ pub fn content(kind: u8, frame: &[u8]) -> &[u8]
     ensures { λ r. ⌜ Contents kind (frame .entry) r ⌝ }
 {
     match frames::one_frame(kind, frame) {
-        Whole::Is { from, to } => &frame[from..to],
-        Whole::Refused(why) => &frame[0..0],
+        FramePayload::Is { from, to } => &frame[from..to],
+        FramePayload::Refused(why) => &frame[0..0],
     }
 }
 

@@ -11,7 +11,7 @@ ghost use mathlib.Core.Path.{_≡_};
 ghost use mathlib.Core.List.{[]};
 ghost use Prim.Native.Nat.{_+_, _≤_};
 ghost use lib.ListN.{length};
-ghost use Rattle.digits.specs.Paper.Read.{Tells};
+ghost use Rattle.digits.specs.Paper.Read.{Decides};
 ghost use Rattle.layouts.specs.Paper.Chars.{oneOf};
 ghost use Rattle.messages.specs.Paper.Allowed.{StandsSo};
 ghost use Rattle.messages.specs.Paper.Meant.{Means, CommandWith, ResponseWith};
@@ -29,7 +29,7 @@ pub enum Response {
     Break,
     End,
     Text { id: u16 },
-    Response { id: u16 },
+    Other { id: u16 },
 }
 
 // What the panel is shown of a response: a climate's counts.
@@ -44,22 +44,22 @@ pub enum Volts {
     Refused(Refusal),
 }
 
-// The message of a command with this id and payload; 5 where the payload is longer than 1,024 bytes.
+// The message of a command with this id and payload; 5 if the payload is longer than 1,024 bytes.
 pub(crate) fn of_command(id: u16, payload: &[u8]) -> Meant
     ensures { λ r. ⌜ Means (CommandWith id (now (payload .entry))) r ⌝ }
 {
     if !is_short(payload) {
-        return Meant::Refused(Refusal::Limits);
+        return Meant::Refused(Refusal::OutOfLimits);
     }
     Meant::Is(Message::Command { id: id })
 }
 
-// The message of a response with this id and payload; 5 where the payload is longer than 1,024 bytes.
+// The message of a response with this id and payload; 5 if the payload is longer than 1,024 bytes.
 pub(crate) fn of_response(id: u16, payload: &[u8]) -> Meant
     ensures { λ r. ⌜ Means (ResponseWith id (now (payload .entry))) r ⌝ }
 {
     if !is_short(payload) {
-        return Meant::Refused(Refusal::Limits);
+        return Meant::Refused(Refusal::OutOfLimits);
     }
     Meant::Is(Message::Response(message(id, payload)))
 }
@@ -77,7 +77,7 @@ pub(crate) fn allowed(message: Response, payload: &[u8]) -> Standing
         Response::Break => Standing::Good,
         Response::End => Standing::Good,
         Response::Text { id } => text_allowed(id, payload),
-        Response::Response { id } => response_allowed(id, payload),
+        Response::Other { id } => response_allowed(id, payload),
     }
 }
 
@@ -85,44 +85,44 @@ fn state_allowed(payload: &[u8]) -> Standing
     ensures { λ r. ⌜ StandsSo (Only (state (now (payload .entry)))) r ⌝ }
 {
     if payload.len() < 16 {
-        return Standing::Refused(Refusal::Limits);
+        return Standing::Refused(Refusal::OutOfLimits);
     }
     if !is_short(payload) {
-        return Standing::Refused(Refusal::Limits);
+        return Standing::Refused(Refusal::OutOfLimits);
     }
     Standing::Good
 }
 
-// A text, where no message above it has its id and payload.
+// Whether a text is one of the table: no message above it has its id and payload.
 fn text_allowed(id: u16, payload: &[u8]) -> Standing
     ensures { λ r. ⌜ StandsSo (Only (text id (now (payload .entry)))) r ⌝ }
 {
     if !is_text(id) {
-        return Standing::Refused(Refusal::Limits);
+        return Standing::Refused(Refusal::OutOfLimits);
     }
     if !is_short(payload) {
-        return Standing::Refused(Refusal::Limits);
+        return Standing::Refused(Refusal::OutOfLimits);
     }
     if row(message(id, payload)) < row(Response::Text { id: id }) {
-        return Standing::Refused(Refusal::Above);
+        return Standing::Refused(Refusal::ContentAbove);
     }
     Standing::Good
 }
 
-// A response, where no message above it has its id and payload.
+// Whether any other response is one of the table: no message above it has its id and payload.
 fn response_allowed(id: u16, payload: &[u8]) -> Standing
     ensures { λ r. ⌜ StandsSo (Only (response id (now (payload .entry)))) r ⌝ }
 {
     if !is_short(payload) {
-        return Standing::Refused(Refusal::Limits);
+        return Standing::Refused(Refusal::OutOfLimits);
     }
-    if row(message(id, payload)) < row(Response::Response { id: id }) {
-        return Standing::Refused(Refusal::Above);
+    if row(message(id, payload)) < row(Response::Other { id: id }) {
+        return Standing::Refused(Refusal::ContentAbove);
     }
     Standing::Good
 }
 
-// Where a response stands in the table.
+// The row of a response in the table.
 fn row(message: Response) -> u8
     ensures { λ r. ⌜ r ≡ rowOf (ofResponse message []) ⌝ }
 {
@@ -135,7 +135,7 @@ fn row(message: Response) -> u8
         Response::Break => 10,
         Response::End => 11,
         Response::Text { id } => 12,
-        Response::Response { id } => 13,
+        Response::Other { id } => 13,
     }
 }
 
@@ -148,11 +148,11 @@ pub fn for_panel(message: Response) -> Pair
             temperature,
             humidity,
         } => Pair::Is(panel::pair(temperature, humidity)),
-        Response::State => Pair::Refused(Refusal::Limits),
-        Response::Break => Pair::Refused(Refusal::Limits),
-        Response::End => Pair::Refused(Refusal::Limits),
-        Response::Text { id } => Pair::Refused(Refusal::Limits),
-        Response::Response { id } => Pair::Refused(Refusal::Limits),
+        Response::State => Pair::Refused(Refusal::OutOfLimits),
+        Response::Break => Pair::Refused(Refusal::OutOfLimits),
+        Response::End => Pair::Refused(Refusal::OutOfLimits),
+        Response::Text { id } => Pair::Refused(Refusal::OutOfLimits),
+        Response::Other { id } => Pair::Refused(Refusal::OutOfLimits),
     }
 }
 
@@ -161,7 +161,7 @@ pub fn voltages(payload: &[u8]) -> Volts
     ensures { λ r. ⌜ ReadsVolts (now (payload .entry)) r ⌝ }
 {
     if payload.len() < 16 {
-        return Volts::Refused(Refusal::Limits);
+        return Volts::Refused(Refusal::OutOfLimits);
     }
     Volts::Are {
         vin: words::word(payload, 8),
@@ -192,12 +192,12 @@ pub(crate) fn message(id: u16, payload: &[u8]) -> Response
     if is_text(id) {
         return Response::Text { id: id };
     }
-    Response::Response { id: id }
+    Response::Other { id: id }
 }
 
 // Whether a payload is no longer than it may be.
 pub(crate) fn is_short(payload: &[u8]) -> bool
-    ensures { λ r. ⌜ Tells (length (now (payload .entry)) ≤ 1024) r ⌝ }
+    ensures { λ r. ⌜ Decides (length (now (payload .entry)) ≤ 1024) r ⌝ }
 {
     if payload.len() <= 1024 {
         return true;

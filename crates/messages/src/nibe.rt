@@ -13,7 +13,7 @@ ghost use mathlib.Core.List.{[]};
 ghost use Prim.Native.Nat.{_-_, _≤_, _<_};
 ghost use lib.ListN.{length};
 ghost use Rattle.digits.specs.Paper.LowFirst.{Width, Held};
-ghost use Rattle.digits.specs.Paper.Read.{Tells};
+ghost use Rattle.digits.specs.Paper.Read.{Decides};
 ghost use Rattle.digits.specs.Work.LowFirst.{lowValue};
 ghost use Rattle.messages.specs.Paper.Allowed.{StandsSo};
 ghost use Rattle.messages.specs.Paper.Meant.{Means, NibeWith};
@@ -25,31 +25,31 @@ ghost use Rattle.messages.specs.Work.Look.{isAsk, isValued, isDone, Valu
 // The most data: their length is one byte.
 const MOST: usize = 255;
 
-// A register, and a value of so many bytes.
+// A register, and a value of `width` bytes.
 pub struct Valued {
     pub register: u16,
     pub width: u8,
     pub value: u32,
 }
 
-// Beside `Nibe` stand its data.
+// Beside `Other` stand its data.
 pub enum Nibe {
     Ask { register: u16 },
     Reply(Valued),
     Put(Valued),
     Done { ok: bool },
-    Nibe { command: u8 },
+    Other { command: u8 },
 }
 
-// The message of a command with these data; 5 where there is no such command, or the data are longer than 255 bytes.
+// The message of a command with these data; 5 if there is no such command, or the data are longer than 255 bytes.
 pub(crate) fn of(command: u8, content: &[u8]) -> Meant
     ensures { λ r. ⌜ Means (NibeWith command (now (content .entry))) r ⌝ }
 {
     if !nibe::is_command(command) {
-        return Meant::Refused(Refusal::Limits);
+        return Meant::Refused(Refusal::OutOfLimits);
     }
     if MOST < content.len() {
-        return Meant::Refused(Refusal::Limits);
+        return Meant::Refused(Refusal::OutOfLimits);
     }
     Meant::Is(Message::Nibe(message(command, content)))
 }
@@ -63,27 +63,27 @@ pub(crate) fn allowed(message: Nibe, content: &[u8]) -> Standing
         Nibe::Reply(v) => limits::standing(holds(v.width, v.value)),
         Nibe::Put(v) => limits::standing(holds(v.width, v.value)),
         Nibe::Done { ok } => Standing::Good,
-        Nibe::Nibe { command } => plain_allowed(command, content),
+        Nibe::Other { command } => plain_allowed(command, content),
     }
 }
 
-// Any other command and data, where no message above has them.
+// Whether any other command with these data is one of the table: no message above has them.
 fn plain_allowed(command: u8, content: &[u8]) -> Standing
     ensures { λ r. ⌜ StandsSo (Only (nibe command (now (content .entry)))) r ⌝ }
 {
     if !nibe::is_command(command) {
-        return Standing::Refused(Refusal::Limits);
+        return Standing::Refused(Refusal::OutOfLimits);
     }
     if MOST < content.len() {
-        return Standing::Refused(Refusal::Limits);
+        return Standing::Refused(Refusal::OutOfLimits);
     }
-    if row(message(command, content)) < row(Nibe::Nibe { command: command }) {
-        return Standing::Refused(Refusal::Above);
+    if row(message(command, content)) < row(Nibe::Other { command: command }) {
+        return Standing::Refused(Refusal::ContentAbove);
     }
     Standing::Good
 }
 
-// Where a message stands in the table.
+// The row of a message in the table.
 fn row(message: Nibe) -> u8
     ensures { λ r. ⌜ r ≡ rowOf (ofNibe message []) ⌝ }
 {
@@ -92,13 +92,13 @@ fn row(message: Nibe) -> u8
         Nibe::Reply(v) => 15,
         Nibe::Put(v) => 16,
         Nibe::Done { ok } => 17,
-        Nibe::Nibe { command } => 18,
+        Nibe::Other { command } => 18,
     }
 }
 
-// Whether a width is one that there is, and holds the value.
+// Whether a width is 1, 2 or 4, and that many bytes hold the value.
 fn holds(width: u8, value: u32) -> bool
-    ensures { λ r. ⌜ Tells (Held width value) r ⌝ }
+    ensures { λ r. ⌜ Decides (Held width value) r ⌝ }
 {
     if width == 1 {
         return below(value, 256);
@@ -110,7 +110,7 @@ fn holds(width: u8, value: u32) -> bool
 }
 
 fn below(n: u32, most: u32) -> bool
-    ensures { λ r. ⌜ Tells (n < most) r ⌝ }
+    ensures { λ r. ⌜ Decides (n < most) r ⌝ }
 {
     if n < most {
         return true;
@@ -119,7 +119,7 @@ fn below(n: u32, most: u32) -> bool
 }
 
 fn is_four(n: u8) -> bool
-    ensures { λ r. ⌜ Tells (n ≡ 4) r ⌝ }
+    ensures { λ r. ⌜ Decides (n ≡ 4) r ⌝ }
 {
     if n == 4 {
         return true;
@@ -147,7 +147,7 @@ pub(crate) fn message(command: u8, content: &[u8]) -> Nibe
             ok: content[0] == 1,
         };
     }
-    Nibe::Nibe { command: command }
+    Nibe::Other { command: command }
 }
 
 fn is_ask(command: u8, content: &[u8]) -> bool

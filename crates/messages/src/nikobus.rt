@@ -13,7 +13,7 @@ ghost use mathlib.Core.List.{[]};
 ghost use Prim.Native.Nat.{_+_, _*_, _≤_};
 ghost use lib.Dec.{T, eqb};
 ghost use lib.ListN.{length};
-ghost use Rattle.digits.specs.Paper.Read.{Tells};
+ghost use Rattle.digits.specs.Paper.Read.{Decides};
 ghost use Rattle.layouts.specs.Paper.Chars.{all, isHex};
 ghost use Rattle.messages.specs.Paper.Allowed.{StandsSo};
 ghost use Rattle.messages.specs.Paper.Meant.{Means, LinkWith, PressWith};
@@ -45,22 +45,22 @@ pub enum Nikobus {
     Link,
 }
 
-// The message of a link with these digits; 5 where they are not those of 1 to 122 bytes.
+// The message of a link with these digits; 5 if they are not those of 1 to 122 bytes.
 pub(crate) fn of_link(digits: &[u8]) -> Meant
     ensures { λ r. ⌜ Means (LinkWith (now (digits .entry))) r ⌝ }
 {
     if !is_link(digits) {
-        return Meant::Refused(Refusal::Limits);
+        return Meant::Refused(Refusal::OutOfLimits);
     }
     Meant::Is(Message::Nikobus(linked(digits)))
 }
 
-// The message of a press with these digits; 5 where they are not six.
+// The message of a press with these digits; 5 if they are not six.
 pub(crate) fn of_press(digits: &[u8]) -> Meant
     ensures { λ r. ⌜ Means (PressWith (now (digits .entry))) r ⌝ }
 {
     if !is_press(digits) {
-        return Meant::Refused(Refusal::Limits);
+        return Meant::Refused(Refusal::OutOfLimits);
     }
     Meant::Is(Message::Nikobus(Nikobus::Press(pressed(digits))))
 }
@@ -94,20 +94,20 @@ fn press_allowed(digits: Six) -> Standing
     limits::standing(is_press(&chars))
 }
 
-// A link, where no message above it has its payload.
+// Whether a link is one of the table: no message above it has its payload.
 fn link_allowed(digits: &[u8]) -> Standing
     ensures { λ r. ⌜ StandsSo (SaysNikobus Link (now (digits .entry))) r ⌝ }
 {
     if !is_link(digits) {
-        return Standing::Refused(Refusal::Limits);
+        return Standing::Refused(Refusal::OutOfLimits);
     }
     if row(linked(digits)) < row(Nikobus::Link) {
-        return Standing::Refused(Refusal::Above);
+        return Standing::Refused(Refusal::ContentAbove);
     }
     Standing::Good
 }
 
-// Where a message stands in the table.
+// The row of a message in the table.
 fn row(message: Nikobus) -> u8
     ensures { λ r. ⌜ r ≡ rowOf (ofNikobus message []) ⌝ }
 {
@@ -131,7 +131,7 @@ fn row(message: Nikobus) -> u8
 
 // Whether these are the digits of a link's payload: of 1 to 122 bytes.
 fn is_link(digits: &[u8]) -> bool
-    ensures { λ r. ⌜ Tells (LinkDigits (now (digits .entry))) r ⌝ }
+    ensures { λ r. ⌜ Decides (LinkDigits (now (digits .entry))) r ⌝ }
 {
     let n = digits.len();
     if n < 2 {
@@ -148,7 +148,7 @@ fn is_link(digits: &[u8]) -> bool
 
 // Whether these are the digits of a press: six.
 fn is_press(digits: &[u8]) -> bool
-    ensures { λ r. ⌜ Tells ((length (now (digits .entry)) ≡ 6) × T (all isHex (now (digits .entry)))) r ⌝ }
+    ensures { λ r. ⌜ Decides ((length (now (digits .entry)) ≡ 6) × T (all isHex (now (digits .entry)))) r ⌝ }
 {
     if digits.len() != 6 {
         return false;
@@ -158,7 +158,7 @@ fn is_press(digits: &[u8]) -> bool
 
 // Whether a module has this group.
 fn is_group(group: u8) -> bool
-    ensures { λ r. ⌜ Tells (Group group) r ⌝ }
+    ensures { λ r. ⌜ Decides (Group group) r ⌝ }
 {
     if group == 1 {
         return true;
@@ -276,7 +276,7 @@ fn is_one_of(code: u8, first: u8, second: u8) -> bool
     code == first || code == second
 }
 
-// The group of a code, where the first group has this one.
+// The group of a code; `first` is the code of group 1.
 fn group_of(code: u8, first: u8) -> u8
     ensures { λ r. ⌜ r ≡ groupOf first code ⌝ }
 {

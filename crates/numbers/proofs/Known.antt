@@ -8,7 +8,7 @@ use lib.Ieee.{fin, ofInt}
 use Rattle.digits.specs.Paper.Ascii.{ascii}
 use Rattle.digits.specs.Paper.Bits.{lows}
 use Rattle.digits.specs.Paper.Decimal.{decimalIn, enough, decimal}
-use Rattle.digits.specs.Paper.LowFirst.{lowFirst}
+use Rattle.digits.specs.Paper.LowFirst.{lowByteFirst}
 use Rattle.numbers.specs.Paper.Text.{lastDigits, textOf, text}
 use Rattle.numbers.specs.Paper.ByteValues.{valueBytes}
 use Rattle.numbers.specs.Paper.Single.{fromFirstOne, significantBits, fitsSingle}
@@ -49,5 +49,5 @@ shown = (refl, refl)
 
 -- two's complement, low byte first
 pub bytes : (valueBytes 1 (negℤ (pos 1)) ≡ 0xFF ∷ []) × (valueBytes 2 (negℤ (pos 32768)) ≡ 0x00 ∷ 0x80 ∷ []) × (valueBytes 4 (pos 4294967295) ≡ 0xFF ∷ 0xFF ∷ 0xFF ∷ 0xFF ∷ [])
-unfolding lowFirst
+unfolding lowByteFirst
 bytes = (refl, refl, refl)

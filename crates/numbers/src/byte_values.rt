@@ -10,10 +10,10 @@ ghost use Prim.Native.Nat.{_^_, _≤_, _<_};
 ghost use lib.IntN.{natAbs};
 ghost use lib.ListN.{length};
 ghost use Rattle.digits.specs.Paper.LowFirst.{Width};
-ghost use Rattle.digits.specs.Paper.Read.{Tells};
+ghost use Rattle.digits.specs.Paper.Read.{Decides};
 ghost use Rattle.puts.specs.Paper.Wrote.{Writes};
 ghost use Rattle.numbers.specs.Paper.Raw.{Raw};
-ghost use Rattle.numbers.specs.Paper.ByteValues.{least, most, Holds, twos, valueBytes};
+ghost use Rattle.numbers.specs.Paper.ByteValues.{least, most, HeldBy, twos, valueBytes};
 ghost use Rattle.numbers.specs.Paper.Answers.{ValueCause, AnswersValue};
 ghost use Rattle.numbers.specs.Work.ByteValues.{standsBelow, ofTwos};
 
@@ -23,38 +23,38 @@ pub enum Value {
     Refused(Refusal),
 }
 
-// Writes a number as so many bytes from the front of the room.
+// Writes a number as `width` bytes from the front of the room.
 pub fn write(raw: i64, width: usize, signed: bool, room: &mut [u8]) -> Written
     ensures { λ r. ⌜ Writes (ValueCause width signed raw (length (now (room .entry)))) (valueBytes width raw) (now (room .entry)) r (now (room .exit)) ⌝ }
 {
     if !is_width(width) {
-        return Written::Refused(Refusal::Form);
+        return Written::Refused(Refusal::BadForm);
     }
     if !holds(raw, width, signed) {
-        return Written::Refused(Refusal::Limits);
+        return Written::Refused(Refusal::OutOfLimits);
     }
     let four = low_first::four(in_twos(raw, width));
     puts::front(&four[0..width], room)
 }
 
-// The number that so many bytes are.
+// The number that `width` bytes are.
 pub fn read(s: &[u8], width: usize, signed: bool) -> Value
     ensures { λ r. ⌜ AnswersValue width signed (now (s .entry)) r ⌝ }
 {
     if !is_width(width) {
-        return Value::Refused(Refusal::Form);
+        return Value::Refused(Refusal::BadForm);
     }
     if s.len() != width {
-        return Value::Refused(Refusal::Limits);
+        return Value::Refused(Refusal::OutOfLimits);
     }
     let Number::Is(n) = low_first::number_of(s) else {
-        return Value::Refused(Refusal::Limits);
+        return Value::Refused(Refusal::OutOfLimits);
     };
     Value::Is(of_twos(n, width, signed))
 }
 
 fn is_width(width: usize) -> bool
-    ensures { λ r. ⌜ Tells (Width width) r ⌝ }
+    ensures { λ r. ⌜ Decides (Width width) r ⌝ }
 {
     if width == 1 {
         return true;
@@ -68,10 +68,10 @@ fn is_width(width: usize) -> bool
     false
 }
 
-// Whether so many bytes hold a number.
+// Whether `width` bytes hold a number.
 fn holds(raw: i64, width: usize, signed: bool) -> bool
     requires { ⌜ Width width ⌝ }
-    ensures { λ r. ⌜ Tells (Holds width signed raw) r ⌝ }
+    ensures { λ r. ⌜ Decides (HeldBy width signed raw) r ⌝ }
 {
     raw::between(smallest(width, signed), largest(width, signed), raw)
 }
@@ -114,7 +114,7 @@ fn largest(width: usize, signed: bool) -> i64
     4_294_967_295
 }
 
-// How many numbers so many bytes can be.
+// How many different numbers `width` bytes can be.
 fn all(width: usize) -> u64
     requires { ⌜ Width width ⌝ }
     ensures { λ r. ⌜ r ≡ 256 ^ width ⌝ }
@@ -128,7 +128,7 @@ fn all(width: usize) -> u64
     4_294_967_296
 }
 
-// The number of so many bytes that stands for a number which they hold.
+// Two's complement: the number of `width` bytes that stands for a raw number which they hold.
 fn in_twos(raw: i64, width: usize) -> u32
     requires { ⌜ Width width × Raw raw × (natAbs raw ≤ 256 ^ width) ⌝ }
     ensures { λ r. ⌜ r ≡ twos width raw ⌝ }
@@ -140,7 +140,7 @@ fn in_twos(raw: i64, width: usize) -> u32
     n
 }
 
-// The number that a number of so many bytes stands for.
+// The raw number for which a number of `width` bytes stands.
 fn of_twos(n: u32, width: usize, signed: bool) -> i64
     requires { ⌜ Width width × (n < 256 ^ width) ⌝ }
     ensures { λ r. ⌜ r ≡ ofTwos width signed n ⌝ }

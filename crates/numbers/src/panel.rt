@@ -8,7 +8,7 @@ ghost use Rattle.numbers.specs.Paper.Raw.{Raw};
 ghost use Rattle.numbers.specs.Paper.Panel.{Panel, ClimatePair};
 ghost use Rattle.numbers.specs.Paper.Answers.{AnswersPanel};
 
-// A raw number, as a single float where it fits and as a double otherwise.
+// A raw number, as a single float if it fits and as a double otherwise.
 pub enum Value {
     Single(f32),
     Double(f64),
@@ -31,7 +31,7 @@ pub fn of(raw: i64) -> Shown
     ensures { λ r. ⌜ AnswersPanel raw r ⌝ }
 {
     if !raw::in_range(raw) {
-        return Shown::Refused(Refusal::Limits);
+        return Shown::Refused(Refusal::OutOfLimits);
     }
     Shown::Is(in_range_of(raw))
 }
@@ -46,7 +46,7 @@ pub fn pair(temperature: i16, humidity: u16) -> Climate
     }
 }
 
-// The raw number of a number in range. (The double is exact; where the number fits a single, so is the cast to one.)
+// The raw number of a number in range. (The double is exact; if the number fits a single, so is the cast to one.)
 fn in_range_of(raw: i64) -> Value
     requires { ⌜ Raw raw ⌝ }
     ensures { λ r. ⌜ Panel raw r ⌝ }

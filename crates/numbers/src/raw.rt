@@ -2,14 +2,14 @@
 ghost use mathlib.Core.Path.{_≡_};
 ghost use Prim.Native.Nat.{_^_, _<_};
 ghost use lib.IntN.{natAbs};
-ghost use Rattle.digits.specs.Paper.Read.{Tells};
+ghost use Rattle.digits.specs.Paper.Read.{Decides};
 ghost use Rattle.numbers.specs.Paper.Raw.{Between, Raw};
 ghost use Rattle.numbers.specs.Paper.Text.{belowZero};
 ghost use Rattle.numbers.specs.Work.Text.{signed};
 
 // Whether z is from `least` to `most`.
 pub(crate) fn between(least: i64, most: i64, z: i64) -> bool
-    ensures { λ r. ⌜ Tells (Between least most z) r ⌝ }
+    ensures { λ r. ⌜ Decides (Between least most z) r ⌝ }
 {
     if z < least {
         return false;
@@ -22,7 +22,7 @@ pub(crate) fn between(least: i64, most: i64, z: i64) -> bool
 
 // Whether z is a raw number.
 pub(crate) fn in_range(z: i64) -> bool
-    ensures { λ r. ⌜ Tells (Raw z) r ⌝ }
+    ensures { λ r. ⌜ Decides (Raw z) r ⌝ }
 {
     between(-2_147_483_648, 4_294_967_295, z)
 }

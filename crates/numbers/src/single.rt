@@ -17,7 +17,7 @@ pub fn fits(raw: i64) -> Fit
     ensures { λ r. ⌜ AnswersFits raw r ⌝ }
 {
     if !raw::in_range(raw) {
-        return Fit::Refused(Refusal::Limits);
+        return Fit::Refused(Refusal::OutOfLimits);
     }
     Fit::Is(in_range_fits(raw))
 }

@@ -8,7 +8,7 @@ ghost use mathlib.Core.Path.{_≡_};
 ghost use Prim.Native.Nat.{_^_, _≤_, _<_};
 ghost use lib.Dec.{ltb};
 ghost use lib.ListN.{length};
-ghost use Rattle.digits.specs.Paper.Read.{Tells};
+ghost use Rattle.digits.specs.Paper.Read.{Decides};
 ghost use Rattle.puts.specs.Paper.Put.{Put};
 ghost use Rattle.puts.specs.Paper.Wrote.{Writes};
 ghost use Rattle.numbers.specs.Paper.Raw.{Raw};
@@ -35,10 +35,10 @@ pub fn write(raw: i64, decimals: u32, room: &mut [u8]) -> Written
     let few = decimals <= 3;
     let in_range = raw::in_range(raw);
     if !few {
-        return Written::Refused(Refusal::Form);
+        return Written::Refused(Refusal::BadForm);
     }
     if !in_range {
-        return Written::Refused(Refusal::Limits);
+        return Written::Refused(Refusal::OutOfLimits);
     }
     let t = text_of(raw, decimals);
     let chars = t.chars;
@@ -51,20 +51,20 @@ pub fn read(t: &[u8]) -> Reading
     ensures { λ r. ⌜ ReadsText (now (t .entry)) r ⌝ }
 {
     if 12 < t.len() {
-        return Reading::Refused(Refusal::Form);
+        return Reading::Refused(Refusal::BadForm);
     }
     let decimals = after_point(t);
     if 3 < decimals {
-        return Reading::Refused(Refusal::Form);
+        return Reading::Refused(Refusal::BadForm);
     }
     let raw = raw::with_sign(minus_first(t), number_in(t));
     if !raw::in_range(raw) {
-        return Reading::Refused(Refusal::Form);
+        return Reading::Refused(Refusal::BadForm);
     }
     if is_text(raw, decimals as u32, t) {
         return Reading::Is(raw, decimals as u32);
     }
-    Reading::Refused(Refusal::Form)
+    Reading::Refused(Refusal::BadForm)
 }
 
 // The text of a raw number.
@@ -138,7 +138,7 @@ fn unit(decimals: u32) -> u32
 // Whether t is the text of a raw number.
 fn is_text(raw: i64, decimals: u32, t: &[u8]) -> bool
     requires { ⌜ Raw raw × (decimals ≤ 3) ⌝ }
-    ensures { λ r. ⌜ Tells (text raw decimals ≡ now (t .entry)) r ⌝ }
+    ensures { λ r. ⌜ Decides (text raw decimals ≡ now (t .entry)) r ⌝ }
 {
     let own = text_of(raw, decimals);
     let chars = own.chars;

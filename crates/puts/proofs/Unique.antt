@@ -13,7 +13,7 @@ use Rattle.puts.proofs.Laws.Wrote.{one-outcome}
 
 -- byte, bytes, whole, hex
 pub one-put : {room s t bs : List ℕ} {at m n : ℕ} → Put room s at m bs → Put room t at n bs → (m ≡ n) × (s ≡ t)
-one-put p q = (p .behind ∙ sym (q .behind), p .holds ∙ sym (q .holds))
+one-put p q = (p .behind ∙ sym (q .behind), p .room-is ∙ sym (q .room-is))
 
 -- front, and every call that answers `Written`: an answer is its number and its count
 written-cases : (P : Written → Type 0) → ((n : ℕ) → P (Bytes n)) → ((why : Refusal) → P (Refused why)) → (r : Written) → P r

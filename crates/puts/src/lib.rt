@@ -1,5 +1,5 @@
-// Writers into a lent room: each puts its bytes at a place of the room, as far as the room goes, and answers the place behind them.
-// So no writer asks anything of the room, and the same writer measures, in a room too short, and writes.
+// Writers into a lent room: each puts its bytes at a place of the room, as far as the room goes, and answers the place behind them. So no
+// writer asks anything of the room, and a writer measures its text if it is lent a room that is too short.
 use digits::decimal;
 use digits::hex;
 use digits::refusal::Refusal;
@@ -21,14 +21,14 @@ pub enum Written {
     Refused(Refusal),
 }
 
-// Writes the bytes of s from the front of the room: all of them, or none where the room is too short.
+// Writes the bytes of s from the front of the room: all of them, or none if the room is too short.
 pub fn front(s: &[u8], room: &mut [u8]) -> Written
     ensures { λ r. ⌜ Writes (RoomCause (length (now (room .entry))) (length (now (s .entry)))) (now (s .entry)) (now (room .entry)) r (now (room .exit)) ⌝ }
 {
     let n = all_or_none(s.len(), room.len());
     bytes(&s[0..n], room, 0);
     if n < s.len() {
-        return Written::Refused(Refusal::Room);
+        return Written::Refused(Refusal::NoRoom);
     }
     Written::Bytes(n)
 }
@@ -57,7 +57,7 @@ pub fn byte(b: u8, room: &mut [u8], at: usize) -> usize
     at
 }
 
-// Puts the bytes of s. Where the room has room for all, none of them asks for the room's end.
+// Puts the bytes of s. If the room has room for all of them, its end is tested once, and not for each byte.
 pub fn bytes(s: &[u8], room: &mut [u8], at: usize) -> usize
     ensures { λ r. ⌜ Put (now (room .entry)) (now (room .exit)) at r (now (s .entry)) ⌝ }
 {
@@ -145,7 +145,7 @@ fn long(n: u64, room: &mut [u8], at: usize) -> usize
     clipped(&chars[from..20], room, at)
 }
 
-// Puts two hex digits for each byte of s. Where the room has room for all, none of them asks for the room's end.
+// Puts two hex digits for each byte of s. If the room has room for all of them, its end is tested once, and not for each byte.
 pub fn hex(s: &[u8], room: &mut [u8], at: usize) -> usize
     ensures { λ r. ⌜ Put (now (room .entry)) (now (room .exit)) at r (hexBytes (now (s .entry))) ⌝ }
 {

@@ -9,16 +9,16 @@ use native.Mathlib.Omega.{arith}
 use lib.Dec.{eqb, lit<}
 use lib.ListN.{length, length-append}
 use Rattle.digits.specs.Paper.Bytes.{part}
-use Rattle.digits.specs.Paper.LowFirst.{lowFirst}
-use Rattle.digits.specs.Paper.Refusals.{refusalNumber, order, First, clear, here, after}
+use Rattle.digits.specs.Paper.LowFirst.{lowByteFirst}
+use Rattle.digits.specs.Paper.Refusals.{refusalNumber, refusalOrder, First, clear, here, after}
 use Rattle.digits.specs.declared.refusal.Refusal.{Refusal}
-use Rattle.digits.specs.declared.refusal.Refusal.the-variants.{Room, Limits}
+use Rattle.digits.specs.declared.refusal.Refusal.the-variants.{NoRoom, OutOfLimits}
 use Rattle.digits.proofs.Laws.Refusals.{some-number, one-first, cause-at, cause-of, answered, pass-over}
 use Rattle.frames.specs.Paper.Kinds.{Frame}
-use Rattle.frames.specs.Paper.Whole.{WholeCause, TestsWhole}
-use Rattle.frames.specs.Paper.Whole as whole
-use Rattle.frames.specs.declared.Whole.{Whole}
-use Rattle.frames.specs.declared.Whole.the-variants.{Is, Refused as NotWhole}
+use Rattle.frames.specs.Paper.OneFrame.{OneFrameCause, TestsOneFrame}
+use Rattle.frames.specs.Paper.OneFrame as whole
+use Rattle.frames.specs.declared.FramePayload.{FramePayload}
+use Rattle.frames.specs.declared.FramePayload.the-variants.{Is, Refused as NotOneFrame}
 use Rattle.frames.proofs.Laws.Kinds.{frame-known}
 use Rattle.puts.specs.Paper.Put.{Put}
 use Rattle.puts.specs.Paper.Right.{refused}
@@ -40,7 +40,7 @@ use Rattle.book.proofs.Laws.Pieces.{book-added, length-added, adds-size
 
 -- ---- what is put
 
-pub puts-added : {s : List ℕ} {count : ℕ} → Counts s count → (e : Entry) {room later : List ℕ} {next : ℕ} (end : ℕ) (offset : List ℕ) → end ≡ length s - (4 * count + 6) → offset ≡ lowFirst 4 end
+pub puts-added : {s : List ℕ} {count : ℕ} → Counts s count → (e : Entry) {room later : List ℕ} {next : ℕ} (end : ℕ) (offset : List ℕ) → end ≡ length s - (4 * count + 6) → offset ≡ lowByteFirst 4 end
     → Put room later 0 next (part 0 end s ++ (entryBytes e ++ (part end (end + 4 * count) s ++ (offset ++ ending (count + 1))))) → PutsAdded s e room later next
 puts-added {s} {count} k e end offset n o p =
     let es = k .all in
@@ -49,9 +49,9 @@ puts-added {s} {count} k e end offset n o p =
     let m : end ≡ length (entries es) = omega (arith, book-size b) in
     let to : end + 4 * count ≡ end + 4 * length es = omega arith in
     let old = pieces-of s es end (b .is) (omega (arith, book-size b)) in
-    let last : offset ++ ending (count + 1) ≡ lowFirst 4 (length (entries es)) ++ ending (length es + 1) =
-    ap₂ (λ (x : List ℕ) (i : ℕ). x ++ ending (i + 1)) (o ∙ ap (lowFirst 4) m) c in
-    let behind : part end (end + 4 * count) s ++ (offset ++ ending (count + 1)) ≡ offsets 0 es ++ (lowFirst 4 (length (entries es)) ++ ending (length es + 1)) =
+    let last : offset ++ ending (count + 1) ≡ lowByteFirst 4 (length (entries es)) ++ ending (length es + 1) =
+    ap₂ (λ (x : List ℕ) (i : ℕ). x ++ ending (i + 1)) (o ∙ ap (lowByteFirst 4) m) c in
+    let behind : part end (end + 4 * count) s ++ (offset ++ ending (count + 1)) ≡ offsets 0 es ++ (lowByteFirst 4 (length (entries es)) ++ ending (length es + 1)) =
     ap₂ (λ (x y : List ℕ). x ++ y) (ap (λ (i : ℕ). part end i s) to ∙ old .1) last in
     let all = ap₂ (λ (x y : List ℕ). x ++ (entryBytes e ++ y)) (old .0) behind in
     record { all = es; valid = b; put = puts-as (all ∙ sym (book-added es e)) p }
@@ -92,11 +92,11 @@ module _ {s : List ℕ} {e : Entry} {room : ℕ} where
     valid-book (answers.no-book f) = f (k .all) (k .valid)
 
     -- what testing the frame is refused for
-    not-framed : {no : ℕ} → First (WholeCause (e .kind) (e .frame)) order no → WholeCause (e .kind) (e .frame) no → First (AddCause s e room) order no
-    not-framed c (whole.no-kind h) = pass-over ours only order (after valid-book (here (no-kind h)))
-    not-framed c (whole.no-frame f) = pass-over ours only order (after valid-book (after kind (here (no-frame f))))
+    not-framed : {no : ℕ} → First (OneFrameCause (e .kind) (e .frame)) refusalOrder no → OneFrameCause (e .kind) (e .frame) no → First (AddCause s e room) refusalOrder no
+    not-framed c (whole.no-kind h) = pass-over ours only refusalOrder (after valid-book (here (no-kind h)))
+    not-framed c (whole.no-frame f) = pass-over ours only refusalOrder (after valid-book (after kind (here (no-frame f))))
       where
-        no-8 : {no : ℕ} → WholeCause (e .kind) (e .frame) no → no ≡ 8 → ⊥
+        no-8 : {no : ℕ} → OneFrameCause (e .kind) (e .frame) no → no ≡ 8 → ⊥
         no-8 (whole.no-kind h) q = omega arith
         no-8 (whole.no-frame h) q = omega arith
 
@@ -104,8 +104,8 @@ module _ {s : List ℕ} {e : Entry} {room : ℕ} where
         kind (no-kind g) = let q = one-first c (after (λ u. no-8 u refl) (here (whole.no-kind g))) in omega arith
 
     module _ (r : Frame (e .kind) (e .frame)) where
-      no-place : (HasPlace count (length s) (length (e .frame)) → ⊥) → First (AddCause s e room) order 5
-      no-place f = pass-over ours only order (after valid-book (after (kind-known r) (here (go (decLe (count + 1) 1000)))))
+      no-place : (HasPlace count (length s) (length (e .frame)) → ⊥) → First (AddCause s e room) refusalOrder 5
+      no-place f = pass-over ours only refusalOrder (after valid-book (after (kind-known r) (here (go (decLe (count + 1) 1000)))))
         where
           go : Dec (count + 1 ≤ 1000) → AddCause s e room 5
           go (no h) = too-many (k .valid) (omega (arith, k .is, length-append (k .all) (e ∷ [])))
@@ -121,14 +121,14 @@ module _ {s : List ℕ} {e : Entry} {room : ℕ} where
         has-place (too-many {es = es} b h) = let n = ap length (one-book b (k .valid)) in omega (arith, p .few, k .is, length-append es (e ∷ []))
         has-place (too-long {es = es} b h) = omega (arith, p .small, ap length (b .is), length-added es e)
 
-        no-room : room < length s + (length (e .frame) + 7) → First (AddCause s e room) order 4
-        no-room h = pass-over ours only order (after valid-book (after (kind-known r) (after has-place (here (short new (omega (arith, adds-size new)))))))
+        no-room : room < length s + (length (e .frame) + 7) → First (AddCause s e room) refusalOrder 4
+        no-room h = pass-over ours only refusalOrder (after valid-book (after (kind-known r) (after has-place (here (short new (omega (arith, adds-size new)))))))
           where
             new : Adds s e (book (k .all ++ e ∷ []))
             new = added k r p (k .valid)
 
-        enough : length s + (length (e .frame) + 7) ≤ room → First (AddCause s e room) order 0
-        enough h = pass-over ours only order (after valid-book (after (kind-known r) (after has-place (after fits clear))))
+        enough : length s + (length (e .frame) + 7) ≤ room → First (AddCause s e room) refusalOrder 0
+        enough h = pass-over ours only refusalOrder (after valid-book (after (kind-known r) (after has-place (after fits clear))))
           where
             fits : AddCause s e room 4 → ⊥
             fits (short a g) = omega (arith, adds-size a)
@@ -136,21 +136,21 @@ module _ {s : List ℕ} {e : Entry} {room : ℕ} where
 -- ---- the answers
 
 -- what the test of the frame says
-module _ {k : ℕ} {f : List ℕ} {w : Whole} (a : TestsWhole k f w) where
+module _ {k : ℕ} {f : List ℕ} {w : FramePayload} (a : TestsOneFrame k f w) where
   pub whole-frame : {from to : ℕ} → w ≡ Is from to → Frame k f
-  whole-frame q = answered a (ap whole.wholeNumber q) .frame
+  whole-frame q = answered a (ap whole.framePayloadRefusal q) .frame
 
 module _ {s : List ℕ} {count : ℕ} (k : Counts s count) (e : Entry) {room : List ℕ} where
-  pub refused-frame : {w : Whole} {why : Refusal} → TestsWhole (e .kind) (e .frame) w → w ≡ NotWhole why → WritesAdded s e room (Refused why) room
+  pub refused-frame : {w : FramePayload} {why : Refusal} → TestsOneFrame (e .kind) (e .frame) w → w ≡ NotOneFrame why → WritesAdded s e room (Refused why) room
   refused-frame {w} {why} a q =
-      let c : First (WholeCause (e .kind) (e .frame)) order (refusalNumber why) = cause-of (subst (TestsWhole (e .kind) (e .frame)) q a) in
+      let c : First (OneFrameCause (e .kind) (e .frame)) refusalOrder (refusalNumber why) = cause-of (subst (TestsOneFrame (e .kind) (e .frame)) q a) in
       refused (some-number why) (not-framed k c (cause-at c (some-number why)))
 
   module _ (r : Frame (e .kind) (e .frame)) where
-    pub refused-place : (HasPlace count (length s) (length (e .frame)) → ⊥) → WritesAdded s e room (Refused Limits) room
+    pub refused-place : (HasPlace count (length s) (length (e .frame)) → ⊥) → WritesAdded s e room (Refused OutOfLimits) room
     refused-place f = refused-5 (no-place k r f)
 
-    pub refused-room : HasPlace count (length s) (length (e .frame)) → length room < length s + (length (e .frame) + 7) → WritesAdded s e room (Refused Room) room
+    pub refused-room : HasPlace count (length s) (length (e .frame)) → length room < length s + (length (e .frame) + 7) → WritesAdded s e room (Refused NoRoom) room
     refused-room p h = refused (lit< tt) (no-room k r p h)
 
     pub all-added : {later : List ℕ} {n : ℕ} → HasPlace count (length s) (length (e .frame)) → length s + (length (e .frame) + 7) ≤ length room → PutsAdded s e room later n
@@ -161,4 +161,4 @@ module _ {s : List ℕ} {count : ℕ} (k : Counts s count) (e : Entry) {room : L
 pub unopened-add : {s : List ℕ} {r : Opened} {why : Refusal} (e : Entry) (room : List ℕ) → Opens s r → r ≡ Unopened why → WritesAdded s e room (Refused why) room
 unopened-add {s} {r} {why} e room a q =
     let u = unopened a q in
-    refused (some-number why) (subst (First (AddCause s e (length room)) order) (u .1) (here (answers.no-book (u .0))))
+    refused (some-number why) (subst (First (AddCause s e (length room)) refusalOrder) (u .1) (here (answers.no-book (u .0))))

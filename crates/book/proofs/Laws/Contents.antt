@@ -7,7 +7,7 @@ use Prim.Native.Nat.{ℕ, suc, _+_, _-_, _/_, _%_, _≤_, _<_}
 use native.Mathlib.Numerals.{add-one}
 use native.Mathlib.Omega.{arith}
 use lib.ListN.{length, getD, take, drop}
-use Rattle.digits.specs.Paper.LowFirst.{lowFirst}
+use Rattle.digits.specs.Paper.LowFirst.{lowByteFirst}
 use Rattle.digits.proofs.Laws.Parts.{take-ats}
 use Rattle.layouts.specs.Paper.Layout.{bytesOf}
 use Rattle.layouts.specs.Paper.Layout as layout
@@ -17,7 +17,7 @@ use Rattle.layouts.specs.declared.nest.Direction.the-variants.{Command as Outwa
 use Rattle.layouts.proofs.Laws.Nest.{nest-size}
 use Rattle.layouts.proofs.Laws.Nibe.{nibe-size}
 use Rattle.frames.specs.Paper.Kinds.{numberOf, layoutOf, Resolves, Frame}
-use Rattle.frames.specs.Paper.Whole.{OneFrame}
+use Rattle.frames.specs.Paper.OneFrame.{OneFrame}
 use Rattle.frames.specs.declared.kinds.Kind.{Kind}
 use Rattle.frames.specs.declared.kinds.Kind.the-variants.{Nikobus, NestCommand, NestResponse, Nibe, Homiq}
 use Rattle.frames.specs.declared.kinds.Resolved.{Resolved}
@@ -37,7 +37,7 @@ use Rattle.book.specs.Work.Reading.{NumberAt}
 -- ---- a frame of a kind, as its layout has it
 
 module _ (kind : Kind) {f : List ℕ} (x : Frame (numberOf kind) f) where
-  laid-out : layout.Frame (layoutOf kind) f
+  laid-out : layout.FrameBy (layoutOf kind) f
   laid-out = of-kind x kind refl
 
   -- what it says has the tag that its fields have
@@ -137,10 +137,10 @@ module _ {k : ℕ} {f : List ℕ} {from to : ℕ} (o : OneFrame k f (record { fr
 -- ---- two bytes of a frame
 
 pub word-at : {s : List ℕ} {at n : ℕ} → at + 2 ≤ length s → n < 65536 → NumberAt s at 2 n → n ≡ u16At at s
-unfolding lowFirst
+unfolding lowByteFirst
 word-at {s} {at} {n} h few x =
     let w : (at + 2) - at ≡ 2 = omega arith in
-    let e : getD s at 0 ∷ getD s (suc at) 0 ∷ [] ≡ lowFirst 2 n = sym (take-ats s 2 at h) ∙ ap (λ (i : ℕ). take i (drop at s)) (sym w) ∙ x .bytes in
+    let e : getD s at 0 ∷ getD s (suc at) 0 ∷ [] ≡ lowByteFirst 2 n = sym (take-ats s 2 at h) ∙ ap (λ (i : ℕ). take i (drop at s)) (sym w) ∙ x .bytes in
     let a : getD s at 0 ≡ n % 256 = ap (λ (t : List ℕ). getD t 0 0) e in
     let b : getD s (at + 1) 0 ≡ n / 256 % 256 = ap (λ (i : ℕ). getD s i 0) (add-one at) ∙ ap (λ (t : List ℕ). getD t 1 0) e in
     omega arith

@@ -9,7 +9,7 @@ use native.Mathlib.Omega.{arith}
 use lib.Dec.{eqb}
 use lib.ListN.{length}
 use Rattle.digits.specs.Paper.Bytes.{part}
-use Rattle.digits.specs.Paper.Refusals.{refusalNumber, order, First, clear, here, after}
+use Rattle.digits.specs.Paper.Refusals.{refusalNumber, refusalOrder, First, clear, here, after}
 use Rattle.digits.specs.declared.refusal.Refusal.{Refusal}
 use Rattle.digits.proofs.Laws.Refusals.{some-number, one-first, cause-at, cause-of, pass-over}
 use Rattle.frames.specs.Paper.Kinds.{Frame}
@@ -20,11 +20,11 @@ use Rattle.puts.specs.Paper.Right.{refused}
 use Rattle.puts.specs.declared.Written.{Written}
 use Rattle.puts.specs.declared.Written.the-variants.{Refused}
 use Rattle.puts.proofs.Laws.Right.{recast}
-use Rattle.book.specs.Paper.Answers.{EntryCause, TellsEntry, EntryLine, EntryLineCause, WritesEntryLine}
+use Rattle.book.specs.Paper.Answers.{EntryCause, LocatesEntry, EntryLine, EntryLineCause, WritesEntryLine}
 use Rattle.book.specs.Paper.Answers as answers
-use Rattle.book.specs.Paper.Book.{Entry, Book, Numbered}
-use Rattle.book.specs.declared.Kept.{Kept}
-use Rattle.book.specs.declared.Kept.the-variants.{Is, Refused as Unkept}
+use Rattle.book.specs.Paper.Book.{Entry, Book, EntryAt}
+use Rattle.book.specs.declared.Located.{Located}
+use Rattle.book.specs.declared.Located.the-variants.{Is, Refused as NotLocated}
 use Rattle.book.proofs.Laws.Entries.{numbered-frame, numbered-below, told-frame, entry-of}
 use Rattle.book.proofs.Laws.One.{one-book, one-numbered}
 
@@ -45,8 +45,8 @@ valid-book {es = es} b (answers.no-book f) = f es b
 abbrev theirs : ℕ → Bool
 theirs k = eqb k 2 || (eqb k 5 || eqb k 4)
 
-line-4 : {k : ℕ} {f : List ℕ} {place room : ℕ} → Frame k f → LineCause k f place room 4 → First (LineCause k f place room) order 4
-line-4 {k} {f} {place} {room} r c = pass-over theirs none-else order (after kind (after frame (here c)))
+line-4 : {k : ℕ} {f : List ℕ} {place room : ℕ} → Frame k f → LineCause k f place room 4 → First (LineCause k f place room) refusalOrder 4
+line-4 {k} {f} {place} {room} r c = pass-over theirs none-else refusalOrder (after kind (after frame (here c)))
   where
     none-else : (i : ℕ) → theirs i ≡ false → LineCause k f place room i → ⊥
     none-else i q (lines.no-kind h) = true≢false q
@@ -59,7 +59,7 @@ line-4 {k} {f} {place} {room} r c = pass-over theirs none-else order (after kind
     frame : LineCause k f place room 5 → ⊥
     frame (lines.no-frame h) = h r
 
-module _ {s : List ℕ} {es : List Entry} {number : ℕ} {e : Entry} {offset : ℕ} (b : Book s es) (n : Numbered es number e offset) where
+module _ {s : List ℕ} {es : List Entry} {number : ℕ} {e : Entry} {offset : ℕ} (b : Book s es) (n : EntryAt es number e offset) where
   there : {room : ℕ} → EntryLineCause s number room 3 → ⊥
   there (answers.no-entry c h) = omega (arith, numbered-below b n, ap (λ (us : List Entry). length us) (one-book c b))
 
@@ -69,33 +69,33 @@ module _ {s : List ℕ} {es : List Entry} {number : ℕ} {e : Entry} {offset : �
   -- and it has no other
   pub the-line : {t : List ℕ} → EntryLine s number t → LineOf (e .kind) (e .frame) offset t
   the-line {t} l =
-      let m : Numbered es number (l .entry) (l .offset) = subst (λ (us : List Entry). Numbered us number (l .entry) (l .offset)) (one-book (l .valid) b) (l .numbered) in
+      let m : EntryAt es number (l .entry) (l .offset) = subst (λ (us : List Entry). EntryAt us number (l .entry) (l .offset)) (one-book (l .valid) b) (l .numbered) in
       let q = one-numbered m n in
       subst (λ (x : Entry). LineOf (x .kind) (x .frame) offset t) (q .0) (subst (λ (o : ℕ). LineOf (l .entry .kind) (l .entry .frame) o t) (q .1) (l .line))
 
-  entry-first : {room : ℕ} (no : ℕ) → First (LineCause (e .kind) (e .frame) offset room) order no → First (EntryLineCause s number room) order no
+  entry-first : {room : ℕ} (no : ℕ) → First (LineCause (e .kind) (e .frame) offset room) refusalOrder no → First (EntryLineCause s number room) refusalOrder no
   entry-first {room} i c = go (decLe 1 i)
     where
       r : Frame (e .kind) (e .frame)
       r = numbered-frame b n
 
-      some : {j : ℕ} → LineCause (e .kind) (e .frame) offset room j → First (EntryLineCause s number room) order j
+      some : {j : ℕ} → LineCause (e .kind) (e .frame) offset room j → First (EntryLineCause s number room) refusalOrder j
       some (lines.no-kind h) = absurd (true≢false (sym (frame-known r) ∙ h))
       some (lines.no-frame f) = absurd (f r)
-      some (lines.short {t = t} l h) = pass-over ours only order (after (valid-book b) (after there (here (answers.short (line-here t l) h))))
+      some (lines.short {t = t} l h) = pass-over ours only refusalOrder (after (valid-book b) (after there (here (answers.short (line-here t l) h))))
 
       fits : i ≡ 0 → EntryLineCause s number room 4 → ⊥
       fits z (answers.short l h) = let q = one-first c (line-4 r (lines.short (the-line l) h)) in omega arith
 
-      go : Dec (1 ≤ i) → First (EntryLineCause s number room) order i
+      go : Dec (1 ≤ i) → First (EntryLineCause s number room) refusalOrder i
       go (yes h) = some (cause-at c h)
       go (no h) =
           let z : i ≡ 0 = omega arith in
-          subst (λ (j : ℕ). First (EntryLineCause s number room) order j) (sym z) (pass-over ours only order (after (valid-book b) (after there (after (fits z) clear))))
+          subst (λ (j : ℕ). First (EntryLineCause s number room) refusalOrder j) (sym z) (pass-over ours only refusalOrder (after (valid-book b) (after there (after (fits z) clear))))
 
 -- ---- the answers
 
-module _ {s : List ℕ} {number : ℕ} {r : Kept} (a : TellsEntry s number r) where
+module _ {s : List ℕ} {number : ℕ} {r : Located} (a : LocatesEntry s number r) where
   module _ {kind offset from to : ℕ} (q : r ≡ Is kind offset from to) where
     pub entry-lined : {room later : List ℕ} (w : Written) → WritesLine kind (part from to s) offset room w later → WritesEntryLine s number room w later
     entry-lined {room} {later} w p =
@@ -106,11 +106,11 @@ module _ {s : List ℕ} {number : ℕ} {r : Kept} (a : TellsEntry s number r) wh
         recast (entry-first (x .valid) (x .numbered)) (line-here (x .valid) (x .numbered)) own
 
   -- anything else than an entry of a valid book
-  pub unkept-line : {why : Refusal} (room : List ℕ) → r ≡ Unkept why → WritesEntryLine s number room (Refused why) room
-  unkept-line {why} room q =
-      let c : First (EntryCause s number) order (refusalNumber why) = cause-of (subst (TellsEntry s number) q a) in
+  pub unlocated-line : {why : Refusal} (room : List ℕ) → r ≡ NotLocated why → WritesEntryLine s number room (Refused why) room
+  unlocated-line {why} room q =
+      let c : First (EntryCause s number) refusalOrder (refusalNumber why) = cause-of (subst (LocatesEntry s number) q a) in
       refused (some-number why) (go (cause-at c (some-number why)))
     where
-      go : {no : ℕ} → EntryCause s number no → First (EntryLineCause s number (length room)) order no
+      go : {no : ℕ} → EntryCause s number no → First (EntryLineCause s number (length room)) refusalOrder no
       go (answers.no-book f) = here (answers.no-book f)
-      go (answers.no-entry b h) = pass-over ours only order (after (valid-book b) (here (answers.no-entry b h)))
+      go (answers.no-entry b h) = pass-over ours only refusalOrder (after (valid-book b) (here (answers.no-entry b h)))

@@ -7,9 +7,9 @@ use Prim.Native.Nat.{ℕ, _+_, _*_, _≤_}
 use native.Mathlib.Omega.{arith}
 use lib.Dec.{eqb, lit<}
 use lib.ListN.{length}
-use Rattle.digits.specs.Paper.Refusals.{order, First, clear, here, after}
+use Rattle.digits.specs.Paper.Refusals.{refusalOrder, First, clear, here, after}
 use Rattle.digits.specs.declared.refusal.Refusal.{Refusal}
-use Rattle.digits.specs.declared.refusal.Refusal.the-variants.{Room}
+use Rattle.digits.specs.declared.refusal.Refusal.the-variants.{NoRoom}
 use Rattle.digits.proofs.Laws.Refusals.{some-number, pass-over}
 use Rattle.puts.specs.Paper.Right.{wrote, refused}
 use Rattle.puts.specs.declared.Written.the-variants.{Bytes, Refused}
@@ -19,7 +19,7 @@ use Rattle.puts.proofs.Laws.Sizes as sizes
 use Rattle.book.specs.Paper.Answers.{Counts, BookLines, ListCause, short, WritesBookLines}
 use Rattle.book.specs.Paper.Answers as answers
 use Rattle.book.specs.Work.Reading.{OpensNoting}
-use Rattle.book.specs.Work.Writing.{Lists, Sized, Fits}
+use Rattle.book.specs.Work.Writing.{Lists, SizedLines, Fits}
 use Rattle.book.specs.declared.Opened.{Opened}
 use Rattle.book.specs.declared.Opened.the-variants.{Refused as Unopened}
 use Rattle.book.proofs.Laws.BookLines.{book-lines, one-book-lines, book-lines-most}
@@ -36,7 +36,7 @@ module _ {s : List ℕ} {count : ℕ} (k : Counts s count) where
   always-fits n h = let l = book-lines (k .valid) in sizes.always-fits (l .0) (l .1) (omega (arith, book-lines-most k (l .1)))
 
   -- where they end, put at a room's front, is their length
-  pub measured : {room later : List ℕ} {n : ℕ} → Lists s room later n → Sized s n
+  pub measured : {room later : List ℕ} {n : ℕ} → Lists s room later n → SizedLines s n
   measured l =
       record { text = l .text; right = l .right; size = omega (arith, l .put .behind, book-lines-most k (l .right), counts-trailed k .few, counts-trailed k .small) }
 
@@ -53,14 +53,14 @@ module _ {s : List ℕ} {room : ℕ} where
   valid-book : {t : List ℕ} → BookLines s t → ListCause s room 8 → ⊥
   valid-book l (answers.no-book f) = f (l .all) (l .valid)
 
-pub list-refused-4 : {s room : List ℕ} → Fits s (length room) false → WritesBookLines s room (Refused Room) room
-list-refused-4 f = refused (lit< tt) (pass-over ours only order (after (valid-book (f .right)) (here (short (f .right) (too-small f)))))
+pub list-refused-4 : {s room : List ℕ} → Fits s (length room) false → WritesBookLines s room (Refused NoRoom) room
+list-refused-4 f = refused (lit< tt) (pass-over ours only refusalOrder (after (valid-book (f .right)) (here (short (f .right) (too-small f)))))
 
 pub list-written : {s room later : List ℕ} {n : ℕ} → Fits s (length room) true → Lists s room later n → WritesBookLines s room (Bytes n) later
 list-written {s} {room} {later} {n} f l =
     let t = l .text in
     let h = roomy f t (l .right) in
-    rw (front-count (l .put) h, front-room (l .put) h) (wrote (pass-over ours only order (after (valid-book (l .right)) (after not-short clear))) (l .right))
+    rw (front-count (l .put) h, front-room (l .put) h) (wrote (pass-over ours only refusalOrder (after (valid-book (l .right)) (after not-short clear))) (l .right))
   where
     not-short : ListCause s (length room) 4 → ⊥
     not-short (short {t = u} b h) = omega (arith, roomy f u b)
@@ -69,4 +69,4 @@ list-written {s} {room} {later} {n} f l =
 pub unopened-list : {s places : List ℕ} {r : Opened} {why : Refusal} (room : List ℕ) → OpensNoting s places r → r ≡ Unopened why → WritesBookLines s room (Refused why) room
 unopened-list {s} {r = r} {why = why} room a q =
     let u = unopened (opens-so a) q in
-    refused (some-number why) (subst (First (ListCause s (length room)) order) (u .1) (here (answers.no-book (u .0))))
+    refused (some-number why) (subst (First (ListCause s (length room)) refusalOrder) (u .1) (here (answers.no-book (u .0))))

@@ -6,7 +6,7 @@ use Prim.Native.Nat.{ℕ, _<_}
 use native.Mathlib.Omega.{arith}
 use lib.Dec.{T}
 use lib.ListN.{length, length-append}
-use Rattle.digits.specs.Paper.LowFirst.{lowFirst}
+use Rattle.digits.specs.Paper.LowFirst.{lowByteFirst}
 use Rattle.digits.proofs.Laws.LowFirst.{length-low, low-inj}
 use Rattle.layouts.proofs.Laws.Heads.{cut-same}
 use Rattle.layouts.proofs.Laws.ByteRuns.{one-of-bytes}
@@ -14,7 +14,7 @@ use Rattle.layouts.specs.Paper.Chars.{all, oneOf}
 use Rattle.layouts.specs.Work.Heads.{isByte}
 use Rattle.frames.specs.Paper.Kinds.{Frame, knownKinds, known}
 use Rattle.frames.proofs.Laws.Kinds.{frame-known}
-use Rattle.book.specs.Paper.Book.{Entry, head, entryBytes, entries, offsets, book, Framed, also, Book, Numbered}
+use Rattle.book.specs.Paper.Book.{Entry, head, entryBytes, entries, offsets, book, Framed, also, Book, EntryAt}
 use Rattle.book.proofs.Laws.Layout.{length-entry, ending, length-ending, book-pieces, length-book}
 
 -- ---- one entry
@@ -27,9 +27,9 @@ kind-byte {k} r = one-of-bytes knownKinds k tt (subst T (sym (frame-known r)) tt
 regroup : (a b c d : List ℕ) → ((a ++ b) ++ c) ++ d ≡ a ++ (b ++ (c ++ d))
 regroup a b c d = simp append-assoc
 
-pub entry-pieces : (e : Entry) (x : List ℕ) → entryBytes e ++ x ≡ lowFirst 1 (e .kind) ++ (lowFirst 2 (length (e .frame)) ++ (e .frame ++ x))
+pub entry-pieces : (e : Entry) (x : List ℕ) → entryBytes e ++ x ≡ lowByteFirst 1 (e .kind) ++ (lowByteFirst 2 (length (e .frame)) ++ (e .frame ++ x))
 unfolding entryBytes head
-entry-pieces e x = regroup (lowFirst 1 (e .kind)) (lowFirst 2 (length (e .frame))) (e .frame) x
+entry-pieces e x = regroup (lowByteFirst 1 (e .kind)) (lowByteFirst 2 (length (e .frame))) (e .frame) x
 
 -- what begins with an entry begins with no other
 pub entry-cut : (e f : Entry) (x y : List ℕ) → e .kind < 256 → f .kind < 256 → length (e .frame) < 65536 → length (f .frame) < 65536 → entryBytes e ++ x ≡ entryBytes f ++ y
@@ -38,8 +38,8 @@ entry-cut e f x y k j l m same =
     let n = length (e .frame) in
     let o = length (f .frame) in
     let whole = sym (entry-pieces e x) ∙ same ∙ entry-pieces f y in
-    let p = cut-same (lowFirst 1 (e .kind)) (lowFirst 1 (f .kind)) (lowFirst 2 n ++ (e .frame ++ x)) (lowFirst 2 o ++ (f .frame ++ y)) (length-low 1 (e .kind) ∙ sym (length-low 1 (f .kind))) whole in
-    let q = cut-same (lowFirst 2 n) (lowFirst 2 o) (e .frame ++ x) (f .frame ++ y) (length-low 2 n ∙ sym (length-low 2 o)) (p .1) in
+    let p = cut-same (lowByteFirst 1 (e .kind)) (lowByteFirst 1 (f .kind)) (lowByteFirst 2 n ++ (e .frame ++ x)) (lowByteFirst 2 o ++ (f .frame ++ y)) (length-low 1 (e .kind) ∙ sym (length-low 1 (f .kind))) whole in
+    let q = cut-same (lowByteFirst 2 n) (lowByteFirst 2 o) (e .frame ++ x) (f .frame ++ y) (length-low 2 n ∙ sym (length-low 2 o)) (p .1) in
     let kinds : e .kind ≡ f .kind = low-inj 1 (e .kind) (f .kind) k j (p .0) in
     let sizes : n ≡ o = low-inj 2 n o l m (q .0) in
     let r = cut-same (e .frame) (f .frame) x y sizes (q .1) in
@@ -70,7 +70,7 @@ counts-same es ts l m same =
     append-assoc (entries es) (offsets 0 es) (ending n) ∙ sym (book-pieces es) ∙ same ∙ book-pieces ts ∙ sym (append-assoc (entries ts) (offsets 0 ts) (ending o)) in
     let sizes : length front ≡ length other = omega (arith, ap length pieces, length-append front (ending n), length-append other (ending o), length-ending n, length-ending o) in
     let c = cut-same front other (ending n) (ending o) sizes pieces in
-    let q = cut-same (lowFirst 2 n) (lowFirst 2 o) _ _ (length-low 2 n ∙ sym (length-low 2 o)) (c .1) in
+    let q = cut-same (lowByteFirst 2 n) (lowByteFirst 2 o) _ _ (length-low 2 n ∙ sym (length-low 2 o)) (c .1) in
     low-inj 2 n o l m (q .0)
 
 pub book-one : {es ts : List Entry} → Framed es → Framed ts → length es < 65536 → length ts < 65536 → length (book es) < 65537 → book es ≡ book ts → es ≡ ts
@@ -101,7 +101,7 @@ fronts-same (g ∷ a) (h ∷ b) e f x y n same =
     let c = fronts-same a b e f x y (omega arith) (ap others same) in
     (ap₂ (λ (u : Entry) (us : List Entry). u ∷ us) (ap (firstOr g) same) (c .0), c .1)
 
-pub one-numbered : {es : List Entry} {number : ℕ} {e f : Entry} {at there : ℕ} → Numbered es number e at → Numbered es number f there → (e ≡ f) × (at ≡ there)
+pub one-numbered : {es : List Entry} {number : ℕ} {e f : Entry} {at there : ℕ} → EntryAt es number e at → EntryAt es number f there → (e ≡ f) × (at ≡ there)
 one-numbered {e = e} {f = f} a b =
     let c = fronts-same (a .before) (b .before) e f (a .behind) (b .behind) (sym (a .number-is) ∙ b .number-is) (sym (a .is) ∙ b .is) in
     (c .1, a .offset-is ∙ ap (λ (u : List Entry). length (entries u)) (c .0) ∙ sym (b .offset-is))

@@ -7,7 +7,7 @@ use lib.ListN.{length}
 use Rattle.digits.specs.Paper.Bytes.{part}
 use Rattle.digits.specs.Paper.Refusals.{Answers, answers, refuses}
 use Rattle.digits.proofs.Laws.Refusals.{cause-at}
-use Rattle.frames.specs.Paper.Whole.{OneFrame}
+use Rattle.frames.specs.Paper.OneFrame.{OneFrame}
 use Rattle.lines.specs.Paper.Answers.{endedPlace, PutContent, PutsContent}
 use Rattle.lines.specs.declared.Ended.{Ended}
 use Rattle.lines.proofs.Theorems.{content-of-frame}

@@ -10,20 +10,20 @@ use lib.Dec.{eqb}
 use lib.ListN.{length, getD, set, length-append, length-set}
 use lib.Seq.{getD-set-same, getD-set-other}
 use Rattle.digits.specs.Paper.Bytes.{part}
-use Rattle.digits.specs.Paper.LowFirst.{lowFirst}
-use Rattle.digits.specs.Paper.Read.{Tells, holds, fails}
+use Rattle.digits.specs.Paper.LowFirst.{lowByteFirst}
+use Rattle.digits.specs.Paper.Read.{Decides, holds, fails}
 use Rattle.digits.specs.declared.refusal.Refusal.{Refusal}
 use Rattle.digits.proofs.Laws.LowFirst.{length-low}
 use Rattle.digits.proofs.Laws.Parts.{length-part, part-join, part-all}
 use Rattle.digits.proofs.Laws.Refusals.{answered, cause-of, cause-at, some-number}
 use Rattle.frames.specs.Paper.Kinds.{Frame}
-use Rattle.frames.specs.Paper.Whole.{WholeCause, no-kind, no-frame, OneFrame, TestsWhole}
-use Rattle.frames.specs.declared.Whole.{Whole}
-use Rattle.frames.specs.declared.Whole.the-variants.{Is, Refused}
+use Rattle.frames.specs.Paper.OneFrame.{OneFrameCause, no-kind, no-frame, OneFrame, TestsOneFrame}
+use Rattle.frames.specs.declared.FramePayload.{FramePayload}
+use Rattle.frames.specs.declared.FramePayload.the-variants.{Is, Refused}
 use Rattle.frames.proofs.Laws.Kinds.{frame-known}
 use Rattle.book.specs.Paper.Book.{Entry, head, entryBytes, entries, offsets, book, Framed, none, also, Book}
-use Rattle.book.specs.Work.Reading.{NumberAt, Heads, Slots, holds as filled-slot, empty, Fills, Noted, none as noted-none, also as noted-also, FillsNoted, Agree, Turns, FillsNoting, noting, unfilled, Trailed}
-use Rattle.book.specs.declared.opening.Slot.the-variants.{Holds, Empty}
+use Rattle.book.specs.Work.Reading.{NumberAt, Heads, Slots, taken as filled-slot, empty, Fills, Noted, none as noted-none, also as noted-also, FillsNoted, Agree, Turns, FillsNoting, noting, unfilled, Trailed}
+use Rattle.book.specs.declared.opening.Slot.the-variants.{Taken, Empty}
 use Rattle.book.proofs.Laws.Layout.{length-entry, length-offsets, ending, book-pieces, length-book}
 use Rattle.book.proofs.Laws.One.{kind-byte, entry-cut}
 use Rattle.book.proofs.Laws.Reading.{part-cut, one-number, headed}
@@ -31,7 +31,7 @@ use Rattle.book.proofs.Laws.Reading.{part-cut, one-number, headed}
 -- ---- the entry at a place
 
 -- a frame that was refused is none
-not-refused : {k : ℕ} {f : List ℕ} {no : ℕ} → Frame k f → WholeCause k f no → ⊥
+not-refused : {k : ℕ} {f : List ℕ} {no : ℕ} → Frame k f → OneFrameCause k f no → ⊥
 not-refused r (no-kind h) = true≢false (sym (frame-known r) ∙ h)
 not-refused r (no-frame h) = h r
 
@@ -43,20 +43,20 @@ module _ (s : List ℕ) (at end : ℕ) (below : at ≤ end) (inside : end ≤ le
     pub slot-long : end < to → Slots s at end Empty
     slot-long l = empty (λ e rest r same. let q = headed {e = e} h below inside small (kind-byte r) same in absurd (omega (arith, q .2)))
 
-    pub slot-none : {w : Whole} {why : Refusal} → TestsWhole kind (part from to s) w → w ≡ Refused why → Slots s at end Empty
+    pub slot-none : {w : FramePayload} {why : Refusal} → TestsOneFrame kind (part from to s) w → w ≡ Refused why → Slots s at end Empty
     slot-none {why = why} t q = empty (λ e rest r same.
         let p = headed {e = e} h below inside small (kind-byte r) same in
         let f : Frame kind (part from to s) = subst (λ (k : ℕ). Frame k (part from to s)) (sym (p .0)) (subst (Frame (e .kind)) (sym (p .3)) r) in
-        not-refused f (cause-at (cause-of (subst (TestsWhole kind (part from to s)) q t)) (some-number why)))
+        not-refused f (cause-at (cause-of (subst (TestsOneFrame kind (part from to s)) q t)) (some-number why)))
 
-    pub slot-is : {w : Whole} {x y : ℕ} → to ≤ end → TestsWhole kind (part from to s) w → w ≡ Is x y → Slots s at end (Holds kind from to x y)
+    pub slot-is : {w : FramePayload} {x y : ℕ} → to ≤ end → TestsOneFrame kind (part from to s) w → w ≡ Is x y → Slots s at end (Taken kind from to x y)
     unfolding entryBytes head
     slot-is l t q =
         let start : at ≤ from = omega (arith, h .from-is) in
         let forth : from ≤ to = h .forward in
         let n : to - from ≡ length (part from to s) = sym (length-part from to s forth (omega arith)) in
-        filled-slot start forth l (answered (subst (TestsWhole kind (part from to s)) q t) refl)
-        (sym (part-join at from to s start forth) ∙ ap (λ (t : List ℕ). t ++ part from to s) (h .bytes ∙ ap (λ (x : ℕ). lowFirst 1 kind ++ lowFirst 2 x) n))
+        filled-slot start forth l (answered (subst (TestsOneFrame kind (part from to s)) q t) refl)
+        (sym (part-join at from to s start forth) ∙ ap (λ (t : List ℕ). t ++ part from to s) (h .bytes ∙ ap (λ (x : ℕ). lowByteFirst 1 kind ++ lowByteFirst 2 x) n))
 
 -- ---- the entries, one after the other
 
@@ -68,7 +68,7 @@ record Next (s : List ℕ) (count end i at : ℕ) : Type 0 where
   framed : Framed others
   left : i + suc (length others) ≡ count
   bytes : part at end s ≡ entryBytes entry ++ entries others
-  places : part (end + 4 * i) (end + 4 * count) s ≡ lowFirst 4 at ++ offsets (at + length (entryBytes entry)) others
+  places : part (end + 4 * i) (end + 4 * count) s ≡ lowByteFirst 4 at ++ offsets (at + length (entryBytes entry)) others
 
 next-in : {s : List ℕ} {count end i at : ℕ} (rest : List Entry) → i < count → Framed rest → i + length rest ≡ count → part at end s ≡ entries rest
     → part (end + 4 * i) (end + 4 * count) s ≡ offsets at rest → Next s count end i at
@@ -77,9 +77,9 @@ next-in [] m g l b p = absurd (omega arith)
 next-in (e ∷ es) m (also r g) l b p = record { entry = e; others = es; frame = r; framed = g; left = l; bytes = b; places = p }
 
 next-fill : (s : List ℕ) (count end i at : ℕ) (places : List ℕ) (e : Entry) (es : List Entry) → Noted places i (e ∷ es) → Frame (e .kind) (e .frame) → Framed es → i + suc (length es) ≡ count
-    → part at end s ≡ entryBytes e ++ entries es → part (end + 4 * i) (end + 4 * count) s ≡ lowFirst 4 at ++ offsets (at + length (entryBytes e)) es → FillsNoted s count end i at places
+    → part at end s ≡ entryBytes e ++ entries es → part (end + 4 * i) (end + 4 * count) s ≡ lowByteFirst 4 at ++ offsets (at + length (entryBytes e)) es → FillsNoted s count end i at places
 unfolding entries offsets
-next-fill s count end i at places e es n r g l b p = record { fills = record { rest = e ∷ es; framed = also r g; left = l; bytes = b; places = p }; noted = n }
+next-fill s count end i at places e es n r g l b p = record { fills = record { remaining = e ∷ es; framed = also r g; left = l; bytes = b; places = p }; noted = n }
 
 module _ {s : List ℕ} {count end : ℕ} {places₀ places : List ℕ} {i at : ℕ} (inside : end + 4 * count ≤ length s) (small : length s ≤ 65536) (t : Turns s count end places₀ places i at) (more : i < count) where
   -- there is room for both places
@@ -87,22 +87,22 @@ module _ {s : List ℕ} {count end : ℕ} {places₀ places : List ℕ} {i at : 
   second-place start = omega (arith, t .few, t .room, length-set places i start)
 
   next-of : Fills s count end i at → Next s count end i at
-  next-of f = next-in (f .rest) more (f .framed) (f .left) (f .bytes) (f .places)
+  next-of f = next-in (f .remaining) more (f .framed) (f .left) (f .bytes) (f .places)
 
   -- the offset in the trailer, and those behind it
-  next-places : (n : Next s count end i at) → (part (end + 4 * i) (end + 4 * i + 4) s ≡ lowFirst 4 at)
+  next-places : (n : Next s count end i at) → (part (end + 4 * i) (end + 4 * i + 4) s ≡ lowByteFirst 4 at)
       × (part (end + 4 * i + 4) (end + 4 * count) s ≡ offsets (at + length (entryBytes (n .entry))) (n .others))
   next-places n =
-      part-cut (end + 4 * i) (end + 4 * i + 4) (end + 4 * count) s (lowFirst 4 at) (offsets (at + length (entryBytes (n .entry))) (n .others))
+      part-cut (end + 4 * i) (end + 4 * i + 4) (end + 4 * count) s (lowByteFirst 4 at) (offsets (at + length (entryBytes (n .entry))) (n .others))
       (omega arith) (omega arith) inside (omega (arith, length-low 4 at)) (n .places)
 
-  pub other-offset : (part (end + 4 * i) (end + 4 * i + 4) s ≡ lowFirst 4 at → ⊥) → Fills s count end 0 0 → ⊥
+  pub other-offset : (part (end + 4 * i) (end + 4 * i + 4) s ≡ lowByteFirst 4 at → ⊥) → Fills s count end 0 0 → ⊥
   other-offset other f = other (next-places (next-of (t .onward f)) .0)
 
   pub no-next : Slots s at end Empty → Fills s count end 0 0 → ⊥
   no-next (empty never) f = let n = next-of (t .onward f) in never (n .entry) (entries (n .others)) (n .frame) (n .bytes)
 
-  module _ (kind from to start stop : ℕ) (here : part (end + 4 * i) (end + 4 * i + 4) s ≡ lowFirst 4 at) where
+  module _ (kind from to start stop : ℕ) (here : part (end + 4 * i) (end + 4 * i + 4) s ≡ lowByteFirst 4 at) where
     abbrev this : Entry
     this = record { kind = kind; frame = part from to s }
 
@@ -130,7 +130,7 @@ module _ {s : List ℕ} {count end : ℕ} {places₀ places : List ℕ} {i at : 
           (ap (λ (x : List ℕ). x ++ part to end s) (sym b) ∙ part-join at to end s (omega (arith, forward, forth)) l ∙ n .bytes) in
           let next : at + length (entryBytes e) ≡ to = ap (λ (x : Entry). at + length (entryBytes x)) (sym (cut .0)) ∙ sym size in
           record {
-            rest = es;
+            remaining = es;
             framed = n .framed;
             left = omega (arith, n .left);
             bytes = cut .1;
@@ -168,12 +168,12 @@ module _ {s : List ℕ} {count end : ℕ} {places₀ places : List ℕ} {i at : 
           → FillsNoted s count end i at later
       turn-back later agree g =
           let f = g .fills in
-          next-fill s count end i at later this (f .rest) (noted-also (this-noted later agree) (g .noted)) r (f .framed) (omega (arith, f .left))
+          next-fill s count end i at later this (f .remaining) (noted-also (this-noted later agree) (g .noted)) r (f .framed) (omega (arith, f .left))
           (sym (part-join at to end s (omega (arith, forward, forth)) l) ∙ ap₂ (λ (x y : List ℕ). x ++ y) b (f .bytes))
           (sym (part-join (end + 4 * i) (end + 4 * i + 4) (end + 4 * count) s (omega arith) (omega arith))
-          ∙ ap₂ (λ (x y : List ℕ). x ++ y) here (ap (λ (x : ℕ). part x (end + 4 * count) s) over ∙ f .places ∙ ap (λ (x : ℕ). offsets x (f .rest)) size))
+          ∙ ap₂ (λ (x y : List ℕ). x ++ y) here (ap (λ (x : ℕ). part x (end + 4 * count) s) over ∙ f .places ∙ ap (λ (x : ℕ). offsets x (f .remaining)) size))
 
-    pub turn : Slots s at end (Holds kind from to start stop) → Turns s count end places₀ (set (set places i start) (1000 + i) stop) (i + 1) to
+    pub turn : Slots s at end (Taken kind from to start stop) → Turns s count end places₀ (set (set places i start) (1000 + i) stop) (i + 1) to
     turn (filled-slot forward forth l o b) =
         record {
           place-in = l;
@@ -182,13 +182,13 @@ module _ {s : List ℕ} {count end : ℕ} {places₀ places : List ℕ} {i at : 
           room = omega (arith, t .room, length-set places i start, length-set (set places i start) (1000 + i) stop);
           same = length-set (set places i start) (1000 + i) stop ∙ length-set places i start ∙ t .same;
           onward = λ f. next-turn forward forth l o b (t .onward f);
-          whole = λ later agree f. t .whole later (agree-before forward forth l o b later agree) (turn-back forward forth l o b later agree f);
+          completes = λ later agree f. t .completes later (agree-before forward forth l o b later agree) (turn-back forward forth l o b later agree f);
         }
 
 -- ---- all of them
 
 pub no-turns : (s : List ℕ) (count end : ℕ) (places : List ℕ) → count ≤ 1000 → 2000 ≤ length places → Turns s count end places places 0 0
-no-turns s count end places few h = record { place-in = omega arith; turn-in = omega arith; few = few; room = h; same = refl; onward = λ f. f; whole = λ later agree f. f }
+no-turns s count end places few h = record { place-in = omega arith; turn-in = omega arith; few = few; room = h; same = refl; onward = λ f. f; completes = λ later agree f. f }
 
 none-left : (s : List ℕ) (end at : ℕ) (rest : List Entry) → at ≤ end → end ≤ length s → length rest ≡ 0 → part at end s ≡ entries rest → at ≡ end
 unfolding entries
@@ -200,15 +200,15 @@ unfolding entries offsets
 all-left s count end i at places e k =
     let z : end - at ≡ 0 = omega arith in
     let y : (end + 4 * count) - (end + 4 * i) ≡ 0 = omega arith in
-    record { fills = record { rest = []; framed = none; left = omega arith; bytes = rw z refl; places = rw y refl }; noted = noted-none }
+    record { fills = record { remaining = []; framed = none; left = omega arith; bytes = rw z refl; places = rw y refl }; noted = noted-none }
 
 pub turns-end : {s : List ℕ} {count end : ℕ} {places₀ places : List ℕ} {i at : ℕ} → end + 4 * count ≤ length s → Turns s count end places₀ places i at → count ≤ i
     → FillsNoting s count end places (eqb at end)
 turns-end {s} {count} {end} {places = places} {i = i} {at = at} inside t h = go (eqb at end) refl
   where
     go : (b : Bool) → eqb at end ≡ b → FillsNoting s count end places b
-    go true e = noting (t .whole places (record { starts = λ j l. refl; stops = λ j l. refl }) (all-left s count end i at places (eqb-true at end e) (omega (arith, t .turn-in)))) (t .room)
-    go false e = unfilled (λ f. let g = t .onward f in eqb-false at end e (none-left s end at (g .rest) (t .place-in) (omega arith) (omega (arith, g .left)) (g .bytes)))
+    go true e = noting (t .completes places (record { starts = λ j l. refl; stops = λ j l. refl }) (all-left s count end i at places (eqb-true at end e) (omega (arith, t .turn-in)))) (t .room)
+    go false e = unfilled (λ f. let g = t .onward f in eqb-false at end e (none-left s end at (g .remaining) (t .place-in) (omega arith) (omega (arith, g .left)) (g .bytes)))
 
 -- what the loop answers
 pub noted-in : {s : List ℕ} {count end : ℕ} {places : List ℕ} {b : Bool} → FillsNoting s count end places b → b ≡ true → (f : FillsNoted s count end 0 0 places) × (2000 ≤ length places)
@@ -223,16 +223,16 @@ not-noted (unfilled f) e = f
 
 -- what ends as the book of some count does says that count
 pub the-count : {s : List ℕ} {count n : ℕ} → n < 65536 → NumberAt s (length s - 6) 2 n → Trailed s count
-    → (n ≡ count) × (part (length s - 4) (length s) s ≡ lowFirst 4 (4 * count + 6))
+    → (n ≡ count) × (part (length s - 4) (length s) s ≡ lowByteFirst 4 (4 * count + 6))
 the-count {s} {count} {n} h p t =
     let room = t .room in
     let z : length s - 6 + 2 ≡ length s - 4 = omega arith in
-    let cut = part-cut (length s - 6) (length s - 6 + 2) (length s) s (lowFirst 2 count) (lowFirst 4 (4 * count + 6)) (omega arith) (omega arith) (omega arith)
+    let cut = part-cut (length s - 6) (length s - 6 + 2) (length s) s (lowByteFirst 2 count) (lowByteFirst 4 (4 * count + 6)) (omega arith) (omega arith) (omega arith)
     (omega (arith, length-low 2 count)) (t .bytes) in
     (one-number h (omega (arith, t .few)) p (record { bytes = cut .0 }), ap (λ (x : ℕ). part x (length s) s) (sym z) ∙ cut .1)
 
 pub trailed-is : {s : List ℕ} {count : ℕ} {b : Bool} → length s ≤ 65536 → count ≤ 1000 → 4 * count + 6 ≤ length s → NumberAt s (length s - 6) 2 count
-    → Tells (part (length s - 4) (length s) s ≡ lowFirst 4 (4 * count + 6)) b → Tells ((n : ℕ) × Trailed s n) b
+    → Decides (part (length s - 4) (length s) s ≡ lowByteFirst 4 (4 * count + 6)) b → Decides ((n : ℕ) × Trailed s n) b
 trailed-is {s} {count} small few room p (holds e) =
     let z : length s - 6 + 2 ≡ length s - 4 = omega arith in
     holds (
@@ -247,7 +247,7 @@ trailed-is {s} {count} small few room p (holds e) =
       },
     )
 trailed-is {s} {count} small few room p (fails other) =
-    fails (λ t. let q = the-count (omega arith) p (t .1) in other (q .1 ∙ ap (λ (n : ℕ). lowFirst 4 (4 * n + 6)) (sym (q .0))))
+    fails (λ t. let q = the-count (omega arith) p (t .1) in other (q .1 ∙ ap (λ (n : ℕ). lowByteFirst 4 (4 * n + 6)) (sym (q .0))))
 
 -- ---- the whole
 
@@ -290,11 +290,11 @@ book-filled {s} {es} b =
     let end = trailerAt s (length es) in
     let p = pieces-of s es end (b .is) (trailer-place b) in
     let z : end + 4 * 0 ≡ end = omega arith in
-    record { rest = es; framed = b .within .framed; left = omega arith; bytes = p .0; places = ap (λ (x : ℕ). part x (end + 4 * length es) s) z ∙ p .1 }
+    record { remaining = es; framed = b .within .framed; left = omega arith; bytes = p .0; places = ap (λ (x : ℕ). part x (end + 4 * length es) s) z ∙ p .1 }
 
-pub filled-book : {s : List ℕ} {count : ℕ} → Trailed s count → (f : Fills s count (trailerAt s count) 0 0) → Book s (f .rest)
+pub filled-book : {s : List ℕ} {count : ℕ} → Trailed s count → (f : Fills s count (trailerAt s count) 0 0) → Book s (f .remaining)
 filled-book {s} {count} t f =
-    let es = f .rest in
+    let es = f .remaining in
     let n : length es ≡ count = omega (arith, f .left) in
     let end = trailerAt s count in
     let place : end + (4 * length es + 6) ≡ length s = omega (arith, t .room) in

@@ -7,7 +7,7 @@ use native.Mathlib.Nat.{pow-suc, mul-right-comm, zero-add, suc-add}
 use native.Mathlib.Omega.{arith}
 use lib.ListN.{length, getD, take, drop, length-append}
 use Rattle.digits.specs.Paper.Bytes.{Bytes, part}
-use Rattle.digits.specs.Paper.LowFirst.{lowFirst}
+use Rattle.digits.specs.Paper.LowFirst.{lowByteFirst}
 use Rattle.digits.proofs.Laws.LowFirst.{length-low, low-inj}
 use Rattle.digits.proofs.Laws.Parts.{length-part, part-join, take-ats}
 use Rattle.layouts.proofs.Laws.Heads.{cut-same}
@@ -26,11 +26,11 @@ part-cut a m e s x y h k l n same =
 -- ---- numbers
 
 -- two numbers one behind the other are one of both widths
-low-join : (v w a b : ℕ) → a < 256 ^ v → lowFirst (v + w) (a + 256 ^ v * b) ≡ lowFirst v a ++ lowFirst w b
-unfolding lowFirst
+low-join : (v w a b : ℕ) → a < 256 ^ v → lowByteFirst (v + w) (a + 256 ^ v * b) ≡ lowByteFirst v a ++ lowByteFirst w b
+unfolding lowByteFirst
 low-join zero w a b h =
     let n : a + 256 ^ 0 * b ≡ b = omega arith in
-    ap₂ lowFirst (zero-add w) n
+    ap₂ lowByteFirst (zero-add w) n
 low-join (suc v) w a b h =
     let x = 256 ^ v * b in
     let p : 256 ^ suc v * b ≡ x * 256 = ap (λ (y : ℕ). y * b) (pow-suc 256 v) ∙ mul-right-comm (256 ^ v) 256 b in
@@ -40,7 +40,7 @@ low-join (suc v) w a b h =
     rw (suc-add v w, first, others, low-join v w (a / 256) b few)
 
 pub byte-at : (s : List ℕ) (at : ℕ) → Bytes s → at < length s → NumberAt s at 1 (getD s at 0)
-unfolding lowFirst
+unfolding lowByteFirst
 byte-at s at b h =
     let w : (at + 1) - at ≡ 1 = omega arith in
     let n : getD s at 0 % 256 ≡ getD s at 0 = omega (arith, b .each at) in
@@ -52,7 +52,7 @@ numbers-join {s} {at} v w {a} {b} h p q =
     record {
       bytes =
           ap (λ (x : ℕ). part at x s) (sym e) ∙ sym (part-join at (at + v) (at + v + w) s (omega arith) (omega arith))
-          ∙ ap (λ (t : List ℕ). t ++ part (at + v) (at + v + w) s) (p .bytes) ∙ ap (λ (t : List ℕ). lowFirst v a ++ t) (q .bytes) ∙ sym (low-join v w a b h);
+          ∙ ap (λ (t : List ℕ). t ++ part (at + v) (at + v + w) s) (p .bytes) ∙ ap (λ (t : List ℕ). lowByteFirst v a ++ t) (q .bytes) ∙ sym (low-join v w a b h);
     }
 
 -- there is one number of a width at a place
@@ -73,8 +73,8 @@ heads {s} {at} {kind} {from} {n} {to} e h l t p q =
       size = omega arith;
       bytes =
           ap (λ (x : ℕ). part at x s) (sym z) ∙ sym (part-join at (at + 1) (at + 1 + 2) s (omega arith) (omega arith))
-          ∙ ap (λ (t : List ℕ). t ++ part (at + 1) (at + 1 + 2) s) (p .bytes) ∙ ap (λ (t : List ℕ). lowFirst 1 kind ++ t) (q .bytes)
-          ∙ ap (λ (x : ℕ). lowFirst 1 kind ++ lowFirst 2 x) m;
+          ∙ ap (λ (t : List ℕ). t ++ part (at + 1) (at + 1 + 2) s) (p .bytes) ∙ ap (λ (t : List ℕ). lowByteFirst 1 kind ++ t) (q .bytes)
+          ∙ ap (λ (x : ℕ). lowByteFirst 1 kind ++ lowByteFirst 2 x) m;
     }
 
 -- an entry that stands at a place has the head that stands there
@@ -91,7 +91,7 @@ headed {s} {at} {end} {kind} {from} {to} {e} {rest} h below inside small byte sa
     let from-is : from ≡ at + 3 = h .from-is in
     let away = part-cut at there end s (entryBytes e) rest (omega arith) (omega (arith, length-entry e)) inside (omega arith) same in
     let cut = part-cut at from there s (head e) f (omega arith) (omega (arith, length-entry e)) (omega (arith, length-entry e)) (omega (arith, length-head e)) (away .0) in
-    let two = cut-same (lowFirst 1 kind) (lowFirst 1 (e .kind)) (lowFirst 2 (to - from)) (lowFirst 2 n) (length-low 1 kind ∙ sym (length-low 1 (e .kind))) (sym (h .bytes) ∙ cut .0) in
+    let two = cut-same (lowByteFirst 1 kind) (lowByteFirst 1 (e .kind)) (lowByteFirst 2 (to - from)) (lowByteFirst 2 n) (length-low 1 kind ∙ sym (length-low 1 (e .kind))) (sym (h .bytes) ∙ cut .0) in
     let kinds : kind ≡ e .kind = low-inj 1 kind (e .kind) (h .kind-byte) byte (two .0) in
     let lengths : to - from ≡ n = low-inj 2 (to - from) n (h .size) (omega arith) (two .1) in
     let forth : from ≤ to = h .forward in

@@ -7,9 +7,9 @@ use native.Mathlib.Omega.{arith}
 use lib.ListN.{length, getD}
 use Rattle.digits.specs.Paper.Bytes.{part}
 use Rattle.frames.specs.Paper.Kinds.{Frame}
-use Rattle.frames.specs.Paper.Whole.{OneFrame}
+use Rattle.frames.specs.Paper.OneFrame.{OneFrame}
 use Rattle.lines.specs.Paper.Answers.{LineOf}
-use Rattle.puts.specs.Paper.Put.{last}
+use Rattle.puts.specs.Paper.Put.{largestPlace}
 use Rattle.puts.proofs.Laws.Puts.{_then_}
 use Rattle.puts.proofs.Laws.Puts.{none as nothing}
 use Rattle.book.specs.Paper.Answers.{EntryLines, none, line, BookLines}
@@ -24,12 +24,12 @@ use Rattle.book.proofs.Laws.Reading.{headed}
 
 -- ---- the loop begins
 
-pub started : {s places : List ℕ} {count : ℕ} (room : List ℕ) → length room ≤ last → Noting s count places → Listing s places room room count 0 0 0
+pub started : {s places : List ℕ} {count : ℕ} (room : List ℕ) → length room ≤ largestPlace → Noting s count places → Listing s places room room count 0 0 0
 started {s} room slice x =
     let k = x .counts in
     let es = k .all in
     record {
-      rest = es;
+      remaining = es;
       noted = x .noted;
       framed = k .valid .within .framed;
       left = omega (arith, k .is);
@@ -37,7 +37,7 @@ started {s} room slice x =
       bytes = pieces-of s es (0 + length (entries es)) (k .valid .is) (omega (arith, book-size (k .valid))) .0;
       done = [];
       put = nothing room 0 slice (omega arith);
-      whole = λ t l. record { all = es; valid = k .valid; lines = l };
+      completes = λ t l. record { all = es; valid = k .valid; lines = l };
     }
 
 -- ---- what stands there
@@ -52,19 +52,19 @@ rest-noted (noted-also o n) = n
 
 module _ {s places room room₀ : List ℕ} {next count i place : ℕ} (c : Listing s places room room₀ count next i place) where
   abbrev end : ℕ
-  end = place + length (entries (c .rest))
+  end = place + length (entries (c .remaining))
 
   -- an entry is left
   record Left : Type 0 where
     entry : Entry
     later : List Entry
-    is : c .rest ≡ entry ∷ later
+    is : c .remaining ≡ entry ∷ later
 
   module _ (small : length s ≤ 65536) (h : i < count) where
     an-entry : Left
-    an-entry = go (c .rest) refl (c .left)
+    an-entry = go (c .remaining) refl (c .left)
       where
-        go : (es : List Entry) → c .rest ≡ es → i + length es ≡ count → Left
+        go : (es : List Entry) → c .remaining ≡ es → i + length es ≡ count → Left
         go [] e n = absurd (omega arith)
         go (x ∷ es) e n = record { entry = x; later = es; is = e }
 
@@ -80,7 +80,7 @@ module _ {s places room room₀ : List ℕ} {next count i place : ℕ} (c : List
     is-frame : Frame (entry .kind) (entry .frame)
     is-frame = first-framed framed
 
-    sizes : length (entries (c .rest)) ≡ length (entryBytes entry) + length (entries later)
+    sizes : length (entries (c .remaining)) ≡ length (entryBytes entry) + length (entries later)
     sizes = ap (λ (es : List Entry). length (entries es)) (an-entry .is) ∙ length-entries entry later
 
     pub head-in : place + 3 ≤ length s
@@ -116,18 +116,18 @@ module _ {s places room room₀ : List ℕ} {next count i place : ℕ} (c : List
       -- it completes the lines with those that are left
       line-more : {t : List ℕ} (u : List ℕ) → LineOf kind (part from behind s) place t → EntryLines behind later u → BookLines s (c .done ++ (t ++ u))
       line-more {t} u l ls =
-          c .whole (t ++ u)
+          c .completes (t ++ u)
           (subst (λ (es : List Entry). EntryLines place es (t ++ u)) (sym (an-entry .is)) (line (own l) (subst (λ (a : ℕ). EntryLines a later u) (says .1) ls)))
 
       module _ {now : List ℕ} {n : ℕ} (p : PutsOne kind (part from behind s) place room₀ now next n) where
         pub turned : Listing s places room now count n (i + 1) behind
         turned =
             let t = p .text in
-            let m : length (c .rest) ≡ length (entry ∷ later) = ap (λ (es : List Entry). length es) (an-entry .is) in
+            let m : length (c .remaining) ≡ length (entry ∷ later) = ap (λ (es : List Entry). length es) (an-entry .is) in
             let w : behind ≡ place + length (entryBytes entry) = says .1 in
             let z : behind + length (entries later) ≡ end = omega (arith, sizes) in
             record {
-              rest = later;
+              remaining = later;
               noted = rest-noted noted;
               framed = rest-framed framed;
               left = omega (arith, c .left);
@@ -135,13 +135,13 @@ module _ {s places room room₀ : List ℕ} {next count i place : ℕ} (c : List
               bytes = ap (λ (e : ℕ). part behind e s) z ∙ says .4;
               done = c .done ++ t;
               put = c .put then p .put;
-              whole = λ u ls. subst (BookLines s) (sym (append-assoc (c .done) t u)) (line-more u (p .right) ls);
+              completes = λ u ls. subst (BookLines s) (sym (append-assoc (c .done) t u)) (line-more u (p .right) ls);
             }
 
   -- no entry is left
   pub ended : count ≤ i → Lists s room room₀ next
   ended h =
-      record { text = c .done; right = subst (BookLines s) (append-nil (c .done)) (c .whole [] (go (c .rest) (c .left))); put = c .put }
+      record { text = c .done; right = subst (BookLines s) (append-nil (c .done)) (c .completes [] (go (c .remaining) (c .left))); put = c .put }
     where
       go : (es : List Entry) → i + length es ≡ count → EntryLines place es []
       go [] e = none

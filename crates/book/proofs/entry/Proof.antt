@@ -17,8 +17,8 @@ returns c =
     let k = opened-counts (c .before .before .before .before .«open» .ensures) (c .before .before .count .given .1) in
     no-entry-told k (omega (arith, c .if1 .taken))
 
-told-requires : tie.Need-told-requires
-told-requires c κs = (opened-counts (c .before .before .before .before .«open» .ensures) (c .before .before .count .given .1), omega (arith, c .if1 .left))
+locate-requires : tie.Need-locate-requires
+locate-requires c κs = (opened-counts (c .before .before .before .before .«open» .ensures) (c .before .before .count .given .1), omega (arith, c .if1 .left))
 
 enum-known-why : tie.Need-enum-known-why
 enum-known-why c = search needs
@@ -36,7 +36,7 @@ entry-spec =
     open-requires
     enum-known-count
     returns
-    told-requires
+    locate-requires
     enum-known-why
     returns-2
     returns-3)

@@ -1,7 +1,7 @@
 -- `book::line` meets its contract: an entry's frame is a part of the book, and its line is the frame's.
 -- Assumes nothing.
 use Rattle.book.proofs.Laws.Entries.{entry-of, told-inside}
-use Rattle.book.proofs.Laws.EntryLines.{entry-lined, unkept-line}
+use Rattle.book.proofs.Laws.EntryLines.{entry-lined, unlocated-line}
 use borrow.Author.Needs.{needs}
 use Rattle.book.proofs.line.Statement.{statement}
 use Rattle.book.proofs.line.Tie as tie
@@ -37,7 +37,7 @@ returns c =
     entry-lined (k .before .before .entry .ensures) (k .kind .given .1) (w .write .result) (w .write .ensures)
 
 returns-2 : tie.Need-returns-2
-returns-2 c = unkept-line (c .before .before .before .entry .ensures) (c .before .before .before .before .before .before .args .room .now) (c .before .why .given .1)
+returns-2 c = unlocated-line (c .before .before .before .entry .ensures) (c .before .before .before .before .before .before .args .room .now) (c .before .why .given .1)
 
 pub line-spec : {M : Type 1} → statement M
 line-spec =

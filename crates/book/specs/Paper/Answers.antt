@@ -12,20 +12,20 @@ use Rattle.frames.specs.Paper.Kinds.{known, Frame}
 use Rattle.lines.specs.Paper.Answers.{LineOf}
 use Rattle.puts.specs.Paper.Right.{WritesRight}
 use Rattle.puts.specs.declared.Written.{Written}
-use Rattle.book.specs.Paper.Book.{Entry, head, entryBytes, book, mostEntries, mostBytes, Book, Numbered}
+use Rattle.book.specs.Paper.Book.{Entry, head, entryBytes, book, mostEntries, mostBytes, Book, EntryAt}
 use Rattle.book.specs.declared.Opened.{Opened}
 use Rattle.book.specs.declared.Opened.the-variants.{Count, Refused}
-use Rattle.book.specs.declared.Kept.{Kept}
-use Rattle.book.specs.declared.Kept.the-variants.{Is, Refused as Unkept}
+use Rattle.book.specs.declared.Located.{Located}
+use Rattle.book.specs.declared.Located.the-variants.{Is, Refused as NotLocated}
 
 -- 01, "Refusal numbers": 8 "not a valid book"
-abbrev pub NoBook : List ℕ → Type 0
-NoBook s = (es : List Entry) → Book s es → ⊥
+abbrev pub NoValidBook : List ℕ → Type 0
+NoValidBook s = (es : List Entry) → Book s es → ⊥
 
 -- ---- open: "Opening checks all of this"
 
 pub data OpenCause (s : List ℕ) : ℕ → Type 0 where
-  no-book : NoBook s → OpenCause s 8
+  no-book : NoValidBook s → OpenCause s 8
 
 -- the book s has n entries
 pub record Counts (s : List ℕ) (n : ℕ) : Type 0 where
@@ -33,9 +33,9 @@ pub record Counts (s : List ℕ) (n : ℕ) : Type 0 where
   pub valid : Book s all
   pub is : n ≡ length all
 
-abbrev pub openedNumber : Opened → ℕ
-openedNumber (Count n) = 0
-openedNumber (Refused why) = refusalNumber why
+abbrev pub openedRefusal : Opened → ℕ
+openedRefusal (Count n) = 0
+openedRefusal (Refused why) = refusalNumber why
 
 abbrev pub openedCount : Opened → ℕ
 openedCount (Count n) = n
@@ -43,56 +43,57 @@ openedCount (Refused why) = 0
 
 -- r is the right answer
 abbrev pub Opens : List ℕ → Opened → Type 0
-Opens s r = Answers 0 (OpenCause s) (Counts s) (openedNumber r) (openedCount r)
+Opens s r = Answers 0 (OpenCause s) (Counts s) (openedRefusal r) (openedCount r)
 
 -- ---- entry and frame
 
 -- 8 "not a valid book"; 3 "entry number not below the count"
 pub data EntryCause (s : List ℕ) (number : ℕ) : ℕ → Type 0 where
-  no-book : NoBook s → EntryCause s number 8
+  no-book : NoValidBook s → EntryCause s number 8
   no-entry : {es : List Entry} → Book s es → length es ≤ number → EntryCause s number 3
 
--- what is told of an entry: its kind, its offset, and the places in the book where its frame begins and ends
-pub record Told : Type 0 where
+-- what is reported of an entry: its kind, its offset, and the places in the book where its frame begins and ends
+pub record Location : Type 0 where
   pub kind : ℕ
   pub offset : ℕ
   pub from : ℕ
   pub to : ℕ
 
--- that is told of the entry of that number
-pub record EntryOf (s : List ℕ) (number : ℕ) (v : Told) : Type 0 where
+-- v is what is reported of the entry of that number
+pub record EntryOf (s : List ℕ) (number : ℕ) (v : Location) : Type 0 where
   pub all : List Entry
   pub valid : Book s all
   pub entry : Entry
-  pub numbered : Numbered all number entry (v .offset)
+  pub numbered : EntryAt all number entry (v .offset)
   pub kind-is : v .kind ≡ entry .kind
   pub from-is : v .from ≡ v .offset + length (head entry)
   pub to-is : v .to ≡ v .offset + length (entryBytes entry)
 
-abbrev pub keptNumber : Kept → ℕ
-keptNumber (Is kind offset from to) = 0
-keptNumber (Unkept why) = refusalNumber why
+abbrev pub locatedRefusal : Located → ℕ
+locatedRefusal (Is kind offset from to) = 0
+locatedRefusal (NotLocated why) = refusalNumber why
 
-abbrev pub zeroTold : Told
-zeroTold = record { kind = 0; offset = 0; from = 0; to = 0 }
+abbrev pub zeroLocation : Location
+zeroLocation = record { kind = 0; offset = 0; from = 0; to = 0 }
 
-abbrev pub keptTold : Kept → Told
-keptTold (Is kind offset from to) = record { kind = kind; offset = offset; from = from; to = to }
-keptTold (Unkept why) = zeroTold
+abbrev pub locatedValue : Located → Location
+locatedValue (Is kind offset from to) = record { kind = kind; offset = offset; from = from; to = to }
+locatedValue (NotLocated why) = zeroLocation
 
 -- r is the right answer
-abbrev pub TellsEntry : List ℕ → ℕ → Kept → Type 0
-TellsEntry s number r = Answers zeroTold (EntryCause s number) (EntryOf s number) (keptNumber r) (keptTold r)
+abbrev pub LocatesEntry : List ℕ → ℕ → Located → Type 0
+LocatesEntry s number r =
+    Answers zeroLocation (EntryCause s number) (EntryOf s number) (locatedRefusal r) (locatedValue r)
 
 -- where the frame of that entry begins and ends
-abbrev pub toldEnds : Told → Ends
-toldEnds v = record { from = v .from; to = v .to }
+abbrev pub locationEnds : Location → Ends
+locationEnds v = record { from = v .from; to = v .to }
 
 -- r is that part of the book
 abbrev pub HandsFrame : RefT (List ℕ) → ℕ → RefT (List ℕ) → Type 0
 HandsFrame s number r =
     HandsPart (EntryCause (now s) number)
-    (λ e. (v : Told) × (EntryOf (now s) number v) × (e ≡ toldEnds v)) s r
+    (λ e. (v : Location) × (EntryOf (now s) number v) × (e ≡ locationEnds v)) s r
 
 -- ---- line: "A book's entries give the same lines, `at` being the entry's offset"
 
@@ -102,12 +103,12 @@ pub record EntryLine (s : List ℕ) (number : ℕ) (t : List ℕ) : Type 0 where
   pub valid : Book s all
   pub entry : Entry
   pub offset : ℕ
-  pub numbered : Numbered all number entry offset
+  pub numbered : EntryAt all number entry offset
   pub line : LineOf (entry .kind) (entry .frame) offset t
 
 -- 8 "not a valid book"; 3 "entry number not below the count"; 4 "lent room too short for the answer"
 pub data EntryLineCause (s : List ℕ) (number room : ℕ) : ℕ → Type 0 where
-  no-book : NoBook s → EntryLineCause s number room 8
+  no-book : NoValidBook s → EntryLineCause s number room 8
   no-entry : {es : List Entry} → Book s es → length es ≤ number → EntryLineCause s number room 3
   short : {t : List ℕ} → EntryLine s number t → room < length t → EntryLineCause s number room 4
 
@@ -133,7 +134,7 @@ pub record BookLines (s t : List ℕ) : Type 0 where
 
 -- 8 "not a valid book"; 4 "lent room too short for the answer"
 pub data ListCause (s : List ℕ) (room : ℕ) : ℕ → Type 0 where
-  no-book : NoBook s → ListCause s room 8
+  no-book : NoValidBook s → ListCause s room 8
   short : {t : List ℕ} → BookLines s t → room < length t → ListCause s room 4
 
 -- r is the right answer, and `later` the right room afterwards
@@ -152,7 +153,7 @@ pub record Adds (s : List ℕ) (e : Entry) (bs : List ℕ) : Type 0 where
 -- 8 "not a valid book"; 2 "kind not 1 to 5"; 5 "a .. frame or book outside its limits"; 4 "lent room too short for
 -- the answer"
 pub data AddCause (s : List ℕ) (e : Entry) (room : ℕ) : ℕ → Type 0 where
-  no-book : NoBook s → AddCause s e room 8
+  no-book : NoValidBook s → AddCause s e room 8
   no-kind : known (e .kind) ≡ false → AddCause s e room 2
   no-frame : (Frame (e .kind) (e .frame) → ⊥) → AddCause s e room 5
   too-many : {es : List Entry} → Book s es → mostEntries < length (es ++ e ∷ []) → AddCause s e room 5

@@ -4,7 +4,7 @@ use mathlib.Core.List.{List, [], _∷_, _++_}
 use mathlib.Core.Path.{_≡_}
 use Prim.Native.Nat.{ℕ, _+_, _≤_}
 use lib.ListN.{length}
-use Rattle.digits.specs.Paper.LowFirst.{lowFirst}
+use Rattle.digits.specs.Paper.LowFirst.{lowByteFirst}
 use Rattle.frames.specs.Paper.Kinds.{Frame}
 
 -- ---- the layout
@@ -16,7 +16,7 @@ pub record Entry : Type 0 where
 
 -- "kind (1), frame length (2)": what stands before an entry's frame
 unfoldable pub head : Entry → List ℕ
-head e = lowFirst 1 (e .kind) ++ lowFirst 2 (length (e .frame))
+head e = lowByteFirst 1 (e .kind) ++ lowByteFirst 2 (length (e .frame))
 
 -- "kind (1), frame length (2), one frame of that kind"
 unfoldable pub entryBytes : Entry → List ℕ
@@ -27,19 +27,19 @@ unfoldable pub entries : List Entry → List ℕ
 entries [] = []
 entries (e ∷ es) = entryBytes e ++ entries es
 
--- "each entry's offset (4 each)", where the first of them stands at `at`
+-- "each entry's offset (4 each)"; the first of these entries stands at `at`
 unfoldable pub offsets : ℕ → List Entry → List ℕ
 offsets at [] = []
-offsets at (e ∷ es) = lowFirst 4 at ++ offsets (at + length (entryBytes e)) es
+offsets at (e ∷ es) = lowByteFirst 4 at ++ offsets (at + length (entryBytes e)) es
 
 -- "each entry's offset (4 each), count (2)"
 abbrev pub counted : List Entry → List ℕ
-counted es = offsets 0 es ++ lowFirst 2 (length es)
+counted es = offsets 0 es ++ lowByteFirst 2 (length es)
 
 -- "Then a trailer: each entry's offset (4 each), count (2), and the distance from the book's end back to the
 -- trailer's start (4)"
 unfoldable pub trailer : List Entry → List ℕ
-trailer es = counted es ++ lowFirst 4 (length (counted es) + 4)
+trailer es = counted es ++ lowByteFirst 4 (length (counted es) + 4)
 
 unfoldable pub book : List Entry → List ℕ
 book es = entries es ++ trailer es
@@ -70,7 +70,7 @@ pub record Book (s : List ℕ) (es : List Entry) : Type 0 where
   pub is : s ≡ book es
 
 -- e is the entry of that number, and stands at that offset
-pub record Numbered (es : List Entry) (number : ℕ) (e : Entry) (offset : ℕ) : Type 0 where
+pub record EntryAt (es : List Entry) (number : ℕ) (e : Entry) (offset : ℕ) : Type 0 where
   pub before : List Entry
   pub behind : List Entry
   pub is : es ≡ before ++ e ∷ behind

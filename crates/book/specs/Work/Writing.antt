@@ -15,7 +15,7 @@ use Rattle.book.specs.Work.Reading.{Noted}
 
 -- ---- adding
 
--- a book of so many entries and bytes has place for one more with a frame of so many
+-- a book of this many entries and bytes has place for one more entry, with a frame of this length
 pub record HasPlace (count size frame : ℕ) : Type 0 where
   pub few : suc count ≤ mostEntries
   pub small : size + (frame + 7) ≤ mostBytes
@@ -44,19 +44,19 @@ pub record Lists (s room later : List ℕ) (behind : ℕ) : Type 0 where
 
 -- a loop's turns so far: the lines that are put, and the entries that are left, whose lines complete those of the book
 pub record Listing (s places room later : List ℕ) (count next i at : ℕ) : Type 0 where
-  pub rest : List Entry
-  pub noted : Noted places i rest
-  pub framed : Framed rest
-  pub left : i + length rest ≡ count
-  pub place-in : at + length (entries rest) ≤ length s
-  pub bytes : part at (at + length (entries rest)) s ≡ entries rest
+  pub remaining : List Entry
+  pub noted : Noted places i remaining
+  pub framed : Framed remaining
+  pub left : i + length remaining ≡ count
+  pub place-in : at + length (entries remaining) ≤ length s
+  pub bytes : part at (at + length (entries remaining)) s ≡ entries remaining
   pub done : List ℕ
   pub put : Put room later 0 next done
-  pub whole : (t : List ℕ) → EntryLines at rest t → BookLines s (done ++ t)
+  pub completes : (t : List ℕ) → EntryLines at remaining t → BookLines s (done ++ t)
 
 -- the lines of a book are n bytes long
-abbrev pub Sized : List ℕ → ℕ → Type 0
-Sized s n = SizedRight (BookLines s) n
+abbrev pub SizedLines : List ℕ → ℕ → Type 0
+SizedLines s n = SizedRight (BookLines s) n
 
 -- r tells whether a room of n bytes has room for them
 abbrev pub Fits : List ℕ → ℕ → Bool → Type 0

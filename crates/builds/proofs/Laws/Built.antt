@@ -8,8 +8,8 @@ use native.Mathlib.Omega.{arith}
 use lib.Dec.{T, lit<}
 use lib.ListN.{length}
 use borrow.Author.Tests.{not-true, not-false}
-use Rattle.digits.specs.Paper.Refusals.{order, First}
-use Rattle.digits.specs.declared.refusal.Refusal.the-variants.{Room, Limits}
+use Rattle.digits.specs.Paper.Refusals.{refusalOrder, First}
+use Rattle.digits.specs.declared.refusal.Refusal.the-variants.{NoRoom, OutOfLimits}
 use Rattle.puts.specs.Paper.Put.{Put}
 use Rattle.puts.specs.Paper.Wrote.{refused, RoomCause, Writes}
 use Rattle.puts.specs.declared.Written.{Written}
@@ -33,24 +33,24 @@ module _ {L : Type 0} {r b : ℕ} where
   enough : b ≤ r → BuildCause L r b 4 → ⊥
   enough h (short k) = omega arith
 
-  pub is-outside : (L → ⊥) → First (BuildCause L r b) order 5
+  pub is-outside : (L → ⊥) → First (BuildCause L r b) refusalOrder 5
   is-outside f = first-5 only (outside f)
 
-  pub is-short : L → r < b → First (BuildCause L r b) order 4
+  pub is-short : L → r < b → First (BuildCause L r b) refusalOrder 4
   is-short l h = first-4 only (within l) (short h)
 
-  pub is-clear : L → b ≤ r → First (BuildCause L r b) order 0
+  pub is-clear : L → b ≤ r → First (BuildCause L r b) refusalOrder 0
   is-clear l h = no-cause only (within l) (enough h)
 
 -- ---- the answer
 
 module _ (l : Layout) (m : l .Fields) (room : List ℕ) where
-  pub not-within : (l .Limits m → ⊥) → Builds l m room (Refused Limits) room
+  pub not-within : (l .Limits m → ⊥) → Builds l m room (Refused OutOfLimits) room
   not-within f = refused (lit< tt) (is-outside f)
 
   module _ (limits : l .Limits m) where
     -- a writer's bytes, where the test of the room has counted them
-    pub no-room : {k : ℕ} → k ≡ length (bytesOf l m) → length room < k → Builds l m room (Refused Room) room
+    pub no-room : {k : ℕ} → k ≡ length (bytesOf l m) → length room < k → Builds l m room (Refused NoRoom) room
     no-room e h = refused (lit< tt) (is-short limits (omega arith))
 
     pub built : {k n : ℕ} {later : List ℕ} → k ≡ length (bytesOf l m) → k ≤ length room → Put room later 0 n (bytesOf l m) → Builds l m room (Bytes k) later

@@ -12,7 +12,7 @@ use Rattle.digits.specs.Paper.Ascii.{ascii}
 use Rattle.digits.specs.Paper.Bytes.{Bytes, part}
 use Rattle.digits.specs.Paper.Decimal.{decimal}
 use Rattle.digits.specs.Paper.Hex.{hexByte, hexBytes, hexWord}
-use Rattle.digits.specs.Paper.LowFirst.{lowFirst}
+use Rattle.digits.specs.Paper.LowFirst.{lowByteFirst}
 use Rattle.checks.proofs.Laws.Feed.{feed-append}
 use Rattle.checks.specs.Paper.Buses.{nikobusCrc16, nikobusCrc8, nestCrc, nibeXor, homiqCrc}
 use Rattle.checks.specs.Paper.Check.{Check, feed, check}
@@ -21,7 +21,7 @@ use Rattle.layouts.proofs.Laws.Nest.{nest-size}
 use Rattle.layouts.proofs.Laws.Nibe.{nibe-size, covered-xor}
 use Rattle.layouts.proofs.Laws.Nikobus.{link-size}
 use Rattle.layouts.specs.Paper.Chars.{CR, LF}
-use Rattle.layouts.specs.Paper.Homiq.{kept}
+use Rattle.layouts.specs.Paper.Homiq.{withoutSeparators}
 use Rattle.layouts.specs.Paper.Layout.{bytesOf}
 use Rattle.layouts.specs.Paper.Made.{linkOf, nestOf, nibeOf}
 use Rattle.layouts.specs.Paper.Nest.{nestWith}
@@ -82,8 +82,8 @@ pub link-whole : (p : List ℕ) {y : ℕ} {byte : List ℕ} → y ≡ check niko
     → linkChecked p (check nikobusCrc16 p) ++ byte ++ (CR ∷ []) ≡ bytesOf nikobus (linkOf p)
 link-whole p ey eb = rw (eb, ey) (link-closed p (check nikobusCrc16 p) (check nikobusCrc8 (linkChecked p (check nikobusCrc16 p))))
 
-pub nest-whole : (mark p : List ℕ) (i v x y z : ℕ) (id len crc : List ℕ) → id ≡ lowFirst 2 i → len ≡ lowFirst 2 (length p) → v ≡ nestCrc .start
-    → x ≡ feed nestCrc v id → y ≡ feed nestCrc x len → z ≡ feed nestCrc y p → crc ≡ lowFirst 2 z
+pub nest-whole : (mark p : List ℕ) (i v x y z : ℕ) (id len crc : List ℕ) → id ≡ lowByteFirst 2 i → len ≡ lowByteFirst 2 (length p) → v ≡ nestCrc .start
+    → x ≡ feed nestCrc v id → y ≡ feed nestCrc x len → z ≡ feed nestCrc y p → crc ≡ lowByteFirst 2 z
     → mark ++ id ++ len ++ p ++ crc ≡ bytesOf (nestWith mark) (nestOf i p)
 nest-whole mark p i v x y z id len crc ei el ev ex ey ez ec =
     let e : z ≡ check nestCrc (id ++ len ++ p) = ez ∙ ap (λ (k : ℕ). feed nestCrc k p) (two-fed nestCrc v x y id len ev ex ey) ∙ sym (feed-append nestCrc (nestCrc .start) (id ++ len) p) in
@@ -93,8 +93,8 @@ pub nibe-whole : (c : ℕ) (d : List ℕ) (v x y : ℕ) → v ≡ nibeXor .start
     → length d ≤ 255 → Bytes d → (0xC0 ∷ c ∷ length d ∷ []) ++ d ++ (y ∷ []) ≡ bytesOf nibe (nibeOf c d)
 nibe-whole c d v x y ev ex ey short bytes = rw (two-fed nibeXor v x y (length d ∷ []) d ev ex ey ∙ covered-xor d short bytes)
 
-pub homiq-whole : (p : List ℕ) (x : ℕ) → x ≡ check homiqCrc (kept p) → ascii "<;" ++ p ++ ascii ";" ++ decimal x ++ (59 ∷ 62 ∷ CR ∷ LF ∷ []) ≡ around p
-homiq-whole p x e = rw e (sym (append-assoc (ascii "<;" ++ p ++ ascii ";" ++ decimal (check homiqCrc (kept p))) (ascii ";>") (CR ∷ LF ∷ [])))
+pub homiq-whole : (p : List ℕ) (x : ℕ) → x ≡ check homiqCrc (withoutSeparators p) → ascii "<;" ++ p ++ ascii ";" ++ decimal x ++ (59 ∷ 62 ∷ CR ∷ LF ∷ []) ≡ around p
+homiq-whole p x e = rw e (sym (append-assoc (ascii "<;" ++ p ++ ascii ";" ++ decimal (check homiqCrc (withoutSeparators p))) (ascii ";>") (CR ∷ LF ∷ [])))
 
 -- ---- a press
 

@@ -15,19 +15,19 @@ use Rattle.digits.proofs.Laws.Parts.{part-front}
 use Rattle.digits.specs.Paper.Ascii.{ascii}
 use Rattle.digits.specs.Paper.Bytes.{part}
 use Rattle.digits.specs.Paper.Decimal.{decimal}
-use Rattle.digits.specs.Paper.Refusals.{order, First}
-use Rattle.digits.specs.declared.refusal.Refusal.the-variants.{Limits}
+use Rattle.digits.specs.Paper.Refusals.{refusalOrder, First}
+use Rattle.digits.specs.declared.refusal.Refusal.the-variants.{OutOfLimits}
 use Rattle.checks.proofs.Laws.Feed.{check-lt}
 use Rattle.checks.specs.Paper.Buses.{homiqCrc}
 use Rattle.checks.specs.Paper.Check.{check}
 use Rattle.layouts.proofs.Laws.Buses.{one-lead}
-use Rattle.layouts.proofs.Laws.Homiq.{payload-kept, homiq-bus}
+use Rattle.layouts.proofs.Laws.Homiq.{payload-without-separators, homiq-bus}
 use Rattle.layouts.proofs.Laws.HomiqFields.{decimal-figures}
 use Rattle.layouts.proofs.Laws.Runs.{all-at}
 use Rattle.layouts.specs.Paper.Chars.{all, CR, LF}
 use Rattle.layouts.specs.Paper.Homiq as homiqs
-use Rattle.layouts.specs.Paper.Homiq.{Homiq, homiq, kept}
-use Rattle.layouts.specs.Paper.Layout.{bytesOf, Frame, Leads, leads, none}
+use Rattle.layouts.specs.Paper.Homiq.{Homiq, homiq, withoutSeparators}
+use Rattle.layouts.specs.Paper.Layout.{bytesOf, FrameBy, Leads, leads, none}
 use Rattle.layouts.specs.Paper.Made.{Wire, closed, homiqOf, Payload}
 use Rattle.layouts.specs.Work.Homiq.{isFigure}
 use Rattle.puts.specs.Paper.Put.{Put}
@@ -45,8 +45,8 @@ use Rattle.puts.proofs.Laws.Right.{ours, first-5, first-4, no-cause, fronted-ri
 abbrev wrap : List ℕ → ℕ → List ℕ
 wrap p c = ascii "<;" ++ p ++ (ascii ";" ++ decimal c ++ ascii ";>" ++ (CR ∷ LF ∷ []))
 
-around-wrap : (p : List ℕ) → around p ≡ wrap p (check homiqCrc (kept p))
-around-wrap p = regroup (ascii "<;") p (ascii ";") (decimal (check homiqCrc (kept p))) (ascii ";>") (CR ∷ LF ∷ [])
+around-wrap : (p : List ℕ) → around p ≡ wrap p (check homiqCrc (withoutSeparators p))
+around-wrap p = regroup (ascii "<;") p (ascii ";") (decimal (check homiqCrc (withoutSeparators p))) (ascii ";>") (CR ∷ LF ∷ [])
   where
     regroup : (o p z d g e : List ℕ) → o ++ p ++ z ++ d ++ g ++ e ≡ o ++ p ++ (z ++ d ++ g ++ e)
     regroup o p z d g e = simp append-assoc
@@ -86,8 +86,8 @@ wrap-payload p q c d e =
 -- of six fields within their limits it is this one
 pub whole-frame : {p : List ℕ} {w : Wire} → Payload p w → around p ≡ bytesOf homiq (homiqOf w)
 whole-frame {p} {w} h =
-    around-wrap p ∙ ap (λ (q : List ℕ). wrap q (check homiqCrc (kept q))) (h .laid)
-    ∙ ap (λ (u : List ℕ). wrap (homiqs.payload (homiqOf w)) (check homiqCrc u)) (payload-kept (homiqOf w) (h .limits))
+    around-wrap p ∙ ap (λ (q : List ℕ). wrap q (check homiqCrc (withoutSeparators q))) (h .laid)
+    ∙ ap (λ (u : List ℕ). wrap (homiqs.payload (homiqOf w)) (check homiqCrc u)) (payload-without-separators (homiqOf w) (h .limits))
 
 pub one-bytes : (p a b : List ℕ) → HomiqBytes p a → HomiqBytes p b → a ≡ b
 one-bytes p a b x y = x .bytes ∙ sym (whole-frame (x .payload)) ∙ whole-frame (y .payload) ∙ sym (y .bytes)
@@ -96,7 +96,7 @@ one-bytes p a b x y = x .bytes ∙ sym (whole-frame (x .payload)) ∙ whole-fram
 wire-of : Homiq → Wire
 wire-of m = record { cmd = m .cmd; val = m .val; src = m .src; dst = m .dst; id = m .id; type = m .type }
 
-framed : (p : List ℕ) → Frame homiq (around p) → HomiqBytes p (around p)
+framed : (p : List ℕ) → FrameBy homiq (around p) → HomiqBytes p (around p)
 unfolding wire-of
 framed p f =
     let m = f .form .fields in
@@ -107,7 +107,7 @@ framed p f =
       payload =
           record {
             limits = homiq-fit w (m .crc) (f .form .limits);
-            laid = wrap-payload p (homiqs.payload m) (check homiqCrc (kept p)) (m .crc) (sym (around-wrap p) ∙ f .form .laid);
+            laid = wrap-payload p (homiqs.payload m) (check homiqCrc (withoutSeparators p)) (m .crc) (sym (around-wrap p) ∙ f .form .laid);
           };
       bytes = f .form .laid ∙ e;
     }
@@ -116,8 +116,8 @@ framed p f =
 
 pub length-around : (p : List ℕ) → length (around p) ≤ length p + 10
 length-around p =
-    let c = check homiqCrc (kept p) in
-    let h : c < 256 = check-lt homiqCrc (kept p) in
+    let c = check homiqCrc (withoutSeparators p) in
+    let h : c < 256 = check-lt homiqCrc (withoutSeparators p) in
     let d : length (decimal c) ≤ 3 = length-decimal 2 c (omega arith) in
     let x : List ℕ = ascii "<;" ++ p in
     let y : List ℕ = x ++ ascii ";" in
@@ -164,7 +164,7 @@ module _ {p : List ℕ} {r : ℕ} where
   only k e (outside f) = true≢false e
   only k e (short h g) = true≢false e
 
-  is-outside : ((w : Wire) → Payload p w → ⊥) → First (HomiqCause p r) order 5
+  is-outside : ((w : Wire) → Payload p w → ⊥) → First (HomiqCause p r) refusalOrder 5
   is-outside f = first-5 only (outside f)
 
   module _ {w : Wire} (h : Payload p w) where
@@ -174,16 +174,16 @@ module _ {p : List ℕ} {r : ℕ} where
     enough : length (around p) ≤ r → HomiqCause p r 4 → ⊥
     enough k (short x g) = omega (arith, ap length (whole-frame x))
 
-    is-short : r < length (around p) → First (HomiqCause p r) order 4
+    is-short : r < length (around p) → First (HomiqCause p r) refusalOrder 4
     is-short k = first-4 only within (short h (omega (arith, ap length (whole-frame h))))
 
-    is-clear : length (around p) ≤ r → First (HomiqCause p r) order 0
+    is-clear : length (around p) ≤ r → First (HomiqCause p r) refusalOrder 0
     is-clear k = no-cause only within (enough k)
 
 -- ---- the answer
 
 module _ (p room : List ℕ) where
-  pub too-long : 41 < length p → BuildsHomiq p room (Refused Limits) room
+  pub too-long : 41 < length p → BuildsHomiq p room (Refused OutOfLimits) room
   too-long h = refused-5 (is-outside (λ w x. omega (arith, longest x)))
 
   -- the frame laid out in a room of its own, which is tried
@@ -198,20 +198,20 @@ module _ (p room : List ℕ) where
       answered : Leads homiq (around p) len from to
       answered = subst (λ (s : List ℕ). Leads homiq s len from to) tried-bytes answer
 
-      pub no-frame : (len ≡ n → ⊥) → BuildsHomiq p room (Refused Limits) room
+      pub no-frame : (len ≡ n → ⊥) → BuildsHomiq p room (Refused OutOfLimits) room
       no-frame f = refused-5 (is-outside (λ w x. f (all-of w x)))
         where
-          frame : (w : Wire) → Payload p w → Frame homiq (around p)
+          frame : (w : Wire) → Payload p w → FrameBy homiq (around p)
           frame w x = record { form = record { fields = homiqOf w; limits = x .limits; laid = whole-frame x }; passes = refl }
 
           all-of : (w : Wire) → Payload p w → len ≡ n
           all-of w x =
               let k = length (around p) in
-              let y : Frame homiq (take k (around p)) = subst (Frame homiq) (sym (take-all k (around p) (le-refl k))) (frame w x) in
+              let y : FrameBy homiq (take k (around p)) = subst (FrameBy homiq) (sym (take-all k (around p) (le-refl k))) (frame w x) in
               one-lead homiq-bus answered (leads (le-refl k) y) .0 ∙ sym (front-count put fits)
 
-      is-frame : {s : List ℕ} {k x y : ℕ} → 0 < length s → k ≡ length s → Leads homiq s k x y → Frame homiq s
-      is-frame {s} some e (leads {n = m} h f) = subst (Frame homiq) (take-all m s (omega arith)) f
+      is-frame : {s : List ℕ} {k x y : ℕ} → 0 < length s → k ≡ length s → Leads homiq s k x y → FrameBy homiq s
+      is-frame {s} some e (leads {n = m} h f) = subst (FrameBy homiq) (take-all m s (omega arith)) f
       is-frame some e (none g) = absurd (omega arith)
 
       pub a-frame : {later : List ℕ} (r : Written) → len ≡ n → Writes (RoomCause (length room) (length (part 0 n whole))) (part 0 n whole) room r later

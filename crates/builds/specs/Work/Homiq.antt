@@ -7,7 +7,8 @@ use Rattle.digits.specs.Paper.Decimal.{decimal}
 use Rattle.checks.specs.Paper.Buses.{homiqCrc}
 use Rattle.checks.specs.Paper.Check.{check}
 use Rattle.layouts.specs.Paper.Chars.{CR, LF}
-use Rattle.layouts.specs.Paper.Homiq.{kept}
+use Rattle.layouts.specs.Paper.Homiq.{withoutSeparators}
 
 abbrev pub around : List ℕ → List ℕ
-around p = ascii "<;" ++ p ++ ascii ";" ++ decimal (check homiqCrc (kept p)) ++ ascii ";>" ++ (CR ∷ LF ∷ [])
+around p =
+    ascii "<;" ++ p ++ ascii ";" ++ decimal (check homiqCrc (withoutSeparators p)) ++ ascii ";>" ++ (CR ∷ LF ∷ [])

@@ -11,7 +11,7 @@ use lib.Seq.{ext-getD, getD-drop, take-at, drop-at}
 use Rattle.digits.specs.Paper.Bytes.{Bytes}
 use Rattle.digits.proofs.Laws.Bytes.{bytes-head, bytes-tail}
 use Rattle.digits.specs.Paper.Bits.{lows}
-use Rattle.checks.specs.Paper.Bits.{Order, bits, bitsOfBytes}
+use Rattle.checks.specs.Paper.Bits.{BitOrder, bits, bitsOfBytes}
 use Rattle.checks.specs.Paper.Check.{Check, run, held, polyBits, feed, check}
 use Rattle.checks.specs.Paper.Buses.{checks}
 use Rattle.checks.specs.Paper.Stretch.{FitIn, Burst}
@@ -83,14 +83,14 @@ burst p s u v n hp last l hn w e =
 
 -- ---- bytes
 
-bytes-length : (o : Order) (a : List ℕ) → length (bitsOfBytes o a) ≡ length a * 8
+bytes-length : (o : BitOrder) (a : List ℕ) → length (bitsOfBytes o a) ≡ length a * 8
 unfolding bitsOfBytes
 bytes-length o [] = refl
 bytes-length o (x ∷ a) =
     omega (arith, length-append (bits o 8 x) (bitsOfBytes o a), length-bits o 8 x, bytes-length o a)
 
 -- bytes are the same where their bits are
-bytes-eq : (o : Order) (a b : List ℕ) → length a ≡ length b → Bytes a → Bytes b → bitsOfBytes o a ≡ bitsOfBytes o b → a ≡ b
+bytes-eq : (o : BitOrder) (a b : List ℕ) → length a ≡ length b → Bytes a → Bytes b → bitsOfBytes o a ≡ bitsOfBytes o b → a ≡ b
 unfolding bitsOfBytes
 bytes-eq o [] [] l ha hb e = refl
 bytes-eq o [] (y ∷ b) l ha hb e = absurd (omega arith)
@@ -115,7 +115,7 @@ pub burst-bytes : (c : Check) → lastSet (polyBits c) ≡ true → (v : ℕ) (a
     → Burst c a b → feed c v a ≡ feed c v b → a ≡ b
 unfolding polyBits
 burst-bytes c last v a b ha hb l w e =
-    let o : Order = c .order in
+    let o : BitOrder = c .order in
     bytes-eq o a b l ha hb
     (burst (polyBits c) (held c v) (bitsOfBytes o a) (bitsOfBytes o b) (c .width)
     (length-bits o (c .width) (c .poly) ∙ sym (length-bits o (c .width) v)) last

@@ -8,14 +8,14 @@ use native.Mathlib.Numerals.{add-one}
 use native.Mathlib.Omega.{arith}
 use lib.ListN.{length, getD, drop, drop-of-length-le}
 use lib.Seq.{drop-cons}
-use Rattle.checks.specs.Paper.Bits.{Order, bits, number, bitsOfBytes}
+use Rattle.checks.specs.Paper.Bits.{BitOrder, bits, ofBits, bitsOfBytes}
 use Rattle.checks.specs.Paper.Check.{Check, mix, shift, run, held, polyBits, feed, check}
 use Rattle.checks.proofs.Laws.Register.{shifts, length-run, run-append, run-shifts}
 use Rattle.checks.proofs.Laws.Numbers.{length-bits, number-bits, bits-number, number-lt}
 
 -- ---- bytes after bytes
 
-bits-append : (o : Order) (a b : List ℕ) → bitsOfBytes o (a ++ b) ≡ bitsOfBytes o a ++ bitsOfBytes o b
+bits-append : (o : BitOrder) (a b : List ℕ) → bitsOfBytes o (a ++ b) ≡ bitsOfBytes o a ++ bitsOfBytes o b
 unfolding bitsOfBytes
 bits-append o [] b = refl
 bits-append o (x ∷ a) b = cc (bits-append o a b, append-assoc (bits o 8 x) (bitsOfBytes o a) (bitsOfBytes o b))
@@ -40,7 +40,7 @@ check-lt c s = feed-lt c (c .start) s
 pub feed-append : (c : Check) (v : ℕ) (a b : List ℕ) → feed c v (a ++ b) ≡ feed c (feed c v a) b
 unfolding feed
 feed-append c v a b =
-    ap (number (c .order))
+    ap (ofBits (c .order))
     (ap (run (polyBits c) (held c v)) (bits-append (c .order) a b)
     ∙ run-append (polyBits c) (held c v) (bitsOfBytes (c .order) a) (bitsOfBytes (c .order) b)
     ∙ ap (λ (r : List Bool). run (polyBits c) r (bitsOfBytes (c .order) b)) (sym (held-feed c v a)))
@@ -55,10 +55,10 @@ pub feed-byte : (c : Check) (v b r : ℕ) → 8 ≤ c .width → r < 2 ^ c .widt
     → held c r ≡ shifts (polyBits c) 8 (mix (held c v) (bits (c .order) 8 b)) → r ≡ feed c v (b ∷ [])
 unfolding feed bitsOfBytes
 feed-byte c v b r hw hr e =
-    let o : Order = c .order in
+    let o : BitOrder = c .order in
     let n : length (bits o 8 b) ≡ 8 = length-bits o 8 b in
     sym (number-bits o (c .width) r hr)
-    ∙ ap (number o)
+    ∙ ap (ofBits o)
     (e ∙ ap (λ (k : ℕ). shifts (polyBits c) k (mix (held c v) (bits o 8 b))) (sym n)
     ∙ sym (run-shifts (polyBits c) (held c v) (bits o 8 b) (omega (arith, length-bits o (c .width) v)))
     ∙ ap (run (polyBits c) (held c v)) (sym (append-nil (bits o 8 b))))

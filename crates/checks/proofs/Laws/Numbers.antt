@@ -10,7 +10,7 @@ use lib.Arith.{lt-one, digits-div, digits-mod}
 use lib.Bits.{bitXor, differ, xor-step}
 use lib.ListN.{length, length-reverse}
 use Rattle.digits.specs.Paper.Bits.{isSet, lows}
-use Rattle.checks.specs.Paper.Bits.{Order, highFirst, lowFirst, bits, worth, ofLows, number}
+use Rattle.checks.specs.Paper.Bits.{BitOrder, highBitFirst, lowBitFirst, bits, worth, ofLows, ofBits}
 use Rattle.checks.specs.Paper.Check.{xor, mix, shift}
 use Rattle.checks.proofs.Laws.Register.{mix-append, mix-zero}
 
@@ -21,10 +21,10 @@ unfolding lows
 length-lows zero n = refl
 length-lows (suc w) n = ap suc (length-lows w (n / 2))
 
-pub length-bits : (o : Order) (w n : ℕ) → length (bits o w n) ≡ w
+pub length-bits : (o : BitOrder) (w n : ℕ) → length (bits o w n) ≡ w
 unfolding bits
-length-bits highFirst w n = length-reverse (lows w n) ∙ length-lows w n
-length-bits lowFirst w n = length-lows w n
+length-bits highBitFirst w n = length-reverse (lows w n) ∙ length-lows w n
+length-bits lowBitFirst w n = length-lows w n
 
 -- ---- a number from its bits, and bits from their number
 
@@ -55,17 +55,17 @@ lows-ofLows [] = refl
 lows-ofLows (b ∷ l) =
     cc (digits-mod (ofLows l) (worth-lt b), digits-div (ofLows l) (worth-lt b), isSet-worth b, lows-ofLows l)
 
-pub number-bits : (o : Order) (w n : ℕ) → n < 2 ^ w → number o (bits o w n) ≡ n
-unfolding bits number
-number-bits highFirst w n h = ap ofLows (reverse-reverse (lows w n)) ∙ ofLows-lows w n h
-number-bits lowFirst w n h = ofLows-lows w n h
+pub number-bits : (o : BitOrder) (w n : ℕ) → n < 2 ^ w → ofBits o (bits o w n) ≡ n
+unfolding bits ofBits
+number-bits highBitFirst w n h = ap ofLows (reverse-reverse (lows w n)) ∙ ofLows-lows w n h
+number-bits lowBitFirst w n h = ofLows-lows w n h
 
-bits-of-number : (o : Order) (l : List Bool) → bits o (length l) (number o l) ≡ l
-unfolding bits number
-bits-of-number highFirst l = cc (length-reverse l, lows-ofLows (reverse l), reverse-reverse l)
-bits-of-number lowFirst l = lows-ofLows l
+bits-of-number : (o : BitOrder) (l : List Bool) → bits o (length l) (ofBits o l) ≡ l
+unfolding bits ofBits
+bits-of-number highBitFirst l = cc (length-reverse l, lows-ofLows (reverse l), reverse-reverse l)
+bits-of-number lowBitFirst l = lows-ofLows l
 
-pub bits-number : (o : Order) (w : ℕ) (l : List Bool) → length l ≡ w → bits o w (number o l) ≡ l
+pub bits-number : (o : BitOrder) (w : ℕ) (l : List Bool) → length l ≡ w → bits o w (ofBits o l) ≡ l
 bits-number o w l h = cc (bits-of-number o l)
 
 ofLows-lt : (l : List Bool) → ofLows l < 2 ^ length l
@@ -73,10 +73,10 @@ unfolding ofLows
 ofLows-lt [] = omega arith
 ofLows-lt (b ∷ l) = omega (arith, ofLows-lt l, worth-lt b, pow-suc 2 (length l))
 
-pub number-lt : (o : Order) (w : ℕ) (l : List Bool) → length l ≡ w → number o l < 2 ^ w
-unfolding number
-number-lt highFirst w l h = rw (← h, ← length-reverse l) (ofLows-lt (reverse l))
-number-lt lowFirst w l h = rw (← h) (ofLows-lt l)
+pub number-lt : (o : BitOrder) (w : ℕ) (l : List Bool) → length l ≡ w → ofBits o l < 2 ^ w
+unfolding ofBits
+number-lt highBitFirst w l h = rw (← h, ← length-reverse l) (ofLows-lt (reverse l))
+number-lt lowBitFirst w l h = rw (← h) (ofLows-lt l)
 
 -- ---- exclusive or
 
@@ -119,11 +119,11 @@ reverse-mix (x ∷ a) (y ∷ b) h =
       mix-append (reverse a) (reverse b) (x ∷ []) (y ∷ []) (omega (arith, length-reverse a, length-reverse b)),
     )
 
-pub bits-xor : (o : Order) (w a b : ℕ) → bits o w (bitXor a b) ≡ mix (bits o w a) (bits o w b)
+pub bits-xor : (o : BitOrder) (w a b : ℕ) → bits o w (bitXor a b) ≡ mix (bits o w a) (bits o w b)
 unfolding bits
-bits-xor highFirst w a b =
+bits-xor highBitFirst w a b =
     ap reverse (lows-xor w a b) ∙ reverse-mix (lows w a) (lows w b) (length-lows w a ∙ sym (length-lows w b))
-bits-xor lowFirst w a b = lows-xor w a b
+bits-xor lowBitFirst w a b = lows-xor w a b
 
 -- ---- one place on
 
@@ -142,62 +142,62 @@ lows-top (suc k) n b h =
     cc (low, high, lows-top k (n / 2) b (half-lt k n h))
 
 -- the number of k + 1 bits whose first bit is b and whose others are those of m
-abbrev front : Order → ℕ → Bool → ℕ → ℕ
-front highFirst k b m = worth b * 2 ^ k + m
-front lowFirst k b m = m * 2 + worth b
+abbrev front : BitOrder → ℕ → Bool → ℕ → ℕ
+front highBitFirst k b m = worth b * 2 ^ k + m
+front lowBitFirst k b m = m * 2 + worth b
 
 -- the number of k + 1 bits whose first bits are those of m and whose last is 0
-abbrev moved : Order → ℕ → ℕ
-moved highFirst m = m * 2
-moved lowFirst m = m
+abbrev moved : BitOrder → ℕ → ℕ
+moved highBitFirst m = m * 2
+moved lowBitFirst m = m
 
-bits-front : (o : Order) (k : ℕ) (b : Bool) (m : ℕ) → m < 2 ^ k → bits o (suc k) (front o k b m) ≡ b ∷ bits o k m
+bits-front : (o : BitOrder) (k : ℕ) (b : Bool) (m : ℕ) → m < 2 ^ k → bits o (suc k) (front o k b m) ≡ b ∷ bits o k m
 unfolding bits lows
-bits-front highFirst k b m h = ap reverse (lows-top k m b h) ∙ reverse-append (lows k m) (b ∷ [])
-bits-front lowFirst k b m h = cc (digits-mod m (worth-lt b), digits-div m (worth-lt b), isSet-worth b)
+bits-front highBitFirst k b m h = ap reverse (lows-top k m b h) ∙ reverse-append (lows k m) (b ∷ [])
+bits-front lowBitFirst k b m h = cc (digits-mod m (worth-lt b), digits-div m (worth-lt b), isSet-worth b)
 
-bits-moved : (o : Order) (k m : ℕ) → m < 2 ^ k → bits o (suc k) (moved o m) ≡ bits o k m ++ (false ∷ [])
+bits-moved : (o : BitOrder) (k m : ℕ) → m < 2 ^ k → bits o (suc k) (moved o m) ≡ bits o k m ++ (false ∷ [])
 unfolding bits lows
-bits-moved highFirst k m h =
+bits-moved highBitFirst k m h =
     let a : m * 2 % 2 ≡ 0 = omega arith in
     let b : m * 2 / 2 ≡ m = omega arith in
     ap₂ (λ (x : ℕ) (y : ℕ). reverse (isSet x ∷ lows k y)) a b ∙ reverse-cons false (lows k m)
-bits-moved lowFirst k m h =
+bits-moved lowBitFirst k m h =
     let e : m ≡ 0 * 2 ^ k + m = omega arith in
     ap (lows (suc k)) e ∙ lows-top k m false h
 
 -- the register one place on, as a number: where the bit that leaves v is clear, and where it is set; m has the bits that stay
-pub shift-clear : (o : Order) (k v m : ℕ) (p : List Bool) → m < 2 ^ k → v ≡ front o k false m
+pub shift-clear : (o : BitOrder) (k v m : ℕ) (p : List Bool) → m < 2 ^ k → v ≡ front o k false m
     → bits o (suc k) (moved o m) ≡ shift p (bits o (suc k) v)
 shift-clear o k v m p h e = rw (e, bits-front o k false m h) (bits-moved o k m h)
 
-pub shift-set : (o : Order) (k v m poly : ℕ) → m < 2 ^ k → v ≡ front o k true m
+pub shift-set : (o : BitOrder) (k v m poly : ℕ) → m < 2 ^ k → v ≡ front o k true m
     → bits o (suc k) (bitXor (moved o m) poly) ≡ shift (bits o (suc k) poly) (bits o (suc k) v)
 shift-set o k v m poly h e = rw (e, bits-front o k true m h, bits-xor o (suc k) (moved o m) poly, bits-moved o k m h)
 
 -- ---- a number laid at the head of a wider register
 
-abbrev up : Order → ℕ → ℕ → ℕ
-up highFirst m b = b * 2 ^ m
-up lowFirst m b = b
+abbrev up : BitOrder → ℕ → ℕ → ℕ
+up highBitFirst m b = b * 2 ^ m
+up lowBitFirst m b = b
 
-up-lt : (o : Order) (m k b : ℕ) → b < 2 ^ k → up o m b < 2 ^ (m + k)
-up-lt highFirst zero k b h = omega (arith, mul-one b, ap (λ (x : ℕ). 2 ^ x) (zero-add k))
-up-lt lowFirst zero k b h = omega (arith, ap (λ (x : ℕ). 2 ^ x) (zero-add k))
-up-lt highFirst (suc m) k b h =
-    omega (arith, up-lt highFirst m k b h, shift-suc b m, ap (λ (x : ℕ). 2 ^ x) (suc-add m k), pow-suc 2 (m + k))
-up-lt lowFirst (suc m) k b h =
-    omega (arith, up-lt lowFirst m k b h, ap (λ (x : ℕ). 2 ^ x) (suc-add m k), pow-suc 2 (m + k))
+up-lt : (o : BitOrder) (m k b : ℕ) → b < 2 ^ k → up o m b < 2 ^ (m + k)
+up-lt highBitFirst zero k b h = omega (arith, mul-one b, ap (λ (x : ℕ). 2 ^ x) (zero-add k))
+up-lt lowBitFirst zero k b h = omega (arith, ap (λ (x : ℕ). 2 ^ x) (zero-add k))
+up-lt highBitFirst (suc m) k b h =
+    omega (arith, up-lt highBitFirst m k b h, shift-suc b m, ap (λ (x : ℕ). 2 ^ x) (suc-add m k), pow-suc 2 (m + k))
+up-lt lowBitFirst (suc m) k b h =
+    omega (arith, up-lt lowBitFirst m k b h, ap (λ (x : ℕ). 2 ^ x) (suc-add m k), pow-suc 2 (m + k))
 
-up-suc : (o : Order) (m b : ℕ) → up o (suc m) b ≡ moved o (up o m b)
-up-suc highFirst m b = shift-suc b m
-up-suc lowFirst m b = refl
+up-suc : (o : BitOrder) (m b : ℕ) → up o (suc m) b ≡ moved o (up o m b)
+up-suc highBitFirst m b = shift-suc b m
+up-suc lowBitFirst m b = refl
 
-up-zero : (o : Order) (b : ℕ) → up o zero b ≡ b
-up-zero highFirst b = mul-one b
-up-zero lowFirst b = refl
+up-zero : (o : BitOrder) (b : ℕ) → up o zero b ≡ b
+up-zero highBitFirst b = mul-one b
+up-zero lowBitFirst b = refl
 
-laid : (o : Order) (m k b : ℕ) (a : List Bool) → b < 2 ^ k → mix a (bits o (m + k) (up o m b)) ≡ mix a (bits o k b)
+laid : (o : BitOrder) (m k b : ℕ) (a : List Bool) → b < 2 ^ k → mix a (bits o (m + k) (up o m b)) ≡ mix a (bits o k b)
 laid o zero k b a h = cc (zero-add k, up-zero o b)
 laid o (suc m) k b a h =
     cc (
@@ -208,5 +208,5 @@ laid o (suc m) k b a h =
       laid o m k b a h,
     )
 
-pub bits-laid : (o : Order) (m k v b : ℕ) → b < 2 ^ k → bits o (m + k) (bitXor v (up o m b)) ≡ mix (bits o (m + k) v) (bits o k b)
+pub bits-laid : (o : BitOrder) (m k v b : ℕ) → b < 2 ^ k → bits o (m + k) (bitXor v (up o m b)) ≡ mix (bits o (m + k) v) (bits o k b)
 bits-laid o m k v b h = bits-xor o (m + k) v (up o m b) ∙ laid o m k b (bits o (m + k) v) h

@@ -11,7 +11,7 @@ use lib.ListN.{length, length-append, replicate, length-replicate}
 use Rattle.digits.specs.Paper.Bytes.{Bytes}
 use Rattle.digits.proofs.Laws.Bytes.{bytes-head, bytes-tail}
 use Rattle.digits.specs.Paper.Bits.{lows}
-use Rattle.checks.specs.Paper.Bits.{highFirst, bits}
+use Rattle.checks.specs.Paper.Bits.{highBitFirst, bits}
 use Rattle.checks.specs.Paper.Check.{mix, shift, polyBits, feed, check}
 use Rattle.checks.specs.Paper.Buses.{nibeXor}
 use Rattle.checks.specs.Paper.Xor.{xorFrom, xorOf}
@@ -46,10 +46,10 @@ all-8 s h = all-round 7 s h
 -- a byte
 pub feed-xor : (v b : ℕ) → v < 256 → b < 256 → bitXor v b ≡ feed nibeXor v (b ∷ [])
 feed-xor v b hv hb =
-    let x = bits highFirst 8 v in
-    let y = bits highFirst 8 b in
+    let x = bits highBitFirst 8 v in
+    let y = bits highBitFirst 8 b in
     feed-byte nibeXor v b (bitXor v b) (omega arith) (xor-lt 8 v b hv hb)
-    (bits-xor highFirst 8 v b ∙ sym (all-8 (mix x y) (length-mix x y ∙ length-bits highFirst 8 v)))
+    (bits-xor highBitFirst 8 v b ∙ sym (all-8 (mix x y) (length-mix x y ∙ length-bits highBitFirst 8 v)))
 
 feed-xors : (v : ℕ) (s : List ℕ) → v < 256 → Bytes s → feed nibeXor v s ≡ xorFrom v s
 unfolding xorFrom

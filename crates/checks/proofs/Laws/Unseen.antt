@@ -9,7 +9,7 @@ use native.Mathlib.Omega.{arith}
 use lib.ListN.{length, getD, take, replicate, length-replicate, List·getD-eq-default}
 use lib.Seq.{getD-take}
 use Rattle.digits.specs.Paper.Bits.{lows}
-use Rattle.checks.specs.Paper.Bits.{highFirst, bits, number, bitsOfBytes}
+use Rattle.checks.specs.Paper.Bits.{highBitFirst, bits, ofBits, bitsOfBytes}
 use Rattle.checks.specs.Paper.Check.{mix, shift, run, held, polyBits, feed, check}
 use Rattle.checks.specs.Paper.Buses.{nestCrc}
 use Rattle.checks.specs.Paper.Stretch.{FitIn}
@@ -73,31 +73,31 @@ poly = 0x01 ∷ 0x10 ∷ 0x21 ∷ []
 abbrev seven : List Bool
 seven = replicate 7 false
 
-zeros-bits : bitsOfBytes highFirst zeros ≡ seven ++ (false ∷ replicate (length (polyBits nestCrc)) false)
+zeros-bits : bitsOfBytes highBitFirst zeros ≡ seven ++ (false ∷ replicate (length (polyBits nestCrc)) false)
 unfolding bitsOfBytes bits lows polyBits
 zeros-bits = refl
 
-poly-bits : bitsOfBytes highFirst poly ≡ seven ++ (true ∷ polyBits nestCrc)
+poly-bits : bitsOfBytes highBitFirst poly ≡ seven ++ (true ∷ polyBits nestCrc)
 unfolding bitsOfBytes bits lows polyBits
 poly-bits = refl
 
 -- they differ only within a stretch of 17
-pub fit-in-17 : FitIn 17 (bitsOfBytes highFirst zeros) (bitsOfBytes highFirst poly)
+pub fit-in-17 : FitIn 17 (bitsOfBytes highBitFirst zeros) (bitsOfBytes highBitFirst poly)
 unfolding bitsOfBytes bits lows
-fit-in-17 = fit-between 7 17 (bitsOfBytes highFirst zeros) (bitsOfBytes highFirst poly) refl (omega arith) (omega arith)
+fit-in-17 = fit-between 7 17 (bitsOfBytes highBitFirst zeros) (bitsOfBytes highBitFirst poly) refl (omega arith) (omega arith)
 
 poly-length : length (polyBits nestCrc) ≡ 16
 unfolding polyBits
-poly-length = length-bits highFirst 16 0x1021
+poly-length = length-bits highBitFirst 16 0x1021
 
 same-state : (v : ℕ) → feed nestCrc v zeros ≡ feed nestCrc v poly
 unfolding feed
 same-state v =
     let p : List Bool = polyBits nestCrc in
     let s : List Bool = run p (held nestCrc v) seven in
-    let l : length s ≡ 16 = length-run p (held nestCrc v) seven ∙ length-bits highFirst 16 v in
+    let l : length s ≡ 16 = length-run p (held nestCrc v) seven ∙ length-bits highBitFirst 16 v in
     let m : length p ≡ 16 = poly-length in
-    ap (number highFirst)
+    ap (ofBits highBitFirst)
     (ap (run p (held nestCrc v)) zeros-bits ∙ run-append p (held nestCrc v) seven (false ∷ replicate (length p) false)
     ∙ sym (unseen p s (omega arith) (omega arith))
     ∙ sym (ap (run p (held nestCrc v)) poly-bits ∙ run-append p (held nestCrc v) seven (true ∷ p)))

@@ -6,13 +6,13 @@ use mathlib.Core.List.{List, [], _∷_, _++_, reverse}
 use Rattle.digits.specs.Paper.Bits.{lows}
 
 -- 01: "high bit first", "low bit first"
-pub data Order : Type 0 where
-  highFirst lowFirst : Order
+pub data BitOrder : Type 0 where
+  highBitFirst lowBitFirst : BitOrder
 
 -- the w low bits of a number, in an order
-unfoldable pub bits : Order → ℕ → ℕ → List Bool
-bits lowFirst w n = lows w n
-bits highFirst w n = reverse (lows w n)
+unfoldable pub bits : BitOrder → ℕ → ℕ → List Bool
+bits lowBitFirst w n = lows w n
+bits highBitFirst w n = reverse (lows w n)
 
 abbrev pub worth : Bool → ℕ
 worth false = 0
@@ -24,11 +24,11 @@ ofLows [] = 0
 ofLows (b ∷ bs) = ofLows bs * 2 + worth b
 
 -- the number whose bits these are, in an order
-unfoldable pub number : Order → List Bool → ℕ
-number lowFirst bs = ofLows bs
-number highFirst bs = ofLows (reverse bs)
+unfoldable pub ofBits : BitOrder → List Bool → ℕ
+ofBits lowBitFirst bs = ofLows bs
+ofBits highBitFirst bs = ofLows (reverse bs)
 
 -- 01: "Their bits follow one another in the check's bit order"
-unfoldable pub bitsOfBytes : Order → List ℕ → List Bool
+unfoldable pub bitsOfBytes : BitOrder → List ℕ → List Bool
 bitsOfBytes o [] = []
 bitsOfBytes o (b ∷ s) = bits o 8 b ++ bitsOfBytes o s

@@ -1,11 +1,11 @@
 -- Check values: one definition over width, polynomial, start and bit order. A register is a list of bits, its head
--- the bit that leaves first. Each bit of the bytes is added to the head, and the register moves one place on; where
--- the bit that left was set, the polynomial is added. Addition is without carry: exclusive or.
+-- the bit that leaves first. Each bit of the bytes is added to the head, and the register moves one place on; if the
+-- bit that left was set, the polynomial is added. Addition is without carry: exclusive or.
 -- Assumes nothing.
 use Prim.Native.Nat.{ℕ}
 use mathlib.Core.Bool.{Bool, true, false, not, cond}
 use mathlib.Core.List.{List, [], _∷_, _++_}
-use Rattle.checks.specs.Paper.Bits.{Order, bits, number, bitsOfBytes}
+use Rattle.checks.specs.Paper.Bits.{BitOrder, bits, ofBits, bitsOfBytes}
 
 -- 01: "Each check has a width, a start value and a bit order of its own". `poly` has the polynomial's terms below
 -- x^width, as a number whose bits stand in the check's order.
@@ -13,7 +13,7 @@ pub record Check : Type 0 where
   pub width : ℕ
   pub poly : ℕ
   pub start : ℕ
-  pub order : Order
+  pub order : BitOrder
 
 abbrev pub xor : Bool → Bool → Bool
 xor false b = b
@@ -25,7 +25,7 @@ mix xs [] = xs
 mix [] (y ∷ ys) = []
 mix (x ∷ xs) (y ∷ ys) = xor x y ∷ mix xs ys
 
--- one place on: a 0 comes in at the end, and where the bit that leaves is set the polynomial p is added
+-- one place on: a 0 comes in at the end, and if the bit that leaves is set, the polynomial p is added
 abbrev pub shift : List Bool → List Bool → List Bool
 shift p [] = []
 shift p (out ∷ rest) = cond out (mix (rest ++ (false ∷ [])) p) (rest ++ (false ∷ []))
@@ -44,7 +44,7 @@ polyBits c = held c (c .poly)
 
 -- the state v after the bytes
 unfoldable pub feed : Check → ℕ → List ℕ → ℕ
-feed c v s = number (c .order) (run (polyBits c) (held c v) (bitsOfBytes (c .order) s))
+feed c v s = ofBits (c .order) (run (polyBits c) (held c v) (bitsOfBytes (c .order) s))
 
 -- the check value of the bytes
 abbrev pub check : Check → List ℕ → ℕ

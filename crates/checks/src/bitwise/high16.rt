@@ -1,7 +1,7 @@
 // The engine of 16 bits, high bit first: bit by bit.
 ghost use mathlib.Core.Path.{_≡_};
 ghost use mathlib.Core.List.{[], _∷_};
-ghost use Rattle.checks.specs.Paper.Bits.{highFirst, bits};
+ghost use Rattle.checks.specs.Paper.Bits.{highBitFirst, bits};
 ghost use Rattle.checks.specs.Paper.Check.{shift, feed};
 ghost use Rattle.checks.specs.Work.Engines.{high16};
 
@@ -33,7 +33,7 @@ pub(crate) fn byte(v: u16, poly: u16, b: u8) -> u16
 
 // The register one place on.
 fn shifted(v: u16, poly: u16) -> u16
-    ensures { λ r. ⌜ bits highFirst 16 r ≡ shift (bits highFirst 16 poly) (bits highFirst 16 v) ⌝ }
+    ensures { λ r. ⌜ bits highBitFirst 16 r ≡ shift (bits highBitFirst 16 poly) (bits highBitFirst 16 v) ⌝ }
 {
     if v < 0x8000 {
         v * 2

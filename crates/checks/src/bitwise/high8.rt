@@ -1,7 +1,7 @@
 // The engine of 8 bits, high bit first: bit by bit.
 ghost use mathlib.Core.Path.{_≡_};
 ghost use mathlib.Core.List.{[], _∷_};
-ghost use Rattle.checks.specs.Paper.Bits.{highFirst, bits};
+ghost use Rattle.checks.specs.Paper.Bits.{highBitFirst, bits};
 ghost use Rattle.checks.specs.Paper.Check.{shift, feed};
 ghost use Rattle.checks.specs.Work.Engines.{high8};
 
@@ -33,7 +33,7 @@ pub(crate) fn byte(v: u8, poly: u8, b: u8) -> u8
 
 // The register one place on.
 fn shifted(v: u8, poly: u8) -> u8
-    ensures { λ r. ⌜ bits highFirst 8 r ≡ shift (bits highFirst 8 poly) (bits highFirst 8 v) ⌝ }
+    ensures { λ r. ⌜ bits highBitFirst 8 r ≡ shift (bits highBitFirst 8 poly) (bits highBitFirst 8 v) ⌝ }
 {
     if v < 0x80 {
         v * 2

@@ -1,7 +1,7 @@
 // The engine of 8 bits, low bit first: bit by bit.
 ghost use mathlib.Core.Path.{_≡_};
 ghost use mathlib.Core.List.{[], _∷_};
-ghost use Rattle.checks.specs.Paper.Bits.{lowFirst, bits};
+ghost use Rattle.checks.specs.Paper.Bits.{lowBitFirst, bits};
 ghost use Rattle.checks.specs.Paper.Check.{shift, feed};
 ghost use Rattle.checks.specs.Work.Engines.{low8};
 
@@ -33,7 +33,7 @@ pub(crate) fn byte(v: u8, poly: u8, b: u8) -> u8
 
 // The register one place on.
 fn shifted(v: u8, poly: u8) -> u8
-    ensures { λ r. ⌜ bits lowFirst 8 r ≡ shift (bits lowFirst 8 poly) (bits lowFirst 8 v) ⌝ }
+    ensures { λ r. ⌜ bits lowBitFirst 8 r ≡ shift (bits lowBitFirst 8 poly) (bits lowBitFirst 8 v) ⌝ }
 {
     if v % 2 == 0 { v / 2 } else { (v / 2) ^ poly }
 }

@@ -10,7 +10,7 @@ use lib.Dec.{eqb}
 use lib.ListN.{length, drop}
 use Rattle.digits.specs.Paper.Part.{Ends, IsPart, HandsPart}
 use Rattle.digits.specs.Paper.Read.{Reads, is, none}
-use Rattle.digits.specs.Paper.Refusals.{order, First, clear, here, after, Answers, answers, refuses}
+use Rattle.digits.specs.Paper.Refusals.{refusalOrder, First, clear, here, after, Answers, answers, refuses}
 use Rattle.digits.proofs.Laws.Refusals.{keep, pass-over, cause-at}
 use Rattle.puts.specs.Paper.Right as R
 use Rattle.puts.specs.Paper.Wrote as W
@@ -58,7 +58,7 @@ abbrev Read : {A : Type 0} (zeros : A) (Limits : A → Type 0) (write : A → Li
 Read zeros Limits write refusal s n v = Answers zeros (Unread Limits write refusal s) (λ u. Limits u × (write u ≡ s)) n v
 
 module _ {A : Type 0} {zeros : A} {Limits : A → Type 0} {write : A → List ℕ} {refusal : ℕ} {s : List ℕ} where
-  pub answers-read : {n : ℕ} {v : A} → keep (eqb refusal) order ≡ refusal ∷ [] → 0 < refusal → Reads zeros Limits write refusal s n v
+  pub answers-read : {n : ℕ} {v : A} → keep (eqb refusal) refusalOrder ≡ refusal ∷ [] → 0 < refusal → Reads zeros Limits write refusal s n v
       → Read zeros Limits write refusal s n v
   answers-read one some = go
     where
@@ -68,8 +68,8 @@ module _ {A : Type 0} {zeros : A} {Limits : A → Type 0} {write : A → List �
       other : (k : ℕ) → eqb refusal k ≡ false → Cause k → ⊥
       other k e (unread f) = eqb-false refusal refusal e refl
 
-      first : {n : ℕ} → First Cause (refusal ∷ []) n → First Cause order n
-      first {n} f = pass-over (eqb refusal) other order (subst (λ (l : List ℕ). First Cause l n) (sym one) f)
+      first : {n : ℕ} → First Cause (refusal ∷ []) n → First Cause refusalOrder n
+      first {n} f = pass-over (eqb refusal) other refusalOrder (subst (λ (l : List ℕ). First Cause l n) (sym one) f)
 
       is-read : {v : A} → Limits v → write v ≡ s → Cause refusal → ⊥
       is-read {v} l e (unread f) = f v l e
@@ -93,8 +93,8 @@ read-stated (unread f) = claim.here
 -- ---- a part that is always handed back
 
 -- where no cause is, no number is first
-unrefused : First NeverRefused order 0
-unrefused = pass-over (λ k. false) (λ k e c. c) order clear
+unrefused : First NeverRefused refusalOrder 0
+unrefused = pass-over (λ k. false) (λ k e c. c) refusalOrder clear
 
 pub handed : {s r : RefT (List ℕ)} {e : Ends} → IsPart s e r → HandsPart NeverRefused (λ d. d ≡ e) s r
 handed {e = e} p = record { refusal = 0; ends = e; answer = answers unrefused refl; is = p }

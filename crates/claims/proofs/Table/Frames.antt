@@ -6,7 +6,7 @@ use Prim.Native.Nat.{ℕ}
 use Rattle.digits.proofs.Unique.{equation}
 use Rattle.frames.specs.Paper.Kinds.{KindCause}
 use Rattle.frames.specs.Paper.Search.{SearchCause, frameEnds, payloadEnds}
-use Rattle.frames.specs.Paper.Whole.{WholeCause}
+use Rattle.frames.specs.Paper.OneFrame.{OneFrameCause}
 use Rattle.frames.proofs as frames
 use Rattle.frames.proofs.Unique.{searched-one, handed-one, whole-one, resolved-one}
 use Rattle.claims.specs.Paper.Claim.{OneOf, here, there}
@@ -20,9 +20,9 @@ search-stated (SearchCause.no-kind e) = here
 search-stated (SearchCause.no-place h) = there here
 search-stated (SearchCause.no-frame h) = there (there here)
 
-pub whole-stated : {k : ℕ} {s : List ℕ} {no : ℕ} → WholeCause k s no → OneOf no (2 ∷ 5 ∷ [])
-whole-stated (WholeCause.no-kind e) = here
-whole-stated (WholeCause.no-frame f) = there here
+pub whole-stated : {k : ℕ} {s : List ℕ} {no : ℕ} → OneFrameCause k s no → OneOf no (2 ∷ 5 ∷ [])
+whole-stated (OneFrameCause.no-kind e) = here
+whole-stated (OneFrameCause.no-frame f) = there here
 
 abbrev pub search : Row
 search =

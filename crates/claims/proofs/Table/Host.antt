@@ -38,20 +38,20 @@ climate-stated : {t h : ℤ} {no : ℕ} → ClimateCause t h no → OneOf no (5 
 climate-stated (ClimateCause.not-signed f) = OneOf.here
 climate-stated (ClimateCause.not-unsigned f) = OneOf.here
 
-abbrev pub numbered : Row
-numbered =
+abbrev pub refusal-number : Row
+refusal-number =
     record {
-      function = function-of host.answers.numbered.Key.name host.answers.numbered.Kinds.ps host.answers.numbered.Kinds.r host.answers.numbered.Symbol.routine;
-      claim = λ κs. claims.numbered;
+      function = function-of host.answers.refusal_number.Key.name host.answers.refusal_number.Kinds.ps host.answers.refusal_number.Kinds.r host.answers.refusal_number.Symbol.routine;
+      claim = λ κs. claims.refusal-number;
       args = λ κs a. record { why = a .0 };
       later = λ κs s. [];
     }
 
-pub numbered-proper : Proper numbered
-numbered-proper =
+pub refusal-number-proper : Proper refusal-number
+refusal-number-proper =
     record {
       named = λ κs. refl;
-      keeps = λ w. host.answers.numbered.Met.met (w .𝓤) (w .H) (w .𝓜) (w .𝓖) (w .𝓡);
+      keeps = λ w. host.answers.refusal_number.Met.met (w .𝓤) (w .H) (w .𝓜) (w .𝓖) (w .𝓡);
       stated = λ κs a no c. absurd c;
       occurs = λ κs. tt;
       one = λ κs a r q ws vs x y. (equation x y, refl);
@@ -506,7 +506,7 @@ book-add-proper =
 
 abbrev pub rows : List Row
 rows =
-    numbered
+    refusal-number
     ∷ counted
     ∷ kind-byte
     ∷ version
@@ -532,7 +532,7 @@ rows =
 
 pub rows-proper : Every Proper rows
 rows-proper =
-    and numbered-proper
+    and refusal-number-proper
     (and counted-proper
     (and kind-byte-proper
     (and version-proper

@@ -7,7 +7,7 @@ use Prim.Native.Nat.{ℕ, _≤_}
 use lib.Dec.{eqb}
 use lib.ListN.{length}
 use native.Mathlib.Omega.{arith}
-use Rattle.digits.specs.Paper.Refusals.{order, clear, here, after}
+use Rattle.digits.specs.Paper.Refusals.{refusalOrder, clear, here, after}
 use Rattle.digits.proofs.Laws.Refusals.{pass-over}
 use Rattle.puts.specs.Paper.Right.{WroteRight}
 use Rattle.puts.proofs.Laws.Right.{as-right, one-wrote}
@@ -33,8 +33,8 @@ pub right : {s room later : List ℕ} {no count : ℕ} → WroteListing s room n
     → WroteRight (ListingCause s (length room)) (Listing s) room no count later
 right {s} {room} w =
     as-right (w .lists)
-    (after-tests (λ h. pass-over (λ k. eqb k 4) only order (after (enough h) clear))
-    (λ h. pass-over (λ k. eqb k 4) only order (here (short (w .lists) h))) (w .written))
+    (after-tests (λ h. pass-over (λ k. eqb k 4) only refusalOrder (after (enough h) clear))
+    (λ h. pass-over (λ k. eqb k 4) only refusalOrder (here (short (w .lists) h))) (w .written))
   where
     only : (k : ℕ) → eqb k 4 ≡ false → ListingCause s (length room) k → ⊥
     only k e (short l h) = true≢false e

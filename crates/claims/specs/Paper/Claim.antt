@@ -11,10 +11,34 @@ use prog.Routine.{Name}
 use Rattle.digits.specs.Paper.Part.{Ends, HandsPart}
 use Rattle.digits.specs.Paper.Refusals.{Answers}
 use Rattle.puts.specs.Paper.Put.{Put}
+use Rattle.puts.specs.Paper.Right.{AnswersInto}
 use Rattle.puts.specs.Paper.Wrote.{writtenRefusal, writtenCount}
 use Rattle.puts.specs.declared.Written.{Written}
 
 -- ---- the five forms of an answer
+
+-- a function that puts bytes at a place of a lent room
+pub record Puts (Args : Type 0) : Type 0 where
+  pub room : Args → List ℕ
+  pub place : Args → ℕ
+  pub bytes : Args → List ℕ
+
+-- A function that may refuse. `refusal` and `value` read its result: a refusal number, which is 0 if it answers, and
+-- a value. `zeros` is the value of every refusal ("Refusals return zeros"). `Right` says which values are right for
+-- its arguments.
+pub record Refuses (Args Result Value : Type 0) : Type 1 where
+  pub refusal : Result → ℕ
+  pub value : Result → Value
+  pub zeros : Value
+  pub Right : Args → Value → Type 0
+
+-- The same beside a lent room: `Right` speaks of the value and of the room afterwards.
+pub record Writes (Args Result Value : Type 0) : Type 1 where
+  pub refusal : Result → ℕ
+  pub value : Result → Value
+  pub zeros : Value
+  pub room : Args → List ℕ
+  pub Right : Args → Value → List ℕ → Type 0
 
 -- How a function answers, from its arguments and its result's type:
 pub data Form (Args : Type 0) : (Result : Type 0) → Type 1 where
@@ -22,33 +46,30 @@ pub data Form (Args : Type 0) : (Result : Type 0) → Type 1 where
   answers : {R : Type 0} (Right : Args → R → Type 0) → Form Args R
   -- it refuses nothing: it puts these bytes at a place of a lent room, as far as the room goes, and answers the place
   -- behind them
-  puts : (room : Args → List ℕ) (place : Args → ℕ) (bytes : Args → List ℕ) → Form Args ℕ
+  puts : Puts Args → Form Args ℕ
   -- it answers a right value, or a refusal's number and zeros
-  refuses : {R A : Type 0} (number : R → ℕ) (value : R → A) (zeros : A) (Right : Args → A → Type 0)
-      → Form Args R
+  refuses : {R A : Type 0} → Refuses Args R A → Form Args R
   -- the same beside a lent room: the value and the room afterwards are right, or the room is as it was
-  writes : {R A : Type 0} (number : R → ℕ) (value : R → A) (zeros : A) (room : Args → List ℕ)
-      (Right : Args → A → List ℕ → Type 0)
-      → Form Args R
+  writes : {R A : Type 0} → Writes Args R A → Form Args R
   -- it hands back a part of lent bytes: from one right end to the other, or an empty part
   hands : (lent : Args → RefT (List ℕ)) (Right : Args → Ends → Type 0) → Form Args (RefT (List ℕ))
 
--- what is promised of a result and of the lent room afterwards, where these are the causes of refusals
+-- what is promised of a result and of the lent room afterwards; `Cause` gives the causes of the refusals
 abbrev pub Promised : {Args R : Type 0} → (Args → ℕ → Type 0) → Form Args R → Args → R → List ℕ
     → Type 0
 Promised Cause (answers Right) a r later = Right a r
-Promised Cause (puts room place bytes) a r later = Put (room a) later (place a) r (bytes a)
-Promised Cause (refuses number value zeros Right) a r later = Answers zeros (Cause a) (Right a) (number r) (value r)
-Promised Cause (writes {A = A} number value zeros room Right) a r later =
-    Answers {A = A × List ℕ} (zeros, room a) (Cause a) (λ v. Right a (v .0) (v .1)) (number r) (value r, later)
+Promised Cause (puts f) a r later = Put (f .room a) later (f .place a) r (f .bytes a)
+Promised Cause (refuses f) a r later = Answers (f .zeros) (Cause a) (f .Right a) (f .refusal r) (f .value r)
+Promised Cause (writes f) a r later =
+    AnswersInto (f .zeros) (f .room a) (Cause a) (f .Right a) (f .refusal r) (f .value r) later
 Promised Cause (hands lent Right) a r later = HandsPart (Cause a) (Right a) (lent a) r
 
 -- when two results are the same; a part is its place and its bytes (its name in the logic is none of the machine's)
 abbrev pub Same : {Args R : Type 0} → Form Args R → R → R → Type 0
 Same (answers Right) r q = r ≡ q
-Same (puts room place bytes) r q = r ≡ q
-Same (refuses number value zeros Right) r q = r ≡ q
-Same (writes number value zeros room Right) r q = r ≡ q
+Same (puts f) r q = r ≡ q
+Same (refuses f) r q = r ≡ q
+Same (writes f) r q = r ≡ q
 Same (hands lent Right) r q = (ptr r ≡ ptr q) × (now r ≡ now q)
 
 -- ---- a claim
@@ -85,11 +106,9 @@ answering {Args} name Right =
     record { name = name; Args = Args; refusals = []; Cause = λ a. NeverRefused; form = answers Right }
 
 -- one that puts bytes
-abbrev pub putting : {Args : Type 0} (name : Name) (room : Args → List ℕ) (place : Args → ℕ)
-    (bytes : Args → List ℕ)
-    → Claim ℕ
-putting {Args} name room place bytes =
-    record { name = name; Args = Args; refusals = []; Cause = λ a. NeverRefused; form = puts room place bytes }
+abbrev pub putting : {Args : Type 0} (name : Name) → Puts Args → Claim ℕ
+putting {Args} name f =
+    record { name = name; Args = Args; refusals = []; Cause = λ a. NeverRefused; form = puts f }
 
 -- ---- readers and writers
 
@@ -98,20 +117,35 @@ pub data Unread {A : Type 0} (Limits : A → Type 0) (write : A → List ℕ) (n
     : ℕ → Type 0 where
   unread : ((v : A) → Limits v → write v ≡ s → ⊥) → Unread Limits write no s no
 
--- a reader: the right value is the one within its limits that is written so
-abbrev pub reading : {Args R A : Type 0} (name : Name) (refusal : ℕ) (number : R → ℕ) (value : R → A)
-    (zeros : A) (Limits : Args → A → Type 0) (write : Args → A → List ℕ) (text : Args → List ℕ)
-    → Claim R
-reading {Args} name refusal number value zeros Limits write text =
+-- A reader of a text, with the one number that it refuses with. Its result is read as in `Refuses`. `Limits` are
+-- those of the values, `write` is how a value is written, and `text` is what is read.
+pub record Reader (Args Result Value : Type 0) : Type 1 where
+  pub refuses-with : ℕ
+  pub refusal : Result → ℕ
+  pub value : Result → Value
+  pub zeros : Value
+  pub Limits : Args → Value → Type 0
+  pub write : Args → Value → List ℕ
+  pub text : Args → List ℕ
+
+-- the right value is the one within its limits that is written so
+abbrev pub reading : {Args R A : Type 0} (name : Name) → Reader Args R A → Claim R
+reading {Args} name f =
     record {
       name = name;
       Args = Args;
-      refusals = refusal ∷ [];
-      Cause = λ a. Unread (Limits a) (write a) refusal (text a);
-      form = refuses number value zeros (λ a v. Limits a v × (write a v ≡ text a));
+      refusals = f .refuses-with ∷ [];
+      Cause = λ a. Unread (f .Limits a) (f .write a) (f .refuses-with) (f .text a);
+      form = refuses
+          (record {
+            refusal = f .refusal;
+            value = f .value;
+            zeros = f .zeros;
+            Right = λ a v. f .Limits a v × (f .write a v ≡ f .text a);
+          });
     }
 
--- so many right bytes stand at the front of the room, and the rest of it is as it was
+-- `count` right bytes stand at the front of the room, and the rest of it is as it was
 pub record Fronted (Right : List ℕ → Type 0) (room : List ℕ) (count : ℕ) (later : List ℕ) : Type 0 where
   pub bytes : List ℕ
   pub right : Right bytes
@@ -121,4 +155,12 @@ pub record Fronted (Right : List ℕ → Type 0) (room : List ℕ) (count : ℕ)
 -- a writer from the front of a lent room
 abbrev pub fronts : {Args : Type 0} (room : Args → List ℕ) (Right : Args → List ℕ → Type 0)
     → Form Args Written
-fronts room Right = writes writtenRefusal writtenCount 0 room (λ a. Fronted (Right a) (room a))
+fronts room Right =
+    writes
+    (record {
+      refusal = writtenRefusal;
+      value = writtenCount;
+      zeros = 0;
+      room = room;
+      Right = λ a. Fronted (Right a) (room a);
+    })

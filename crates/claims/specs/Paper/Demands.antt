@@ -34,7 +34,7 @@ use Rattle.messages.specs.declared.Decoded.{Decoded}
 use Rattle.messages.specs.declared.Decoded.the-variants.{Is}
 use Rattle.messages.specs.declared.Message.{Message as Coded}
 use Rattle.commands.specs.Paper.Answers.{Encodes}
-use Rattle.lines.specs.Paper.Answers.{LineOf, WritesLine, PutsNext, NextLine, listedNumber, listedPlaced}
+use Rattle.lines.specs.Paper.Answers.{LineOf, WritesLine, PutsNext, NextLine, listedRefusal, listedPlaced}
 use Rattle.lines.specs.declared.Listed.{Listed}
 use Rattle.book.specs.Paper.Answers.{EntryLine, WritesEntryLine, BookLines, WritesBookLines}
 use Rattle.list.specs.Paper.Answers.{WritesListing}
@@ -80,12 +80,12 @@ pub record Demand2 : Type 0 where
       → s ≡ t
   pub of-one-frame : {k j at there : ℕ} {f g t : List ℕ} → LineOf k f at t → LineOf j g there t
       → (at ≡ there) × (k ≡ j) × (f ≡ g)
-  -- and where a call is not refused, what it has written is that line: of a frame, and of the next frame of a capture
+  -- and if a call is not refused, what it has written is that line: of a frame, and of the next frame of a capture
   pub line-written : {k : ℕ} {f : List ℕ} {at : ℕ} {room later : List ℕ} (r : Written)
       → WritesLine k f at room r later
       → writtenRefusal r ≡ 0 → LineOf k f at (take (writtenCount r) later)
   pub next-line-put : {k : ℕ} {s : List ℕ} {place to : ℕ} {room later : List ℕ} (r : Listed)
-      → PutsNext k s place room to r later → listedNumber r ≡ 0
+      → PutsNext k s place room to r later → listedRefusal r ≡ 0
       → NextLine k s place room to (listedPlaced r) later
   -- of an entry of a book, and of all its entries
   pub entry-line-written : {s room later : List ℕ} {number : ℕ} (r : Written)
@@ -93,8 +93,8 @@ pub record Demand2 : Type 0 where
       → writtenRefusal r ≡ 0 → EntryLine s number (take (writtenCount r) later)
   pub book-lines-written : {s room later : List ℕ} (r : Written) → WritesBookLines s room r later
       → writtenRefusal r ≡ 0 → BookLines s (take (writtenCount r) later)
-  -- and of all frames of a capture: the listing's frames are as long as their lines say; the frames and the bytes
-  -- that are skipped make up the capture; and these bytes, counted one by one, are in no frame
+  -- and of all frames of a capture. The listing's frames are as long as their lines say. The frames and the bytes
+  -- that are skipped make up the capture, and these bytes, counted one by one, are in no frame
   pub listing-written : {s room later : List ℕ} (r : Written) → WritesListing s room r later
       → writtenRefusal r ≡ 0
       → Listing s (take (writtenCount r) later)
@@ -105,8 +105,8 @@ pub record Demand2 : Type 0 where
       → inside (l .frames) + (length s - inside (l .frames)) ≡ length s
   pub skipped : {k : ℕ} {s t : List ℕ} (l : Lists k s t)
       → InNone (l .frames) 0 (length s) (length s - inside (l .frames))
-  -- "An encoded message decodes to itself": if the encoder has answered so many bytes for a case with its content,
-  -- decoding them answers that case, and the message in them is the one that was said
+  -- "An encoded message decodes to itself": if the encoder has written bytes for a case with its content, decoding
+  -- them answers that case, and the message in them is the one that was said
   pub same-message : {k : ℕ} (e : Coded) (s room later : List ℕ) (r : Written) → Encodes k e s room r later
       → writtenRefusal r ≡ 0 → (d : Decoded) → Decodes k (take (writtenCount r) later) d
       → (a : DecodedAs k (take (writtenCount r) later) e d) × Says e s (a .said .message)

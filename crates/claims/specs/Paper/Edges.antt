@@ -1,5 +1,6 @@
 -- The edges of document 01's limits: for each the last that is right, and the first that is wrong. A limit that is
--- misread alike in its definition and in the code is proved; here the paper's own numbers stand beside the definitions.
+-- misread alike in its definition and in the code is proved; here document 01's own numbers stand beside the
+-- definitions.
 -- Assumes nothing.
 use mathlib.Core.Bool.{Bool, true, false}
 use mathlib.Core.List.{List, [], _∷_, _++_}
@@ -26,7 +27,7 @@ use Rattle.messages.specs.Paper.Message.{Message, read, set, answer, press, lin
 use Rattle.messages.specs.Paper.Message.{response, ask, reply, put, nibe, output, input, shutter, beat}
 use Rattle.messages.specs.Paper.Table.{bytes, Limits}
 use Rattle.list.specs.Paper.Listing.{Lists, Input, Listing}
-use Rattle.book.specs.Paper.Book.{Entry, Within, Numbered}
+use Rattle.book.specs.Paper.Book.{Entry, Within, EntryAt}
 
 -- ---- what can be right or wrong
 
@@ -39,11 +40,11 @@ pub data Fact : Type 0 where
   message : Message → Fact
   -- there is a kind with this number
   kind : ℕ → Fact
-  -- a raw number with so many decimals is within its limits
+  -- a raw number with this number of decimals is within its limits
   number : (raw : ℤ) (decimals : ℕ) → Fact
   -- a raw number fits a single
   single : ℤ → Fact
-  -- so many bytes, signed or not, hold the number; and there are values of this width
+  -- bytes of this width, signed or not, hold the number; and there are values of this width
   value : (width : ℕ) (signed : Bool) → ℤ → Fact
   width : ℕ → Fact
   -- in a string of the JSON a byte stands for itself
@@ -69,13 +70,13 @@ Right (message m) = Limits m
 Right (kind k) = known k ≡ true
 Right (number z d) = InLimits (record { raw = z; decimals = d })
 Right (single z) = fitsSingle z ≡ true
-Right (value w signed z) = values.Holds w signed z
+Right (value w signed z) = values.HeldBy w signed z
 Right (width w) = Width w
 Right (plain b) = escaped b ≡ b ∷ []
 Right (listed s) = Listed s
 Right (none-from k s place) = Searches k s place (Refused NoFrame)
 Right (makes-book es) = Within es
-Right (has-entry es n) = (e : Entry) × (offset : ℕ) × Numbered es n e offset
+Right (has-entry es n) = (e : Entry) × (offset : ℕ) × EntryAt es n e offset
 
 -- ---- edges
 
@@ -88,17 +89,17 @@ infixl 70 _but-not_
 abbrev pub _but-not_ : Fact → Fact → Edge
 a but-not b = record { right = a; wrong = b }
 
-pub record Holds (e : Edge) : Type 0 where
+pub record EdgeHolds (e : Edge) : Type 0 where
   pub right : Right (e .right)
   pub wrong : Right (e .wrong) → ⊥
 
 abbrev pub AllHold : List Edge → Type 0
 AllHold [] = Unit
-AllHold (e ∷ later) = Holds e × AllHold later
+AllHold (e ∷ later) = EdgeHolds e × AllHold later
 
 -- ---- examples of which one part is changed
 
--- so many bytes, and so many characters
+-- n bytes, and n characters
 abbrev pub zeros : ℕ → List ℕ
 zeros n = replicate n 0
 
@@ -161,18 +162,18 @@ sent t = frame Homiq (t ++ (CR ∷ LF ∷ []))
 abbrev wire : (cmd val : List ℕ) → Wire
 wire cmd val = record { cmd = cmd; val = val; src = ascii "0H"; dst = ascii "0"; id = 42; type = 0x73 }
 
--- an entry with a tail; one with a Nest command of so many bytes
+-- an entry with a tail; one with a Nest command of n bytes
 abbrev pub tailEntry : Entry
 tailEntry = record { kind = 1; frame = line (ascii "#E1") }
 
 abbrev pub commandEntry : ℕ → Entry
 commandEntry n = record { kind = 2; frame = bytes (command 0 (zeros n)) }
 
--- 62 of the longest, one of 509 bytes, and one of so many
+-- 62 of the longest, one of 509 bytes, and one of n bytes
 abbrev pub commandEntries : ℕ → List Entry
 commandEntries n = replicate 62 (commandEntry 1024) ++ (commandEntry 509 ∷ commandEntry n ∷ [])
 
--- an input of kind 1 with a capture of so many bytes
+-- an input of kind 1 with a capture of n bytes
 abbrev pub wholeInput : ℕ → List ℕ
 wholeInput n = ascii "1" ++ (LF ∷ zeros n)
 

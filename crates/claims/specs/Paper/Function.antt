@@ -46,7 +46,7 @@ Keeps f P =
     → Meets (w .𝓤) (w .H) (w .𝓖 .A) (sigOf (f .lifetimes) (f .params) (f .result)) (w .𝓡 .run (f .routine))
     (closing (w .𝓤) (w .H) (w .𝓖 .A) (ended f) (asking-nothing f P w))
 
--- lifetimes that never end, as many as a signature has: one choice of them, where it does not matter which
+-- lifetimes that never end, as many as a signature has: one choice of them, if it does not matter which
 abbrev pub unending : (n : ℕ) → Lfts n
 unending zero = tt
 unending (suc n) = ([], unending n)

@@ -124,7 +124,7 @@ functions =
     -- list
     ∷ ("list::write", 4 ∷ [])
     -- host, host_lines, host_list, host_book
-    ∷ ("host::answers::numbered", [])
+    ∷ ("host::answers::refusal_number", [])
     ∷ ("host::answers::counted", [])
     ∷ ("host::answers::kind_byte", [])
     ∷ ("host::bolsterweft_version", [])

@@ -6,7 +6,7 @@ use mathlib.Core.Path.{_≡_}
 use Prim.Native.Nat.{ℕ}
 use lib.IntN.{ℤ, pos, negℤ}
 use Rattle.digits.specs.Paper.Ascii.{ascii}
-use Rattle.checks.specs.Paper.Bits.{bitsOfBytes, highFirst}
+use Rattle.checks.specs.Paper.Bits.{bitsOfBytes, highBitFirst}
 use Rattle.checks.specs.Paper.Buses.{nestCrc}
 use Rattle.checks.specs.Paper.Check.{Check, check}
 use Rattle.checks.specs.Paper.Stretch.{FitIn}
@@ -36,34 +36,34 @@ pub data Point : Type 0 where
   fails : (kind : ℕ) (bytes : List ℕ) → Point
   -- the acknowledgement of a frame
   acknowledged : (frame answer : List ℕ) → Point
-  -- a raw number's text with so many decimals
+  -- a raw number's text with this number of decimals
   written : (raw : ℤ) (decimals : ℕ) (text : List ℕ) → Point
   -- a raw number fits a single; it does not
   fits : ℤ → Point
   fits-not : ℤ → Point
   -- the book without entries
   empty : (book : List ℕ) → Point
-  -- two Nest payloads have one CRC under each id, and their differing bits fit in a stretch of so many
+  -- two Nest payloads have one CRC under each id, and their differing bits fit in a stretch of this length
   one-crc : (stretch : ℕ) (payload other : List ℕ) → Point
 
-abbrev pub Holds : Point → Type 0
-Holds (is k f m) = Stands k f m
-Holds (checked c bytes v) = check c bytes ≡ v
-Holds (found k s start len) = (from : ℕ) × (to : ℕ) × Searches k s 0 (At start len from to)
-Holds (passes k f) = Frame k f
-Holds (fails k f) = Frame k f → ⊥
-Holds (acknowledged f a) = AcknowledgementOf f a
-Holds (written z d t) = text z d ≡ t
-Holds (fits z) = fitsSingle z ≡ true
-Holds (fits-not z) = fitsSingle z ≡ false
-Holds (empty s) = Book s []
-Holds (one-crc n p q) = ((id : ℕ) → check nestCrc (covered id p) ≡ check nestCrc (covered id q))
-    × FitIn n (bitsOfBytes highFirst p) (bitsOfBytes highFirst q)
+abbrev pub PointHolds : Point → Type 0
+PointHolds (is k f m) = Stands k f m
+PointHolds (checked c bytes v) = check c bytes ≡ v
+PointHolds (found k s start len) = (from : ℕ) × (to : ℕ) × Searches k s 0 (At start len from to)
+PointHolds (passes k f) = Frame k f
+PointHolds (fails k f) = Frame k f → ⊥
+PointHolds (acknowledged f a) = AcknowledgementOf f a
+PointHolds (written z d t) = text z d ≡ t
+PointHolds (fits z) = fitsSingle z ≡ true
+PointHolds (fits-not z) = fitsSingle z ≡ false
+PointHolds (empty s) = Book s []
+PointHolds (one-crc n p q) = ((id : ℕ) → check nestCrc (covered id p) ≡ check nestCrc (covered id q))
+    × FitIn n (bitsOfBytes highBitFirst p) (bitsOfBytes highBitFirst q)
 
 -- every point of a list holds
 abbrev pub AllHold : List Point → Type 0
 AllHold [] = Unit
-AllHold (p ∷ later) = Holds p × AllHold later
+AllHold (p ∷ later) = PointHolds p × AllHold later
 
 -- ---- the list, (a) to (l)
 

@@ -3,11 +3,7 @@
 -- returns zeros and alters no byte that was lent to it." And 01, "How a promise is judged": "each public function's
 -- promise determines the answer and the later content of lent memory, in refusals too."
 --
--- A row ties a claim of Table to a function. One in plain words, that of `lines::write`: given a kind, a frame, a
--- place and a room, it refuses with 2 for a kind that is not known, with 5 for anything else than one frame, with 4
--- for a room that is too short, tested in this order, and then answers 0 bytes and leaves the room as it was.
--- Otherwise the frame's line, as 01 has it, stands at the front of the room, the rest of the room is as it was, and
--- the answer is how long the line is. Whatever the arguments are, the code ends so.
+-- A row ties a claim of Table to a function. (At the head of Table a claim is said in plain words.)
 -- Assumes nothing.
 use mathlib.Core.List.{List, [], _∷_}
 use mathlib.Core.Path.{_≡_}
@@ -20,8 +16,8 @@ use Rattle.claims.specs.Paper.Claim.{Claim, Promised, Same, OneOf, Occur
 use Rattle.claims.specs.Paper.Function.{Function, ended, Promise, Keeps, unending}
 
 -- A function with what is claimed of it. The claim is of the function's own result type, so nothing of a result is
--- left out; the arguments are given their names, and `later` picks the lent room afterwards (nothing, if no room is
--- lent).
+-- left out. `args` gives the arguments their names. `later` picks the lent room afterwards, and nothing if no room is
+-- lent.
 pub record Row : Type 3 where
   pub function : Function
   pub claim : (κs : Lfts (function .lifetimes)) → Claim (resT (function .result) κs .Denot)
@@ -54,10 +50,10 @@ pub record Proper (f : Row) : Type 3 where
       → promise f κs a q (atExit (ended (f .function)) κs a vs)
       → Same (f .claim κs .form) r q × (ws ≡ vs)
 
--- something holds for every function of a list
-pub data Every (Holds : Row → Type 3) : List Row → Type 3 where
-  none : Every Holds []
-  and : {f : Row} {later : List Row} → Holds f → Every Holds later → Every Holds (f ∷ later)
+-- a property of rows holds for every row of a list
+pub data Every (Property : Row → Type 3) : List Row → Type 3 where
+  none : Every Property []
+  and : {f : Row} {later : List Row} → Property f → Every Property later → Every Property (f ∷ later)
 
 -- a row's name and refusals, as the table lists them
 abbrev pub listed : Row → Name × List ℕ

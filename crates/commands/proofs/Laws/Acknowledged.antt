@@ -11,9 +11,9 @@ use lib.Seq.{getD-append-seam}
 use Rattle.digits.specs.Paper.Ascii.{ascii}
 use Rattle.digits.specs.Paper.Bytes.{part}
 use Rattle.digits.specs.Paper.Decimal.{decimal}
-use Rattle.digits.specs.Paper.Refusals.{refusalNumber, order, First}
+use Rattle.digits.specs.Paper.Refusals.{refusalNumber, refusalOrder, First}
 use Rattle.digits.specs.declared.refusal.Refusal.{Refusal}
-use Rattle.digits.specs.declared.refusal.Refusal.the-variants.{Limits as OutsideLimits}
+use Rattle.digits.specs.declared.refusal.Refusal.the-variants.{OutOfLimits}
 use Rattle.digits.proofs.Laws.Parts.{part-front}
 use Rattle.digits.proofs.Laws.Refusals.{cause-at, some-number}
 use Rattle.puts.specs.Paper.Put.{Put}
@@ -29,9 +29,9 @@ use Rattle.layouts.proofs.Theorems.{one-homiq}
 use Rattle.frames.specs.Paper.Kinds.{Frame, numberOf}
 use Rattle.frames.specs.declared.kinds.Kind.the-variants.{Homiq}
 use Rattle.frames.proofs.Laws.Kinds.{kind-known, of-kind, as-frame}
-use Rattle.frames.specs.Paper.Whole as whole
-use Rattle.frames.specs.Paper.Whole.{WholeCause, TestsWhole}
-use Rattle.frames.specs.declared.Whole.{Whole}
+use Rattle.frames.specs.Paper.OneFrame as whole
+use Rattle.frames.specs.Paper.OneFrame.{OneFrameCause, TestsOneFrame}
+use Rattle.frames.specs.declared.FramePayload.{FramePayload}
 use Rattle.builds.specs.Paper.Builds as builds
 use Rattle.builds.specs.Paper.Builds.{HomiqCause, HomiqBytes, BuildsHomiq}
 use Rattle.builds.proofs.Laws.Homiq.{whole-frame, one-bytes, longest}
@@ -118,7 +118,7 @@ one-frame-of {f} {v} {w} q r = ap wireOf (one-homiq (homiqOf v) (homiqOf w) (q .
 
 module _ {p f : List ℕ} {w : Wire} (x : Payload p w) (is : FrameOf f w) where
   -- of type `a`
-  pub of-type-a : {room : List ℕ} → getD p (length p - 1) 0 ≡ typeA → Acknowledges f room (Refused OutsideLimits) room
+  pub of-type-a : {room : List ℕ} → getD p (length p - 1) 0 ≡ typeA → Acknowledges f room (Refused OutOfLimits) room
   of-type-a e = refused-5 (first-5 only (answered is (sym (last-type x .1) ∙ e)))
 
   -- and of type `s`
@@ -145,7 +145,7 @@ module _ {p f : List ℕ} {w : Wire} (x : Payload p w) (is : FrameOf f w) where
 
     pub of-type-s : {room later s : List ℕ} (r : Written) → s ≡ exchanged p → BuildsHomiq s room r later → Acknowledges f room r later
     of-type-s {room} {later} r e b =
-        recast (first-same to back order) still (subst (λ (s : List ℕ). BuildsHomiq s room r later) e b)
+        recast (first-same to back refusalOrder) still (subst (λ (s : List ℕ). BuildsHomiq s room r later) e b)
 
 -- ---- a frame and its payload
 
@@ -154,8 +154,8 @@ pub framed : {p : List ℕ} {w : Wire} → Payload p w → FrameOf (bytesOf homi
 framed x = record { limits = x .limits; frame = refl }
 
 -- the number that the code asks for is Homiq's
-pub tested : {k : ℕ} {f : List ℕ} (r : Whole) → k ≡ numberOf Homiq → TestsWhole k f r → TestsWhole 5 f r
-tested {f = f} r e a = subst (λ (k : ℕ). TestsWhole k f r) e a
+pub tested : {k : ℕ} {f : List ℕ} (r : FramePayload) → k ≡ numberOf Homiq → TestsOneFrame k f r → TestsOneFrame 5 f r
+tested {f = f} r e a = subst (λ (k : ℕ). TestsOneFrame k f r) e a
 
 module _ {f : List ℕ} {from to : ℕ} (o : Payloaded 5 f from to) where
   its-wire : (w : Wire) × (f ≡ bytesOf homiqs.homiq (homiqOf w)) × Payload (part from to f) w
@@ -177,10 +177,10 @@ module _ {f : List ℕ} {from to : ℕ} (o : Payloaded 5 f from to) where
 -- ---- no frame
 
 module _ {f : List ℕ} (room : List ℕ) where
-  by-cause : {no : ℕ} → WholeCause 5 f no → Acknowledges f room (Refused OutsideLimits) room
+  by-cause : {no : ℕ} → OneFrameCause 5 f no → Acknowledges f room (Refused OutOfLimits) room
   by-cause (whole.no-kind h) = absurd (true≢false (sym (kind-known Homiq) ∙ h))
   by-cause (whole.no-frame g) =
       refused-5 (first-5 only (no-frame (λ w q. g (subst (Frame 5) (sym (q .frame)) (frame-of (content.homiq w) (q .limits))))))
 
-  pub none-acknowledged : (why : Refusal) → First (WholeCause 5 f) order (refusalNumber why) → Acknowledges f room (Refused OutsideLimits) room
+  pub none-acknowledged : (why : Refusal) → First (OneFrameCause 5 f) refusalOrder (refusalNumber why) → Acknowledges f room (Refused OutOfLimits) room
   none-acknowledged why c = by-cause (cause-at c (some-number why))

@@ -7,8 +7,8 @@ use Prim.Native.Nat.{ℕ, _<_}
 use lib.Dec.{eqb, lit<}
 use lib.ListN.{length}
 use Rattle.digits.specs.Paper.LowFirst.{Width}
-use Rattle.digits.specs.Paper.Refusals.{order, here, after}
-use Rattle.digits.specs.declared.refusal.Refusal.the-variants.{Kind, Form, Limits as OutsideLimits}
+use Rattle.digits.specs.Paper.Refusals.{refusalOrder, here, after}
+use Rattle.digits.specs.declared.refusal.Refusal.the-variants.{NoKind, BadForm, OutOfLimits}
 use Rattle.digits.proofs.Laws.Refusals.{pass-over}
 use Rattle.puts.specs.declared.Written.the-variants.{Refused}
 use Rattle.puts.specs.Paper.Right.{WroteRight, refused}
@@ -44,8 +44,8 @@ module _ (k : ℕ) (e : Coded) (s room : List ℕ) where
   only i h (by-message c) = none-else i h c
 
   -- 2
-  pub unknown : known k ≡ false → Encodes k e s room (Refused Kind) room
-  unknown h = refused (lit< tt) (pass-over ours only order (here (no-kind h)))
+  pub unknown : known k ≡ false → Encodes k e s room (Refused NoKind) room
+  unknown h = refused (lit< tt) (pass-over ours only refusalOrder (here (no-kind h)))
 
   module _ (is-known : known k ≡ true) where
     not-2 : Cause 2 → ⊥
@@ -53,8 +53,8 @@ module _ (k : ℕ) (e : Coded) (s room : List ℕ) where
     not-2 (by-message c) = elim c [ ]
 
     -- 7
-    pub bad-width : (m : Message) (w : ℕ) → Says e s m → HasWidth m w → (Width w → ⊥) → Encodes k e s room (Refused Form) room
-    bad-width m w a b c = refused (lit< tt) (pass-over ours only order (after not-2 (here (no-width a b c))))
+    pub bad-width : (m : Message) (w : ℕ) → Says e s m → HasWidth m w → (Width w → ⊥) → Encodes k e s room (Refused BadForm) room
+    bad-width m w a b c = refused (lit< tt) (pass-over ours only refusalOrder (after not-2 (here (no-width a b c))))
 
     module _ (widths : Widths e s) where
       not-7 : Cause 7 → ⊥
@@ -62,8 +62,8 @@ module _ (k : ℕ) (e : Coded) (s room : List ℕ) where
       not-7 (by-message c) = elim c [ ]
 
       -- 5
-      pub of-other-kind : (numberOf (kindIn e) ≡ k → ⊥) → Encodes k e s room (Refused OutsideLimits) room
-      of-other-kind h = refused (lit< tt) (pass-over ours only order (after not-2 (after not-7 (here (other-kind h)))))
+      pub of-other-kind : (numberOf (kindIn e) ≡ k → ⊥) → Encodes k e s room (Refused OutOfLimits) room
+      of-other-kind h = refused (lit< tt) (pass-over ours only refusalOrder (after not-2 (after not-7 (here (other-kind h)))))
 
       -- and else what the message's own writer answers
       module _ (same : numberOf (kindIn e) ≡ k) where
@@ -75,4 +75,4 @@ module _ (k : ℕ) (e : Coded) (s room : List ℕ) where
 
         pub as-written : {later : List ℕ} {no count : ℕ} → WroteRight (MessageCause (Says e s) (length room)) (MeantBytes (Says e s)) room no count later
             → WroteRight Cause (MeantBytes (Says e s)) room no count later
-        as-written w = recast (first-same (λ i c. by-message c) back order) (λ bs b. b) w
+        as-written w = recast (first-same (λ i c. by-message c) back refusalOrder) (λ bs b. b) w

@@ -11,13 +11,13 @@ use lib.Seq.{drop-length}
 use mir.Syntax.{w16, w64}
 use mir.Val.{SFits, toZ, ofZ}
 use mir.ValLaws.{toZ-ofZ}
-use Rattle.digits.specs.Paper.LowFirst.{two, lowFirst}
+use Rattle.digits.specs.Paper.LowFirst.{two, lowByteFirst}
 use Rattle.digits.proofs.Laws.LowFirst.{length-low}
 use Rattle.digits.proofs.Laws.Refusals.{cause-at}
 use Rattle.numbers.proofs.Laws.Values.{In, lower, upper, size, in-held}
 use Rattle.numbers.specs.Paper.Answers as values
 use Rattle.numbers.specs.Paper.Answers.{ValueCause}
-use Rattle.numbers.specs.Paper.ByteValues.{Holds, twos, valueBytes}
+use Rattle.numbers.specs.Paper.ByteValues.{HeldBy, twos, valueBytes}
 use Rattle.puts.specs.Paper.Wrote.{Wrote, Writes, wrote, refused}
 use Rattle.puts.specs.declared.Written.{Written}
 use Rattle.messages.specs.Paper.Message.{climate}
@@ -26,8 +26,8 @@ use Rattle.commands.specs.Work.Answers.{WritesMessage}
 use Rattle.commands.proofs.Laws.NikobusWrites.{low-two, behind-address}
 use Rattle.commands.proofs.Laws.Written.{in-case}
 
-pub climate-payload : (t : ℤ) (h : ℕ) {l k : List ℕ} → l ≡ valueBytes 2 t → k ≡ lowFirst 2 h
-    → getD l 0 0 ∷ getD l 1 0 ∷ getD k 0 0 ∷ getD k 1 0 ∷ [] ≡ valueBytes 2 t ++ lowFirst 2 h
+pub climate-payload : (t : ℤ) (h : ℕ) {l k : List ℕ} → l ≡ valueBytes 2 t → k ≡ lowByteFirst 2 h
+    → getD l 0 0 ∷ getD l 1 0 ∷ getD k 0 0 ∷ getD k 1 0 ∷ [] ≡ valueBytes 2 t ++ lowByteFirst 2 h
 climate-payload t h {l} {k} e f = behind-address (twos 2 t) (getD k 0 0 ∷ getD k 1 0 ∷ []) e ∙ ap (λ (s : List ℕ). valueBytes 2 t ++ s) (low-two k h f)
 
 -- ---- a number of 16 bits
@@ -37,10 +37,10 @@ sixteen (pos n) f = lower {n = n} (omega (arith, f .sfits))
 sixteen (negsuc n) f = upper {n = n} (omega (arith, f .sfits))
 
 -- two bytes hold it
-holds-sixteen : (z : ℤ) → SFits w16 z → Holds 2 true z
+holds-sixteen : (z : ℤ) → SFits w16 z → HeldBy 2 true z
 holds-sixteen z f = in-held (size two) (sixteen z f)
 
-no-value-cause : {z : ℤ} {no : ℕ} → Holds 2 true z → ValueCause 2 true z 2 no → ⊥
+no-value-cause : {z : ℤ} {no : ℕ} → HeldBy 2 true z → ValueCause 2 true z 2 no → ⊥
 no-value-cause h (values.width f) = f two
 no-value-cause h (values.held f) = f h
 no-value-cause h (values.room k) = omega arith
@@ -57,7 +57,7 @@ pub cast-fits : (z : ℤ) → SFits w16 z → SFits w64 (toZ w16 (ofZ w16 z))
 cast-fits z f = subst (SFits w64) (sym (sixteen-back z f)) (long z f)
 
 -- an array of two bytes afterwards is those of the number
-two-bytes : {z : ℤ} {s later : List ℕ} {no count : ℕ} → length s ≡ 2 → Holds 2 true z → Wrote (ValueCause 2 true z 2) (valueBytes 2 z) s no count later → later ≡ valueBytes 2 z
+two-bytes : {z : ℤ} {s later : List ℕ} {no count : ℕ} → length s ≡ 2 → HeldBy 2 true z → Wrote (ValueCause 2 true z 2) (valueBytes 2 z) s no count later → later ≡ valueBytes 2 z
 two-bytes {z} {s} l h (wrote f) =
     ap (λ (t : List ℕ). valueBytes 2 z ++ t) (ap (λ (n : ℕ). drop n s) (length-low 2 (twos 2 z) ∙ sym l) ∙ drop-length s) ∙ append-nil (valueBytes 2 z)
 two-bytes l h (refused p f) = absurd (no-value-cause h (cause-at f p))

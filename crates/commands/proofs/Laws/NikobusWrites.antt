@@ -11,7 +11,7 @@ use lib.Seq.{take-all, take-suc, take-suc-set, length-take-le}
 use Rattle.digits.specs.Paper.Answers.{ReadsByte}
 use Rattle.digits.specs.Paper.Bytes.{Bytes, part}
 use Rattle.digits.specs.Paper.Hex.{hexByte, hexBytes}
-use Rattle.digits.specs.Paper.LowFirst.{lowFirst}
+use Rattle.digits.specs.Paper.LowFirst.{lowByteFirst}
 use Rattle.digits.specs.declared.hex.Byte.{Byte}
 use Rattle.digits.specs.declared.hex.Byte.the-variants.{Is, NoDigit}
 use Rattle.digits.proofs.Laws.Bytes.{bytes-nil, bytes-cons, bytes-append}
@@ -21,7 +21,7 @@ use Rattle.digits.proofs.Laws.Reads.{answered, refused}
 use Rattle.puts.specs.declared.Written.{Written}
 use Rattle.messages.proofs.Laws.Links as links
 use Rattle.messages.specs.Paper.Message.{link}
-use Rattle.messages.specs.Paper.Says.{ofNikobus, SaysNikobus, digits, fixed}
+use Rattle.messages.specs.Paper.Says.{ofNikobus, SaysNikobus, a-link, another}
 use Rattle.messages.specs.Paper.Table.{codeOf, Limits}
 use Rattle.messages.specs.Work.Answers.{Only}
 use Rattle.messages.specs.declared.nikobus.Nikobus.{Nikobus}
@@ -33,21 +33,21 @@ use Rattle.commands.proofs.Laws.Written.{in-case}
 -- ---- the payloads
 
 -- two bytes of an array are an address
-pub low-two : (l : List ℕ) (n : ℕ) → l ≡ lowFirst 2 n → getD l 0 0 ∷ getD l 1 0 ∷ [] ≡ lowFirst 2 n
-unfolding lowFirst
+pub low-two : (l : List ℕ) (n : ℕ) → l ≡ lowByteFirst 2 n → getD l 0 0 ∷ getD l 1 0 ∷ [] ≡ lowByteFirst 2 n
+unfolding lowByteFirst
 low-two l n e = rw e
 
-pub read-payload : (g n : ℕ) {code : ℕ} {l : List ℕ} → code ≡ codeOf 0x12 0x17 g → l ≡ lowFirst 2 n → code ∷ getD l 0 0 ∷ getD l 1 0 ∷ [] ≡ codeOf 0x12 0x17 g ∷ lowFirst 2 n
+pub read-payload : (g n : ℕ) {code : ℕ} {l : List ℕ} → code ≡ codeOf 0x12 0x17 g → l ≡ lowByteFirst 2 n → code ∷ getD l 0 0 ∷ getD l 1 0 ∷ [] ≡ codeOf 0x12 0x17 g ∷ lowByteFirst 2 n
 read-payload g n {code} {l} e f = ap₂ (λ (x : ℕ) (s : List ℕ). x ∷ s) e (low-two l n f)
 
 -- an address and what stands behind it
-pub behind-address : (n : ℕ) {l : List ℕ} (t : List ℕ) → l ≡ lowFirst 2 n → getD l 0 0 ∷ getD l 1 0 ∷ t ≡ lowFirst 2 n ++ t
+pub behind-address : (n : ℕ) {l : List ℕ} (t : List ℕ) → l ≡ lowByteFirst 2 n → getD l 0 0 ∷ getD l 1 0 ∷ t ≡ lowByteFirst 2 n ++ t
 behind-address n {l} t e = ap (λ (s : List ℕ). s ++ t) (low-two l n e)
 
-pub set-payload : (g n : ℕ) {code : ℕ} {l : List ℕ} (out : List ℕ) → code ≡ codeOf 0x15 0x16 g → l ≡ lowFirst 2 n
-    → code ∷ getD l 0 0 ∷ getD l 1 0 ∷ (out ++ (0xFF ∷ [])) ≡ codeOf 0x15 0x16 g ∷ (lowFirst 2 n ++ out ++ (0xFF ∷ []))
+pub set-payload : (g n : ℕ) {code : ℕ} {l : List ℕ} (out : List ℕ) → code ≡ codeOf 0x15 0x16 g → l ≡ lowByteFirst 2 n
+    → code ∷ getD l 0 0 ∷ getD l 1 0 ∷ (out ++ (0xFF ∷ [])) ≡ codeOf 0x15 0x16 g ∷ (lowByteFirst 2 n ++ out ++ (0xFF ∷ []))
 set-payload g n out e f =
-    ap₂ (λ (x : ℕ) (s : List ℕ). x ∷ s) e (behind-address n (out ++ (0xFF ∷ [])) f ∙ sym (append-assoc (lowFirst 2 n) out (0xFF ∷ [])))
+    ap₂ (λ (x : ℕ) (s : List ℕ). x ∷ s) e (behind-address n (out ++ (0xFF ∷ [])) f ∙ sym (append-assoc (lowByteFirst 2 n) out (0xFF ∷ [])))
 
 -- ---- the bytes that digits are
 
@@ -125,10 +125,10 @@ inside (none f e) = omega arith
 
 pub link-by-digits : {s buffer : List ℕ} {n : ℕ} {room later : List ℕ} (r : Written) → Unhexed s 122 n buffer
     → WritesMessage (Only (link (part 0 n buffer))) room r later → WritesMessage (SaysNikobus Link s) room r later
-link-by-digits r u w m (fixed h i) l = absurd (h refl)
-link-by-digits r (none f e) w m (digits {p = q} h b d i) l = absurd (f q (subst Limits i l) d)
-link-by-digits {buffer = buffer} {n = n} r (are {p = p} b d e f) w m (digits {p = q} h c g i) l =
-    w m (i ∙ ap link (hex-inj q p c (b .bytes) (sym g ∙ d) ∙ sym (part-front n buffer ∙ f))) l
+link-by-digits r u w m (another h i) l = absurd (h refl)
+link-by-digits r (none f e) w m (a-link h a) l = absurd (f (a .payload) (subst Limits (a .is) l) (a .digits))
+link-by-digits {buffer = buffer} {n = n} r (are {p = p} b d e f) w m (a-link h a) l =
+    w m (a .is ∙ ap link (hex-inj (a .payload) p (a .bytes) (b .bytes) (sym (a .digits) ∙ d) ∙ sym (part-front n buffer ∙ f))) l
 
 -- ---- the others take nothing from what stands beside them
 
@@ -137,5 +137,5 @@ pub fixed-said : {e : Nikobus} (f : Nikobus) {s room later : List ℕ} (r : Writ
 fixed-said f {s} {room} {later} r is h w = in-case (λ x. SaysNikobus x s) r is said
   where
     said : WritesMessage (SaysNikobus f s) room r later
-    said m (digits q b d i) l = absurd (links.no-link f h q)
-    said m (fixed q i) l = w m i l
+    said m (a-link q a) l = absurd (links.no-link f h q)
+    said m (another q i) l = w m i l

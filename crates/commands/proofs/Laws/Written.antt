@@ -7,7 +7,7 @@ use Prim.Native.Nat.{ℕ, _≤_}
 use native.Mathlib.Omega.{arith}
 use lib.Dec.{eqb}
 use lib.ListN.{length}
-use Rattle.digits.specs.Paper.Refusals.{order, First, clear, here, after}
+use Rattle.digits.specs.Paper.Refusals.{refusalOrder, First, clear, here, after}
 use Rattle.digits.specs.declared.refusal.Refusal.{Refusal}
 use Rattle.digits.proofs.Laws.Refusals.{answered, cause-at, cause-of, one-first, pass-over, some-number}
 use Rattle.puts.specs.Paper.Right as right
@@ -42,8 +42,8 @@ use Rattle.commands.specs.Work.Answers.{WritesMeant, WritesMessage}
 -- causes that apply together refuse together
 pub recause : {A B : ℕ → Type 0} {bs room later : List ℕ} {no count : ℕ} → ((k : ℕ) → A k → B k) → ((k : ℕ) → B k → A k)
     → Wrote A bs room no count later → Wrote B bs room no count later
-recause to back (wrote f) = wrote (first-same to back order 0 f)
-recause to back (refused {no = k} p f) = refused p (first-same to back order k f)
+recause to back (wrote f) = wrote (first-same to back refusalOrder 0 f)
+recause to back (refused {no = k} p f) = refused p (first-same to back refusalOrder k f)
 
 -- of fields within their limits all is written, or nothing
 all-or-none : {L : Type 0} {bs room later : List ℕ} {no count : ℕ} → L → Wrote (BuildCause L (length room) (length bs)) bs room no count later
@@ -80,9 +80,9 @@ module _ {Means : Message → Type 0} {n : ℕ} where
   only k e (taken s a) = true≢false e
   only k e (short s h) = true≢false e
 
-  refusing : (k : ℕ) → First (StandingCause Means) order k → StandingCause Means k → First (MessageCause Means n) order k
-  refusing k f (allowed.outside g) = pass-over ours only order (here (outside g))
-  refusing k f (allowed.taken s a) = pass-over ours only order (after not-5 (here (taken s a)))
+  refusing : (k : ℕ) → First (StandingCause Means) refusalOrder k → StandingCause Means k → First (MessageCause Means n) refusalOrder k
+  refusing k f (allowed.outside g) = pass-over ours only refusalOrder (here (outside g))
+  refusing k f (allowed.taken s a) = pass-over ours only refusalOrder (after not-5 (here (taken s a)))
     where
       not-5 : MessageCause Means n 5 → ⊥
       not-5 (outside g) = let e = one-first f (cause-of (is-outside g)) in omega arith
@@ -111,8 +111,8 @@ module _ (e : Coded) (s room : List ℕ) where
     as-meant : {later : List ℕ} (r : Written) → WritesMessage (Says e s) room r later → WritesMeant (Says e s) room r later
     as-meant r w =
         fronted-right r (record { message = m; meant = meant; good = good; is = refl })
-        (λ h. pass-over ours only order (after not-5 (after not-6 (after (not-4 h) clear))))
-        (λ h. pass-over ours only order (after not-5 (after not-6 (here (short meant h))))) (w m meant (good .limits))
+        (λ h. pass-over ours only refusalOrder (after not-5 (after not-6 (after (not-4 h) clear))))
+        (λ h. pass-over ours only refusalOrder (after not-5 (after not-6 (here (short meant h))))) (w m meant (good .limits))
 
   pub allowed-written : {later : List ℕ} (t : Standing) (r : Written) → t ≡ InTable → Allows e s t → WritesMessage (Says e s) room r later
       → WritesMeant (Says e s) room r later

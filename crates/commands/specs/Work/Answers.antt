@@ -11,9 +11,10 @@ use Rattle.messages.specs.Paper.Message.{Message}
 use Rattle.messages.specs.Paper.Table.{bytes, Limits}
 use Rattle.commands.specs.Paper.Answers.{MessageCause, MeantBytes}
 use Rattle.messages.specs.declared.Message.{Message as Coded}
-use Rattle.messages.specs.declared.Message.the-variants.{Nikobus as OnNikobus, Command, Response as AsResponse, Nibe as OnNibe, Homiq as OnHomiq}
+use Rattle.messages.specs.declared.Message.the-variants.{Nikobus as OnNikobus, Command, Response as AsResponse}
+use Rattle.messages.specs.declared.Message.the-variants.{Nibe as OnNibe, Homiq as OnHomiq}
 use Rattle.messages.specs.declared.nibe.Nibe.{Nibe}
-use Rattle.messages.specs.declared.nibe.Nibe.the-variants.{Ask, Reply, Put, Done, Nibe as Plain}
+use Rattle.messages.specs.declared.nibe.Nibe.the-variants.{Ask, Reply, Put, Done, Other}
 
 -- r is the right answer, and `later` the right room afterwards, of writing the message that is meant
 abbrev pub WritesMeant : (Message → Type 0) → List ℕ → Written → List ℕ → Type 0
@@ -24,13 +25,13 @@ abbrev pub WritesMessage : (Message → Type 0) → List ℕ → Written → Lis
 WritesMessage Means room r later =
     (m : Message) → Means m → Limits m → Writes (RoomCause (length room) (length (bytes m))) (bytes m) room r later
 
--- the width of a message's value is one that there is
+-- the width of a message's value is 1, 2 or 4
 abbrev pub NibeWidth : Nibe → Type 0
 NibeWidth (Ask r) = Unit
 NibeWidth (Reply v) = Width (v .width)
 NibeWidth (Put v) = Width (v .width)
 NibeWidth (Done ok) = Unit
-NibeWidth (Plain c) = Unit
+NibeWidth (Other c) = Unit
 
 abbrev pub WidthIn : Coded → Type 0
 WidthIn (OnNikobus e) = Unit

@@ -22,7 +22,8 @@ Answered p room r later = (w : Wire) → Payload p w → Acknowledges (bytesOf h
 -- CMD, VAL, two of the payload's fields as SRC and DST, ID, and `a`
 abbrev pub relaid : ℕ → ℕ → List ℕ → List ℕ
 relaid src dst p =
-    fieldAt 0 p ++ ascii ";" ++ (fieldAt 1 p ++ ascii ";") ++ (fieldAt src p ++ ascii ";") ++ (fieldAt dst p ++ ascii ";") ++ (fieldAt 4 p ++ ascii ";") ++ ascii "a"
+    fieldAt 0 p ++ ascii ";" ++ (fieldAt 1 p ++ ascii ";") ++ (fieldAt src p ++ ascii ";")
+    ++ (fieldAt dst p ++ ascii ";") ++ (fieldAt 4 p ++ ascii ";") ++ ascii "a"
 
 -- SRC and DST exchanged, and `a`
 abbrev pub exchanged : List ℕ → List ℕ

@@ -12,7 +12,7 @@ use lib.ListN.{length, getD, take, drop, set, replicate, length-append, length-r
 use lib.Seq.{drop-cons, drop-at, take-all}
 use borrow.Author.Tests.{lt-ltb, le-ltb, ltb-true, ltb-false}
 use Rattle.digits.specs.Paper.Decimal.{decimalDigit, decimalIn, enough, decimal}
-use Rattle.digits.specs.Paper.Read.{Reads, is, none, Tells}
+use Rattle.digits.specs.Paper.Read.{Reads, is, none, Decides}
 use Rattle.digits.specs.Paper.Answers.{AtEnd}
 use Rattle.digits.specs.Work.Decimal.{guess}
 use Rattle.digits.proofs.Laws.Tests.{told, untold}
@@ -238,11 +238,11 @@ length-chars {room} {from} {text} {chars} a =
 
 -- the test of the characters against the digits of the guessed number m
 module _ (s : List ℕ) (m from : ℕ) (chars : List ℕ) (g : m ≡ guess 0 s) (d : AtEnd 20 (decimal m) chars from) where
-  pub read-same : {b : Bool} → m ≤ 4294967295 → Tells (take (20 - from) (drop from chars) ≡ s) b → b ≡ true
+  pub read-same : {b : Bool} → m ≤ 4294967295 → Decides (take (20 - from) (drop from chars) ≡ s) b → b ≡ true
       → Reads 0 (λ n. n < 2 ^ 32) decimal 7 s 0 m
   read-same h t e = is {v = m} (omega arith) (sym (text-part d) ∙ told t e)
 
-  pub read-other : {b : Bool} → Tells (take (20 - from) (drop from chars) ≡ s) b → b ≡ false → Reads 0 (λ n. n < 2 ^ 32) decimal 7 s 7 0
+  pub read-other : {b : Bool} → Decides (take (20 - from) (drop from chars) ≡ s) b → b ≡ false → Reads 0 (λ n. n < 2 ^ 32) decimal 7 s 7 0
   read-other t e = none-other s m g (λ f. untold t e (text-part d ∙ f))
 
 -- ---- what the characters are

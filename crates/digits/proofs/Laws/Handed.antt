@@ -7,7 +7,7 @@ use native.Mathlib.Omega.{arith}
 use denote.Ref.{RefT, ptr, now}
 use Rattle.digits.specs.Paper.Bytes.{part}
 use Rattle.digits.specs.Paper.Part.{Ends, zeroEnds, IsPart, HandsPart}
-use Rattle.digits.specs.Paper.Refusals.{refusalNumber, order, First, answers, refuses}
+use Rattle.digits.specs.Paper.Refusals.{refusalNumber, refusalOrder, First, answers, refuses}
 use Rattle.digits.specs.declared.refusal.Refusal.{Refusal}
 use Rattle.digits.proofs.Laws.Refusals.{some-number, one-answer}
 
@@ -35,10 +35,10 @@ same-part {s} p a b = (
 )
 
 module _ {Cause : ℕ → Type 0} {Right : Ends → Type 0} {s r : RefT (List ℕ)} where
-  pub hands-right : {e : Ends} → First Cause order 0 → Right e → IsPart s e r → HandsPart Cause Right s r
+  pub hands-right : {e : Ends} → First Cause refusalOrder 0 → Right e → IsPart s e r → HandsPart Cause Right s r
   hands-right {e} f x i = record { refusal = 0; ends = e; answer = answers f x; is = i }
 
-  pub hands-none : (why : Refusal) → First Cause order (refusalNumber why) → IsPart s zeroEnds r → HandsPart Cause Right s r
+  pub hands-none : (why : Refusal) → First Cause refusalOrder (refusalNumber why) → IsPart s zeroEnds r → HandsPart Cause Right s r
   hands-none why f i = record { refusal = refusalNumber why; ends = zeroEnds; answer = refuses (some-number why) f; is = i }
 
   -- where only one part is right, two that are handed back are the same

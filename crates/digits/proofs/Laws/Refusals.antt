@@ -7,24 +7,24 @@ use mathlib.Core.Bool.{Bool, true, false, cond}
 use mathlib.Core.List.{List, [], _∷_}
 use lib.Dec.{lit<}
 use lib.ListN.{getD}
-use Rattle.digits.specs.Paper.Refusals.{refusalNumber, order, First, clear, here, after, Answers, answers, refuses}
+use Rattle.digits.specs.Paper.Refusals.{refusalNumber, refusalOrder, First, clear, here, after, Answers, answers, refuses}
 use Rattle.digits.specs.declared.refusal.Refusal.{Refusal}
-use Rattle.digits.specs.declared.refusal.Refusal.the-variants.{NoFrame, Kind, Place, Room, Limits, Above, Form, Book}
+use Rattle.digits.specs.declared.refusal.Refusal.the-variants.{NoFrame, NoKind, NoPlace, NoRoom, OutOfLimits, ContentAbove, BadForm, NoBook}
 
 -- ---- the table
 
 abbrev named : ℕ → Refusal
-named n = getD (NoFrame ∷ Kind ∷ Place ∷ Room ∷ Limits ∷ Above ∷ Form ∷ Book ∷ []) (n - 1) NoFrame
+named n = getD (NoFrame ∷ NoKind ∷ NoPlace ∷ NoRoom ∷ OutOfLimits ∷ ContentAbove ∷ BadForm ∷ NoBook ∷ []) (n - 1) NoFrame
 
 name-of : (p : Refusal) → named (refusalNumber p) ≡ p
 name-of NoFrame = refl
-name-of Kind = refl
-name-of Place = refl
-name-of Room = refl
-name-of Limits = refl
-name-of Above = refl
-name-of Form = refl
-name-of Book = refl
+name-of NoKind = refl
+name-of NoPlace = refl
+name-of NoRoom = refl
+name-of OutOfLimits = refl
+name-of ContentAbove = refl
+name-of BadForm = refl
+name-of NoBook = refl
 
 pub one-refusal : (p q : Refusal) → refusalNumber p ≡ refusalNumber q → p ≡ q
 one-refusal p q e = sym (name-of p) ∙ ap named e ∙ name-of q
@@ -32,13 +32,13 @@ one-refusal p q e = sym (name-of p) ∙ ap named e ∙ name-of q
 -- a refusal is never taken for an answer, whose number is 0
 pub some-number : (p : Refusal) → 0 < refusalNumber p
 some-number NoFrame = lit< tt
-some-number Kind = lit< tt
-some-number Place = lit< tt
-some-number Room = lit< tt
-some-number Limits = lit< tt
-some-number Above = lit< tt
-some-number Form = lit< tt
-some-number Book = lit< tt
+some-number NoKind = lit< tt
+some-number NoPlace = lit< tt
+some-number NoRoom = lit< tt
+some-number OutOfLimits = lit< tt
+some-number ContentAbove = lit< tt
+some-number BadForm = lit< tt
+some-number NoBook = lit< tt
 
 -- ---- the first cause
 
@@ -99,7 +99,7 @@ module _ {A : Type 0} {zeros : A} {Cause : ℕ → Type 0} {Right : A → Type 0
   answered (refuses p f) e = absurd (omega arith)
 
   -- a refusal's number is the first cause's
-  pub cause-of : {k : ℕ} {v : A} → Answers zeros Cause Right k v → First Cause order k
+  pub cause-of : {k : ℕ} {v : A} → Answers zeros Cause Right k v → First Cause refusalOrder k
   cause-of (answers f r) = f
   cause-of (refuses p f) = f
 

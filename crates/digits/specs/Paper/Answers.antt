@@ -1,4 +1,4 @@
--- What the code's answers say, in the paper's numbers, and the promises.
+-- What the code's answers say in the numbers of document 01, and the promises.
 -- Assumes nothing.
 use mathlib.Core.Path.{_≡_}
 use Prim.Native.Nat.{ℕ, _+_, _^_, _<_}
@@ -6,14 +6,14 @@ use mathlib.Core.List.{List, [], _∷_, _++_}
 use lib.ListN.{length, replicate}
 use Rattle.digits.specs.Paper.Hex.{hexDigit, hexByte, hexWord}
 use Rattle.digits.specs.Paper.Decimal.{decimal}
-use Rattle.digits.specs.Paper.LowFirst.{Held, SixteenBits, lowFirst}
+use Rattle.digits.specs.Paper.LowFirst.{Held, SixteenBits, lowByteFirst}
 use Rattle.digits.specs.Paper.Read.{Reads}
 use Rattle.digits.specs.declared.hex.Byte.{Byte}
 use Rattle.digits.specs.declared.hex.Byte.the-variants.{Is, NoDigit}
 use Rattle.digits.specs.declared.hex.Word.{Word}
 use Rattle.digits.specs.declared.hex.Word.the-variants.{Is as WordIs, NoDigit as NoWord}
-use Rattle.digits.specs.declared.decimal.Whole.{Whole}
-use Rattle.digits.specs.declared.decimal.Whole.the-variants.{Is as WholeIs, NoNumber}
+use Rattle.digits.specs.declared.decimal.Natural.{Natural}
+use Rattle.digits.specs.declared.decimal.Natural.the-variants.{Is as WholeIs, NoNumber}
 use Rattle.digits.specs.declared.low_first.Number.{Number}
 use Rattle.digits.specs.declared.low_first.Number.the-variants.{Is as NumberIs, Width as NoWidth}
 
@@ -44,13 +44,13 @@ numberValue (NumberIs n) = n
 numberValue NoWidth = 0
 
 -- 01, "Refusal numbers": 7 "number text not as above, or a text whose number is out of range"
-abbrev pub wholeRefusal : Whole → ℕ
-wholeRefusal (WholeIs n) = 0
-wholeRefusal NoNumber = 7
+abbrev pub naturalRefusal : Natural → ℕ
+naturalRefusal (WholeIs n) = 0
+naturalRefusal NoNumber = 7
 
-abbrev pub wholeValue : Whole → ℕ
-wholeValue (WholeIs n) = n
-wholeValue NoNumber = 0
+abbrev pub naturalValue : Natural → ℕ
+naturalValue (WholeIs n) = n
+naturalValue NoNumber = 0
 
 -- reading one hex digit, two, and four
 abbrev pub ReadsDigit : ℕ → Byte → Type 0
@@ -62,13 +62,13 @@ ReadsByte high low r = Reads 0 (λ v. v < 256) hexByte 5 (high ∷ low ∷ []) (
 abbrev pub ReadsWord : List ℕ → Word → Type 0
 ReadsWord d r = Reads 0 SixteenBits hexWord 5 d (wordRefusal r) (wordValue r)
 
--- reading a number of as many bytes as there are
+-- reading bytes as a number, low byte first
 abbrev pub ReadsNumber : List ℕ → Number → Type 0
-ReadsNumber s r = Reads 0 (Held (length s)) (lowFirst (length s)) 7 s (numberRefusal r) (numberValue r)
+ReadsNumber s r = Reads 0 (Held (length s)) (lowByteFirst (length s)) 7 s (numberRefusal r) (numberValue r)
 
--- reading a number of 32 bits in decimal digits
-abbrev pub ReadsDecimal : List ℕ → Whole → Type 0
-ReadsDecimal s r = Reads 0 (λ n. n < 2 ^ 32) decimal 7 s (wholeRefusal r) (wholeValue r)
+-- reading decimal digits as a number of 32 bits
+abbrev pub ReadsDecimal : List ℕ → Natural → Type 0
+ReadsDecimal s r = Reads 0 (λ n. n < 2 ^ 32) decimal 7 s (naturalRefusal r) (naturalValue r)
 
 -- a text at the end of `room` characters, from the place `from` on, with zeros before it
 pub record AtEnd (room : ℕ) (text chars : List ℕ) (from : ℕ) : Type 0 where

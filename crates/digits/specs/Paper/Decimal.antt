@@ -16,7 +16,7 @@ decimalIn (suc most) n =
     cond (ltb n 10) (decimalDigit n ∷ [])
     (decimalIn most (n / 10) ++ (decimalDigit (n % 10) ∷ []))
 
--- no fewer than stand before the last: 19 is enough for 64 bits, and n for any n
+-- a bound on the digits before the last, which only ends the recursion: 19 is enough for 64 bits, and n for any n
 unfoldable pub enough : ℕ → ℕ
 enough n = cond (ltb n (10 ^ 20)) 19 n
 

@@ -9,7 +9,7 @@ pub data Width : ℕ → Type 0 where
   two : Width 2
   four : Width 4
 
--- n is a number of so many bytes
+-- n is a number of `width` bytes
 pub record Held (width n : ℕ) : Type 0 where
   pub known : Width width
   pub below : n < 256 ^ width
@@ -18,7 +18,7 @@ pub record Held (width n : ℕ) : Type 0 where
 abbrev pub SixteenBits : ℕ → Type 0
 SixteenBits n = n < 65536
 
--- the number n in so many bytes, low byte first
-unfoldable pub lowFirst : ℕ → ℕ → List ℕ
-lowFirst zero n = []
-lowFirst (suc width) n = n % 256 ∷ lowFirst width (n / 256)
+-- the number n in `width` bytes, low byte first
+unfoldable pub lowByteFirst : ℕ → ℕ → List ℕ
+lowByteFirst zero n = []
+lowByteFirst (suc width) n = n % 256 ∷ lowByteFirst width (n / 256)

@@ -1,4 +1,4 @@
--- What characters are taken for, for the function that then tries whether that number's digits are the ones that it has.
+-- The number that characters are taken for. The function that guesses it then tests whether they are its digits.
 -- Assumes nothing.
 use Prim.Native.Nat.{ℕ, _+_, _*_, _%_}
 use mathlib.Core.List.{List, [], _∷_}

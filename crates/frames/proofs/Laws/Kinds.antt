@@ -13,7 +13,7 @@ use borrow.Author.Tests.{eqb-true}
 use Rattle.digits.proofs.Laws.Parts.{part-rest}
 use Rattle.digits.proofs.Laws.Refusals.{answered, cause-at, cause-of, pass-over}
 use Rattle.digits.specs.Paper.Bytes.{part}
-use Rattle.digits.specs.Paper.Refusals.{order, clear, here, after, answers, refuses}
+use Rattle.digits.specs.Paper.Refusals.{refusalOrder, clear, here, after, answers, refuses}
 use Rattle.layouts.specs.Paper.Chars.{oneOf}
 use Rattle.layouts.specs.Paper.Layout.{Layout, Leads}
 use Rattle.layouts.specs.Paper.Nest.{preamble}
@@ -29,7 +29,7 @@ use Rattle.layouts.proofs.Theorems.{one-nikobus, one-nest, one-nibe, one-homiq}
 use Rattle.layouts.proofs.Laws.Starts.{Begun, nikobus-begun, nest-begun, nibe-begun, homiq-begun, nikobus-behind, nest-behind, nibe-behind, homiq-behind}
 use Rattle.layouts.specs.Paper.Layout as layout
 use Rattle.frames.specs.Paper.Kinds.{numberOf, layoutOf, known, KindCause, no-kind, Resolves, Frame, payloadFrom, payloadTo}
-use Rattle.frames.specs.Work.Frames.{recogniser, frameLen, wherever, lenAt, fromAt, toAt, mayStart, Spotted}
+use Rattle.frames.specs.Work.Frames.{recogniser, frameLen, wherever, lenAt, fromAt, toAt, mayStart, HeadAt}
 use Rattle.frames.specs.Work.Seek.{among, resolved}
 use Rattle.frames.specs.declared.kinds.Kind.{Kind}
 use Rattle.frames.specs.declared.kinds.Kind.the-variants.{Nikobus, NestCommand, NestResponse, Nibe, Homiq}
@@ -110,13 +110,13 @@ only : {k : ℕ} (i : ℕ) → ours i ≡ false → KindCause k i → ⊥
 only i e (no-kind h) = true≢false e
 
 pub resolves-to : {k : ℕ} (kind : Kind) → numberOf kind ≡ k → Resolves k (Is kind)
-resolves-to {k} kind e = answers {v = numberOf kind} (pass-over ours only order (after never clear)) e
+resolves-to {k} kind e = answers {v = numberOf kind} (pass-over ours only refusalOrder (after never clear)) e
   where
     never : KindCause k 2 → ⊥
     never (no-kind h) = true≢false (sym (known-of kind e) ∙ h)
 
 pub resolves-none : {k : ℕ} → known k ≡ false → Resolves k Unknown
-resolves-none e = refuses (lit< tt) (pass-over ours only order (here (no-kind e)))
+resolves-none e = refuses (lit< tt) (pass-over ours only refusalOrder (here (no-kind e)))
 
 -- WHAT IS COMPUTED IS THE KIND OF A NUMBER
 pub resolves : (k : ℕ) → Resolves k (resolved k)
@@ -135,14 +135,14 @@ pub frame-known : {k : ℕ} {f : List ℕ} → Frame k f → known k ≡ true
 frame-known r = known-of (r .kind) (r .number)
 
 -- a frame of the number of a kind is one of that kind
-pub of-kind : {k : ℕ} {f : List ℕ} → Frame k f → (kind : Kind) → numberOf kind ≡ k → layout.Frame (layoutOf kind) f
-of-kind {f = f} r kind e = subst (λ (x : Kind). layout.Frame (layoutOf x) f) (one-kind (r .kind) kind (r .number ∙ sym e)) (r .frame)
+pub of-kind : {k : ℕ} {f : List ℕ} → Frame k f → (kind : Kind) → numberOf kind ≡ k → layout.FrameBy (layoutOf kind) f
+of-kind {f = f} r kind e = subst (λ (x : Kind). layout.FrameBy (layoutOf x) f) (one-kind (r .kind) kind (r .number ∙ sym e)) (r .frame)
 
-abbrev pub as-frame : (kind : Kind) {f : List ℕ} → layout.Frame (layoutOf kind) f → Frame (numberOf kind) f
+abbrev pub as-frame : (kind : Kind) {f : List ℕ} → layout.FrameBy (layoutOf kind) f → Frame (numberOf kind) f
 as-frame kind r = record { kind = kind; number = refl; frame = r }
 
 -- OF EVERY KIND `frameLen` finds the frames, and only those
-pub kind-right : (kind : Kind) → Right (layout.Frame (layoutOf kind)) (frameLen kind)
+pub kind-right : (kind : Kind) → Right (layout.FrameBy (layoutOf kind)) (frameLen kind)
 kind-right kind = frame-right (busOf kind)
 
 -- THE SAME BYTES HAVE ONE READING: whatever is read off a frame's fields is the same however the bytes are shown to be a frame
@@ -150,10 +150,10 @@ pub one-reading : {A : Type 0} (read : (kind : Kind) → layoutOf kind .Fields �
     → read (r .kind) (r .frame .form .fields) ≡ read (q .kind) (q .frame .form .fields)
 one-reading read {f = f} r q = go (r .kind) (q .kind) (one-kind (r .kind) (q .kind) (r .number ∙ sym (q .number))) (r .frame) (q .frame)
   where
-    go : (a b : Kind) → a ≡ b → (x : layout.Frame (layoutOf a) f) (y : layout.Frame (layoutOf b) f)
+    go : (a b : Kind) → a ≡ b → (x : layout.FrameBy (layoutOf a) f) (y : layout.FrameBy (layoutOf b) f)
         → read a (x .form .fields) ≡ read b (y .form .fields)
     go a b e x =
-        subst (λ (b : Kind). (y : layout.Frame (layoutOf b) f) → read a (x .form .fields) ≡ read b (y .form .fields)) e
+        subst (λ (b : Kind). (y : layout.FrameBy (layoutOf b) f) → read a (x .form .fields) ≡ read b (y .form .fields)) e
         (λ y. ap (read a) (one-fields a (x .form .fields) (y .form .fields) (x .form .limits) (y .form .limits) (sym (x .form .laid) ∙ y .form .laid)))
 
 -- ---- the payload's places
@@ -197,15 +197,15 @@ module _ {l : Layout} {form : List ℕ → ℕ} {test : List ℕ → Bool} {from
       go (suc p) e = let q = one-lead b a (leads-at b s (suc p) _ _ (sym e) (λ z. omega arith) refl refl) in (q .0, (q .1, q .2))
 
 -- the spot at a place
-pub spotted : (kind : Kind) (s : List ℕ) (i : ℕ) {u : List ℕ} {n x y : ℕ} → u ≡ drop i s → Leads (layoutOf kind) u n x y → Spotted kind s i n x y
+pub spotted : (kind : Kind) (s : List ℕ) (i : ℕ) {u : List ℕ} {n x y : ℕ} → u ≡ drop i s → Leads (layoutOf kind) u n x y → HeadAt kind s i n x y
 unfolding lenAt fromAt toAt
 spotted kind s i {n = n} {x = x} {y = y} e a =
     let q = lead-places (busOf kind) (drop i s) (subst (λ (w : List ℕ). Leads (layoutOf kind) w n x y) e a) in
     record { len-is = q .0; from-is = q .1 .0; to-is = q .1 .1 }
 
 -- as the code has it: the rest of the buffer, in the arm of a kind
-pub spotted-as : {kind it : Kind} {s : List ℕ} {i n x y : ℕ} → kind ≡ it → Leads (layoutOf it) (part i (length s) s) n x y → Spotted kind s i n x y
-spotted-as {it = it} {s = s} {i = i} {n = n} {x = x} {y = y} e a = subst (λ (k : Kind). Spotted k s i n x y) (sym e) (spotted it s i (part-rest i s) a)
+pub spotted-as : {kind it : Kind} {s : List ℕ} {i n x y : ℕ} → kind ≡ it → Leads (layoutOf it) (part i (length s) s) n x y → HeadAt kind s i n x y
+spotted-as {it = it} {s = s} {i = i} {n = n} {x = x} {y = y} e a = subst (λ (k : Kind). HeadAt k s i n x y) (sym e) (spotted it s i (part-rest i s) a)
 
 -- three bytes tell as much as all of them
 pub may-start-as : {kind it : Kind} (s : List ℕ) (i : ℕ) → i + 3 ≤ length s → {r : Bool} → kind ≡ it → r ≡ recogniser it .starts (part i (i + 3) s)

@@ -8,7 +8,7 @@ use lib.ListN.{length, take, drop, length-drop}
 use Rattle.digits.specs.declared.refusal.Refusal.the-variants.{NoFrame}
 use Rattle.frames.specs.Paper.Kinds.{numberOf}
 use Rattle.frames.specs.Paper.Search.{FrameAt}
-use Rattle.frames.specs.Work.Frames.{recogniser, wherever, lenAt, fromAt, toAt, Spotted}
+use Rattle.frames.specs.Work.Frames.{recogniser, wherever, lenAt, fromAt, toAt, HeadAt}
 use Rattle.frames.specs.Work.Seek.{seek}
 use Rattle.frames.specs.declared.Found.the-variants.{At, Refused}
 use Rattle.frames.specs.declared.kinds.Kind.{Kind}
@@ -38,7 +38,7 @@ pub record Seeking (kind : Kind) (s : List ℕ) (place at : ℕ) : Type 0 where
   pub same : seek kind s at ≡ seek kind s place
 
 module _ {kind : Kind} {s : List ℕ} {place at : ℕ} (g : Seeking kind s place at) where
-  module _ (h : at < length s) {n x y : ℕ} (q : Spotted kind s at n x y) where
+  module _ (h : at < length s) {n x y : ℕ} (q : HeadAt kind s at n x y) where
     pub hit-fits : length s < 2 ^ 64 → (at + x < 2 ^ 64) × (at + y < 2 ^ 64)
     hit-fits l =
         let i = places-inside kind s at (omega arith) in

@@ -25,7 +25,7 @@ part-take i n s = rw (add-sub-cancel-left i n)
 pub at-place : {k : ℕ} {s : List ℕ} {i n : ℕ} → FrameAt k s i n → (kind : Kind) → numberOf kind ≡ k → lenAt kind s i ≡ n
 unfolding lenAt
 at-place {k} {s} {i} {n} q kind e =
-    let f : layout.Frame (layoutOf kind) (take n (drop i s)) = subst (layout.Frame (layoutOf kind)) (part-take i n s) (of-kind (q .frame) kind e) in
+    let f : layout.FrameBy (layoutOf kind) (take n (drop i s)) = subst (layout.FrameBy (layoutOf kind)) (part-take i n s) (of-kind (q .frame) kind e) in
     found (kind-right kind) (drop i s) n (omega (arith, length-drop i s, q .inside)) f
 
 pub one-length : {k : ℕ} {s : List ℕ} {i n m : ℕ} → FrameAt k s i n → FrameAt k s i m → n ≡ m
@@ -60,10 +60,10 @@ unfolding lenAt
 stands kind s i n h e =
     let r = kind-right kind in
     let p : 0 < lenAt kind s i = omega (arith, e) in
-    let f : layout.Frame (layoutOf kind) (take (suc n) (drop i s)) = subst (λ (m : ℕ). layout.Frame (layoutOf kind) (take m (drop i s))) e (taken r (drop i s) p) in
+    let f : layout.FrameBy (layoutOf kind) (take (suc n) (drop i s)) = subst (λ (m : ℕ). layout.FrameBy (layoutOf kind) (take m (drop i s))) e (taken r (drop i s) p) in
     record {
       inside = omega (arith, e, inside r (drop i s), length-drop i s);
-      frame = as-frame kind (subst (layout.Frame (layoutOf kind)) (sym (part-take i (suc n) s)) f);
+      frame = as-frame kind (subst (layout.FrameBy (layoutOf kind)) (sym (part-take i (suc n) s)) f);
     }
 
 -- the payload's places, as the recogniser has them

@@ -12,10 +12,10 @@ use lib.Dec.{leb}
 use lib.ListN.{length}
 use borrow.Author.Tests.{leb-true, leb-false}
 use Rattle.digits.specs.Paper.Refusals.{answers, refuses}
-use Rattle.digits.specs.declared.refusal.Refusal.the-variants.{NoFrame, Kind as NoKind, Place}
+use Rattle.digits.specs.declared.refusal.Refusal.the-variants.{NoFrame, NoKind, NoPlace}
 use Rattle.frames.specs.Paper.Kinds.{numberOf, known, Resolves}
 use Rattle.frames.specs.Paper.Search.{FrameAt, Searches}
-use Rattle.frames.specs.Work.Frames.{lenAt, fromAt, toAt, Spotted}
+use Rattle.frames.specs.Work.Frames.{lenAt, fromAt, toAt, HeadAt}
 use Rattle.frames.specs.Work.Seek.{orElse, seekAmong, seek, resolved, searchedAs, searched}
 use Rattle.frames.specs.declared.Found.{Found}
 use Rattle.frames.specs.declared.Found.the-variants.{At, Refused}
@@ -37,8 +37,8 @@ module _ (kind : Kind) (s : List ℕ) (i : ℕ) where
   unfolding seek seekAmong
   seek-step h = let n : length s - i ≡ suc (length s - suc i) = omega arith in rw n
 
-  pub seek-hit : i < length s → {n x y : ℕ} → Spotted kind s i n x y → (n ≡ 0 → ⊥) → At i n (i + x) (i + y) ≡ seek kind s i
-  seek-hit h {n} {x} {y} q p = rw (seek-step h, ← Spotted.len-is q, ← Spotted.from-is q, ← Spotted.to-is q) (some-there n i x y _ p)
+  pub seek-hit : i < length s → {n x y : ℕ} → HeadAt kind s i n x y → (n ≡ 0 → ⊥) → At i n (i + x) (i + y) ≡ seek kind s i
+  seek-hit h {n} {x} {y} q p = rw (seek-step h, ← HeadAt.len-is q, ← HeadAt.from-is q, ← HeadAt.to-is q) (some-there n i x y _ p)
 
   pub seek-miss : i < length s → lenAt kind s i ≡ 0 → seek kind s (i + 1) ≡ seek kind s i
   seek-miss h z = rw (seek-step h, z, add-one)
@@ -103,7 +103,7 @@ module _ (s : List ℕ) (place : ℕ) {k : ℕ} where
   pub no-kind : known k ≡ false → Searches k s place (Refused NoKind)
   no-kind e = refuses {no = 2} (omega arith) (search-2 e)
 
-  pub no-place : known k ≡ true → length s < place → Searches k s place (Refused Place)
+  pub no-place : known k ≡ true → length s < place → Searches k s place (Refused NoPlace)
   no-place e h = refuses {no = 3} (omega arith) (search-3 e h)
 
 -- WHAT IS COMPUTED IS THE RIGHT ANSWER
@@ -111,7 +111,7 @@ pub search-right : (k : ℕ) (s : List ℕ) (place : ℕ) → Searches k s place
 unfolding searched
 search-right k s place = of (resolved k) (resolves k)
   where
-    at : (kind : Kind) → numberOf kind ≡ k → (t : Bool) → leb place (length s) ≡ t → Searches k s place (cond t (seek kind s place) (Refused Place))
+    at : (kind : Kind) → numberOf kind ≡ k → (t : Bool) → leb place (length s) ≡ t → Searches k s place (cond t (seek kind s place) (Refused NoPlace))
     at kind e true h = found-by s place kind e (leb-true place (length s) h)
     at kind e false h = no-place s place (known-of kind e) (leb-false place (length s) h)
 

@@ -1,7 +1,7 @@
 -- `frames::one_of_kind` meets its contract: the frame at the front is all of it, or it is none.
 -- Assumes nothing.
 use denote.Ref.{now}
-use Rattle.frames.proofs.Laws.Whole.{whole-none, whole-other, whole-is}
+use Rattle.frames.proofs.Laws.OneFrame.{whole-none, whole-other, whole-is}
 use borrow.Author.Needs.{needs}
 use Rattle.frames.proofs.one_of_kind.Statement.{statement}
 use Rattle.frames.proofs.one_of_kind.Tie as tie

@@ -4,7 +4,7 @@ use mathlib.Core.List.{List}
 use mathlib.Core.Option.{Option, none, some}
 use mathlib.Core.Path.{_≡_}
 use Prim.Native.Nat.{ℕ}
-use Rattle.checks.specs.Paper.Bits.{Order, highFirst, lowFirst}
+use Rattle.checks.specs.Paper.Bits.{BitOrder, highBitFirst, lowBitFirst}
 use Rattle.checks.specs.Paper.Buses.{nikobusCrc16, nestCrc, nibeXor, homiqCrc}
 use Rattle.checks.specs.Paper.Check.{Check}
 use Rattle.layouts.specs.Paper.Nikobus as nikobuses
@@ -51,12 +51,12 @@ stretch Nibe = 8
 stretch Homiq = 8
 
 -- "Their bits follow one another in the check's bit order; Nibe counts as high bit first"
-abbrev pub bitOrder : Kind → Order
-bitOrder Nikobus = highFirst
-bitOrder NestCommand = highFirst
-bitOrder NestResponse = highFirst
-bitOrder Nibe = highFirst
-bitOrder Homiq = lowFirst
+abbrev pub bitOrder : Kind → BitOrder
+bitOrder Nikobus = highBitFirst
+bitOrder NestCommand = highBitFirst
+bitOrder NestResponse = highBitFirst
+bitOrder Nibe = highBitFirst
+bitOrder Homiq = lowBitFirst
 
 -- the frame f of kind k carries a value of the check, over the bytes
 pub record Carries (k : ℕ) (f : List ℕ) (c : Check) (bytes : List ℕ) (value : ℕ) : Type 0 where

@@ -47,9 +47,9 @@ pub data KindCause (k : ℕ) : ℕ → Type 0 where
   no-kind : known k ≡ false → KindCause k 2
 
 -- the refusal number and the value of what a number is resolved to: its kind has that number
-abbrev pub resolvedNumber : Resolved → ℕ
-resolvedNumber (Is kind) = 0
-resolvedNumber Unknown = 2
+abbrev pub resolvedRefusal : Resolved → ℕ
+resolvedRefusal (Is kind) = 0
+resolvedRefusal Unknown = 2
 
 abbrev pub resolvedValue : Resolved → ℕ
 resolvedValue (Is kind) = numberOf kind
@@ -57,13 +57,13 @@ resolvedValue Unknown = 0
 
 -- r is the right answer
 abbrev pub Resolves : ℕ → Resolved → Type 0
-Resolves k r = Answers 0 (KindCause k) (λ v. v ≡ k) (resolvedNumber r) (resolvedValue r)
+Resolves k r = Answers 0 (KindCause k) (λ v. v ≡ k) (resolvedRefusal r) (resolvedValue r)
 
 -- f is a frame of the kind with the number k
 pub record Frame (k : ℕ) (f : List ℕ) : Type 0 where
   pub kind : Kind
   pub number : numberOf kind ≡ k
-  pub frame : layout.Frame (layoutOf kind) f
+  pub frame : layout.FrameBy (layoutOf kind) f
 
 -- where its payload begins and ends in it
 abbrev pub payloadFrom : {k : ℕ} {f : List ℕ} → Frame k f → ℕ

@@ -41,9 +41,9 @@ pub data SearchCause (k : ℕ) (s : List ℕ) (place : ℕ) : ℕ → Type 0 whe
   no-place : length s < place → SearchCause k s place 3
 
 -- the refusal number and the values of an answer
-abbrev pub foundNumber : Found → ℕ
-foundNumber (At start len from to) = 0
-foundNumber (Refused why) = refusalNumber why
+abbrev pub foundRefusal : Found → ℕ
+foundRefusal (At start len from to) = 0
+foundRefusal (Refused why) = refusalNumber why
 
 abbrev pub zeroHit : Hit
 zeroHit = record { start = 0; len = 0; from = 0; to = 0 }
@@ -54,7 +54,7 @@ foundHit (Refused why) = zeroHit
 
 -- r is the right answer
 abbrev pub Searches : ℕ → List ℕ → ℕ → Found → Type 0
-Searches k s place r = Answers zeroHit (SearchCause k s place) (Leftmost k s place) (foundNumber r) (foundHit r)
+Searches k s place r = Answers zeroHit (SearchCause k s place) (Leftmost k s place) (foundRefusal r) (foundHit r)
 
 -- "The frame and its payload are handed back as that part of the caller's buffer": where each begins and ends
 abbrev pub frameEnds : Hit → Ends

@@ -17,7 +17,8 @@ use Rattle.layouts.specs.declared.nest.Direction.the-variants.{Command, Respons
 use Rattle.frames.specs.declared.kinds.Kind.{Kind}
 use Rattle.frames.specs.declared.kinds.Kind.the-variants.{Nikobus, NestCommand, NestResponse, Nibe, Homiq}
 
--- how long what stands at the head of a list is, 0 for none; whether its check values are right; and where its payload begins and ends
+-- how long what stands at the head of a list is, 0 for none; whether its check values are right; and where its
+-- payload begins and ends
 pub record Recogniser : Type 0 where
   pub form : List ℕ → ℕ
   pub test : List ℕ → Bool
@@ -36,22 +37,31 @@ nestRecogniser d =
     }
 
 abbrev pub recogniser : Kind → Recogniser
-recogniser Nikobus = record { form = nikobusFormLen; test = nikobusPasses; from = nikobusFrom; to = nikobusTo; starts = nikobusStarts }
+recogniser Nikobus =
+    record {
+      form = nikobusFormLen;
+      test = nikobusPasses;
+      from = nikobusFrom;
+      to = nikobusTo;
+      starts = nikobusStarts;
+    }
 recogniser NestCommand = nestRecogniser Command
 recogniser NestResponse = nestRecogniser Response
 recogniser Nibe = record { form = nibeFormLen; test = nibePasses; from = nibeFrom; to = nibeTo; starts = nibeStarts }
-recogniser Homiq = record { form = homiqFormLen; test = homiqPasses; from = homiqFrom; to = homiqTo; starts = homiqStarts }
+recogniser Homiq =
+    record { form = homiqFormLen; test = homiqPasses; from = homiqFrom; to = homiqTo; starts = homiqStarts }
 
 -- the length of the frame at the head of s, 0 for none
 abbrev pub frameLen : Kind → List ℕ → ℕ
 frameLen kind s = passing (recogniser kind .form) (recogniser kind .test) s
 
--- a value where there is a frame of n bytes, 0 where there is none
+-- a value if there is a frame of n bytes, 0 if there is none
 abbrev pub wherever : ℕ → ℕ → ℕ
 wherever zero x = 0
 wherever (suc n) x = x
 
--- the length of the frame at the place i of the buffer s, and the places in it where its payload begins and ends; zeros for none
+-- the length of the frame at the place i of the buffer s, and the places in it where its payload begins and ends;
+-- zeros for none
 unfoldable pub lenAt : Kind → List ℕ → ℕ → ℕ
 lenAt kind s i = frameLen kind (drop i s)
 
@@ -66,7 +76,7 @@ unfoldable pub mayStart : Kind → List ℕ → ℕ → Bool
 mayStart kind s i = recogniser kind .starts (drop i s)
 
 -- what is answered of the place i of s: the three numbers
-pub record Spotted (kind : Kind) (s : List ℕ) (i n from to : ℕ) : Type 0 where
+pub record HeadAt (kind : Kind) (s : List ℕ) (i n from to : ℕ) : Type 0 where
   pub len-is : n ≡ lenAt kind s i
   pub from-is : from ≡ fromAt kind s i
   pub to-is : to ≡ toAt kind s i

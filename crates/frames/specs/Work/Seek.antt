@@ -5,7 +5,7 @@ use mathlib.Core.List.{List, [], _∷_}
 use Prim.Native.Nat.{ℕ, zero, suc, _+_, _-_}
 use lib.Dec.{eqb, leb}
 use lib.ListN.{length}
-use Rattle.digits.specs.declared.refusal.Refusal.the-variants.{NoFrame, Kind as NoKind, Place}
+use Rattle.digits.specs.declared.refusal.Refusal.the-variants.{NoFrame, NoKind, NoPlace}
 use Rattle.frames.specs.Paper.Kinds.{numberOf}
 use Rattle.frames.specs.Work.Frames.{lenAt, fromAt, toAt}
 use Rattle.frames.specs.declared.Found.{Found}
@@ -15,12 +15,12 @@ use Rattle.frames.specs.declared.kinds.Kind.the-variants.{Nikobus, NestC
 use Rattle.frames.specs.declared.kinds.Resolved.{Resolved}
 use Rattle.frames.specs.declared.kinds.Resolved.the-variants.{Is, Unknown}
 
--- a frame of n bytes at the place i, or what is found behind it where n is 0
+-- a frame of n bytes at the place i, or what is found behind it if n is 0
 abbrev pub orElse : ℕ → (i from to : ℕ) → Found → Found
 orElse zero i from to r = r
 orElse (suc n) i from to r = At i (suc n) (i + from) (i + to)
 
--- the first frame of s among so many places from i on
+-- the first frame of s among n places from i on
 unfoldable pub seekAmong : Kind → List ℕ → ℕ → ℕ → Found
 seekAmong kind s zero i = Refused NoFrame
 seekAmong kind s (suc n) i = orElse (lenAt kind s i) i (fromAt kind s i) (toAt kind s i) (seekAmong kind s n (suc i))
@@ -42,7 +42,7 @@ unfoldable pub resolved : ℕ → Resolved
 resolved k = among kinds k
 
 abbrev pub searchedAs : Resolved → List ℕ → ℕ → Found
-searchedAs (Is kind) s place = cond (leb place (length s)) (seek kind s place) (Refused Place)
+searchedAs (Is kind) s place = cond (leb place (length s)) (seek kind s place) (Refused NoPlace)
 searchedAs Unknown s place = Refused NoKind
 
 unfoldable pub searched : ℕ → List ℕ → ℕ → Found

@@ -8,12 +8,12 @@ use native.Mathlib.Omega.{arith}
 use borrow.Author.Tests.{ne-eqb, ltb-true}
 use lib.Dec.{T, eqb, ltb, lit<}
 use Rattle.digits.specs.Paper.Part.{Ends, zeroEnds}
-use Rattle.digits.specs.Paper.Refusals.{order, First, here, after, Answers, answers, refuses}
+use Rattle.digits.specs.Paper.Refusals.{refusalOrder, First, here, after, Answers, answers, refuses}
 use Rattle.puts.specs.Paper.Right.{WroteRight, wrote, refused}
 use Rattle.layouts.specs.Paper.Chars.{oneOf, all}
 use Rattle.frames.specs.Paper.Kinds.{known, knownKinds}
 use Rattle.frames.specs.Paper.Search.{Hit, zeroHit, SearchCause, Leftmost}
-use Rattle.frames.specs.Paper.Whole.{WholeCause, OneFrame}
+use Rattle.frames.specs.Paper.OneFrame.{OneFrameCause, OneFrame}
 use Rattle.host.specs.Paper.Kind.{KindByte, held, beyond}
 
 -- ---- the byte of a kind
@@ -46,7 +46,7 @@ zero-not-known = refl
 
 module _ (Cause : ℕ → ℕ → Type 0) (no-kind : (k : ℕ) → known k ≡ false → Cause k 2) (eight : (j k : ℕ) → Cause j 8 → Cause k 8) where
   -- two kinds that are not known have the same first cause
-  first-alike : {j k no : ℕ} → known j ≡ false → known k ≡ false → First (Cause j) order no → (0 < no) × First (Cause k) order no
+  first-alike : {j k no : ℕ} → known j ≡ false → known k ≡ false → First (Cause j) refusalOrder no → (0 < no) × First (Cause k) refusalOrder no
   first-alike {j} {k} u v (here c) = (lit< tt, here (eight j k c))
   first-alike {j} {k} u v (after n (here c)) = (lit< tt, after (λ d. n (eight k j d)) (here (no-kind k v)))
   first-alike {j} {k} u v (after n (after m f)) = absurd (m (no-kind j u))
@@ -72,6 +72,6 @@ pub search-alike : {j k place n : ℕ} {s : List ℕ} {v : Hit} → KindByte k j
 search-alike {place = place} {s = s} =
     answers-alike (λ k. SearchCause k s place) (λ k e. SearchCause.no-kind e) (λ j k c. elim c [ ]) (λ k. Leftmost k s place)
 
-pub whole-alike : {j k n : ℕ} {s : List ℕ} {v : Ends} → KindByte k j → Answers zeroEnds (WholeCause j s) (OneFrame j s) n v
-    → Answers zeroEnds (WholeCause k s) (OneFrame k s) n v
-whole-alike {s = s} = answers-alike (λ k. WholeCause k s) (λ k e. WholeCause.no-kind e) (λ j k c. elim c [ ]) (λ k. OneFrame k s)
+pub whole-alike : {j k n : ℕ} {s : List ℕ} {v : Ends} → KindByte k j → Answers zeroEnds (OneFrameCause j s) (OneFrame j s) n v
+    → Answers zeroEnds (OneFrameCause k s) (OneFrame k s) n v
+whole-alike {s = s} = answers-alike (λ k. OneFrameCause k s) (λ k e. OneFrameCause.no-kind e) (λ j k c. elim c [ ]) (λ k. OneFrame k s)

@@ -1,5 +1,5 @@
--- What the members of an answer say, in the words of the promises. A part is said by its start and its length, from
--- which follows where it ends. The first member, the refusal number, is not spoken of here.
+-- What the members of an answer say, in the words of the promises. An answer gives the start and the length of a
+-- part, and so its end. Its first member, the refusal number, is not spoken of here.
 -- Assumes nothing.
 use mathlib.Core.Bool.{Bool, true, false}
 use Prim.Native.Nat.{ℕ, _+_}

@@ -6,7 +6,7 @@ use mathlib.Core.Path.{_≡_}
 use Prim.Native.Nat.{ℕ}
 use lib.Ieee.{Float, fin}
 use lib.IntN.{ℤ, pos}
-use Rattle.numbers.specs.Paper.ByteValues.{Holds}
+use Rattle.numbers.specs.Paper.ByteValues.{HeldBy}
 use Rattle.numbers.specs.Paper.Panel.{Panel, ClimatePair}
 use Rattle.numbers.specs.declared.panel.Value.{Value}
 use Rattle.numbers.specs.declared.panel.Value.the-variants.{Single, Double}
@@ -58,8 +58,8 @@ climateIn r = record { temperature = r .temperature; humidity = r .humidity }
 -- 01, Messages: "temperature s16 in hundredths, humidity u16 in tenths"; "Refusal numbers": 5 "a field .. outside its
 -- limits"
 pub data ClimateCause (temperature humidity : ℤ) : ℕ → Type 0 where
-  not-signed : (Holds 2 true temperature → ⊥) → ClimateCause temperature humidity 5
-  not-unsigned : (Holds 2 false humidity → ⊥) → ClimateCause temperature humidity 5
+  not-signed : (HeldBy 2 true temperature → ⊥) → ClimateCause temperature humidity 5
+  not-unsigned : (HeldBy 2 false humidity → ⊥) → ClimateCause temperature humidity 5
 
 -- v is the pair of singles of these counts
 abbrev pub ClimateOf : ℤ → ℤ → Pair → Type 0

@@ -15,7 +15,7 @@ returns c =
 returns-2 : tie.Need-returns-2
 returns-2 c =
     let s = c .before .before .before .before .before .before in
-    rw (c .numbered .ensures) (subst (Opens (now (s .args .book))) (c .before .before .why .given .1) (c .before .before .before .before .«open» .ensures))
+    rw (c .refusal-number .ensures) (subst (Opens (now (s .args .book))) (c .before .before .why .given .1) (c .before .before .before .before .«open» .ensures))
 
 pub bolsterweft-book-open-spec : {M : Type 1} → statement M
 bolsterweft-book-open-spec =

@@ -22,7 +22,7 @@ returns-2 c =
     let s = c .before .before .before .before .before .before .before .before .before .before .before in
     let byte = c .before .before .before .before .before .before .before .before .kind-byte in
     let put = c .before .before .before .before .before .before .next in
-    rw (c .numbered .ensures)
+    rw (c .refusal-number .ensures)
     (next-alike (byte .ensures) (subst (λ (r : Listed). PutsNext (byte .result) (now (s .args .capture)) (s .args .place) (now (s .args .room)) 0 r (put .last .1 .1 .1 .0)) (c .before .before .why .given .1) (put .ensures)))
 
 pub bolsterweft-line-next-spec : {M : Type 1} → statement M

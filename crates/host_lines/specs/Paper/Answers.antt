@@ -4,7 +4,7 @@
 use mathlib.Core.List.{List}
 use Prim.Native.Nat.{ℕ}
 use lib.ListN.{length}
-use Rattle.digits.specs.Paper.Refusals.{Answers}
+use Rattle.puts.specs.Paper.Right.{AnswersInto}
 use Rattle.lines.specs.Paper.Answers.{Placed, zeroPlaced, NextCause, NextLine}
 use Rattle.host_lines.specs.declared.Listed.{Listed}
 
@@ -16,5 +16,5 @@ placedIn r = record { start = r .start; len = r .length; behind = r .«line_leng
 -- the front of a lent room
 abbrev pub WroteNext : ℕ → List ℕ → ℕ → List ℕ → Listed → List ℕ → Type 0
 WroteNext k s place room r later =
-    Answers {A = Placed × List ℕ} (zeroPlaced, room) (NextCause k s place (length room))
-    (λ v. NextLine k s place room 0 (v .0) (v .1)) (r .refusal) (placedIn r, later)
+    AnswersInto zeroPlaced room (NextCause k s place (length room)) (NextLine k s place room 0) (r .refusal)
+    (placedIn r) later

@@ -10,7 +10,7 @@ use lib.ListN.{length, take}
 use lib.Seq.{length-take-le}
 use Rattle.digits.proofs.Laws.Parts.{part-front}
 use Rattle.digits.specs.Paper.Bytes.{part}
-use Rattle.layouts.specs.Paper.Layout.{Layout, payloadFrom, payloadTo, Form, Frame, Leads, leads, none}
+use Rattle.layouts.specs.Paper.Layout.{Layout, payloadFrom, payloadTo, Form, FrameBy, Leads, leads, none}
 use Rattle.layouts.specs.Work.Heads.{passing}
 use Rattle.layouts.proofs.Laws.Heads.{Right, passing-right, same-right, taken, inside, found, only-yes, only-no, only-zero}
 
@@ -24,7 +24,7 @@ pub record Bus (l : Layout) (form : List ℕ → ℕ) (test : List ℕ → Bool)
 
 module _ {l : Layout} {form : List ℕ → ℕ} {test : List ℕ → Bool} {from to : List ℕ → ℕ} (b : Bus l form test from to) where
   -- what passes is a frame, and only that
-  pub frame-right : Right (Frame l) (passing form test)
+  pub frame-right : Right (FrameBy l) (passing form test)
   frame-right =
       same-right
       (λ w r. record { form = r .word; passes = b .passed w (r .word) (r .passes) })
@@ -35,7 +35,7 @@ module _ {l : Layout} {form : List ℕ → ℕ} {test : List ℕ → Bool} {from
   pub leads-at : (s : List ℕ) (n x y : ℕ) → n ≡ passing form test s → (n ≡ 0 → ⊥) → x ≡ from (take n s) → y ≡ to (take n s) → Leads l s n x y
   leads-at s n x y e nz ex ey =
       let p : 0 < passing form test s = omega (arith, e) in
-      let f : Frame l (take n s) = subst (λ (k : ℕ). Frame l (take k s)) (sym e) (taken frame-right s p) in
+      let f : FrameBy l (take n s) = subst (λ (k : ℕ). FrameBy l (take k s)) (sym e) (taken frame-right s p) in
       let h : n ≤ length s = subst (λ (k : ℕ). k ≤ length s) (sym e) (inside frame-right s) in
       let ax : payloadFrom l (f .form .fields) ≡ x = b .begins (take n s) (f .form) ∙ sym ex in
       let ay : payloadTo l (f .form .fields) ≡ y = b .ends (take n s) (f .form) ∙ sym ey in

@@ -18,12 +18,12 @@ use Rattle.checks.proofs.Laws.Feed.{feed-lt, feed-append, feed-nil}
 use Rattle.checks.specs.Paper.Buses.{homiqCrc}
 use Rattle.checks.specs.Paper.Check.{feed, check}
 use Rattle.layouts.specs.Paper.Chars.{oneOf, all, CR, LF}
-use Rattle.layouts.specs.Paper.Homiq.{Homiq, fieldChar, firstId, lastId, Limits, payload, joined, homiq, kept}
+use Rattle.layouts.specs.Paper.Homiq.{Homiq, fieldChar, firstId, lastId, Limits, payload, joined, homiq, withoutSeparators}
 use Rattle.layouts.specs.Paper.Layout.{bytesOf, Form}
 use Rattle.layouts.specs.Work.Homiq.{numberIn, headLen, homiqFormLen, homiqPasses, homiqFrom, homiqTo}
 use Rattle.layouts.proofs.Laws.Buses.{Bus}
 use Rattle.layouts.proofs.Laws.Heads.{Right, Then, join, glue, word-right, then-right, same-right}
-use Rattle.layouts.proofs.Laws.HomiqFields.{Fielded, Numbered, Typed, field-right, number-right, type-right, number-read, char-bounds, decimal-chars}
+use Rattle.layouts.proofs.Laws.HomiqFields.{Fielded, NumberField, Typed, field-right, number-right, type-right, number-read, char-bounds, decimal-chars}
 
 -- ---- the head: `<;` and the six fields, each with its `;`
 
@@ -39,7 +39,7 @@ pub record Fronted (w : List ℕ) : Type 0 where
 
 abbrev Nested : List ℕ → Type 0
 Nested =
-    Then (Then (Then (Then (Then (Then (λ u. u ≡ ascii "<;") (λ _. Fielded 8)) (λ _. Fielded 16)) (λ _. Fielded 4)) (λ _. Fielded 4)) (λ _. Numbered firstId lastId))
+    Then (Then (Then (Then (Then (Then (λ u. u ≡ ascii "<;") (λ _. Fielded 8)) (λ _. Fielded 16)) (λ _. Fielded 4)) (λ _. Fielded 4)) (λ _. NumberField firstId lastId))
     (λ _. Typed)
 
 nested-right : Right Nested headLen
@@ -135,7 +135,7 @@ front-payload m = shorter (ascii "<;") (ascii ";") (m .cmd) (m .val) (m .src) (m
     shorter o z a b c d e t = simp append-assoc
 
 abbrev Whole : List ℕ → Type 0
-Whole = Then (Then Fronted (λ _. Numbered 0 255)) (λ _ u. u ≡ closing)
+Whole = Then (Then Fronted (λ _. NumberField 0 255)) (λ _ u. u ≡ closing)
 
 whole-right : Right Whole homiqFormLen
 unfolding homiqFormLen
@@ -173,57 +173,57 @@ form-right = same-right to-form from-form whole-right
 
 -- ---- the fields without their separators
 
-kept-cons : (x : ℕ) (s : List ℕ) → kept (x ∷ s) ≡ kept (x ∷ []) ++ kept s
-unfolding kept
-kept-cons x s = go (eqb x 59)
+without-separators-cons : (x : ℕ) (s : List ℕ) → withoutSeparators (x ∷ s) ≡ withoutSeparators (x ∷ []) ++ withoutSeparators s
+unfolding withoutSeparators
+without-separators-cons x s = go (eqb x 59)
   where
-    go : (b : Bool) → cond b (kept s) (x ∷ kept s) ≡ cond b [] (x ∷ []) ++ kept s
+    go : (b : Bool) → cond b (withoutSeparators s) (x ∷ withoutSeparators s) ≡ cond b [] (x ∷ []) ++ withoutSeparators s
     go true = refl
     go false = refl
 
-kept-append : (a b : List ℕ) → kept (a ++ b) ≡ kept a ++ kept b
-unfolding kept
-kept-append [] b = refl
-kept-append (x ∷ a) b =
-    kept-cons x (a ++ b) ∙ ap (λ (l : List ℕ). kept (x ∷ []) ++ l) (kept-append a b)
-    ∙ sym (ap (λ (l : List ℕ). l ++ kept b) (kept-cons x a) ∙ append-assoc (kept (x ∷ [])) (kept a) (kept b))
+without-separators-append : (a b : List ℕ) → withoutSeparators (a ++ b) ≡ withoutSeparators a ++ withoutSeparators b
+unfolding withoutSeparators
+without-separators-append [] b = refl
+without-separators-append (x ∷ a) b =
+    without-separators-cons x (a ++ b) ∙ ap (λ (l : List ℕ). withoutSeparators (x ∷ []) ++ l) (without-separators-append a b)
+    ∙ sym (ap (λ (l : List ℕ). l ++ withoutSeparators b) (without-separators-cons x a) ∙ append-assoc (withoutSeparators (x ∷ [])) (withoutSeparators a) (withoutSeparators b))
 
 -- the loop over s: v is the state of the CRC, and what is left of s makes the whole of it
 pub record Summing (s : List ℕ) (v i : ℕ) : Type 0 where
   pub within : i ≤ length s
   pub fits : v < 256
-  pub rest : feed homiqCrc v (kept (drop i s)) ≡ check homiqCrc (kept s)
+  pub rest : feed homiqCrc v (withoutSeparators (drop i s)) ≡ check homiqCrc (withoutSeparators s)
 
 pub summing-start : (s : List ℕ) (v : ℕ) → v ≡ homiqCrc .start → Summing s v 0
 summing-start s v e = record { within = omega arith; fits = omega arith; rest = rw e }
 
-pub summing-next : {s : List ℕ} {v i : ℕ} (n : ℕ) → Summing s v i → i < length s → n ≡ feed homiqCrc v (kept (getD s i 0 ∷ [])) → Summing s n (i + 1)
+pub summing-next : {s : List ℕ} {v i : ℕ} (n : ℕ) → Summing s v i → i < length s → n ≡ feed homiqCrc v (withoutSeparators (getD s i 0 ∷ [])) → Summing s n (i + 1)
 summing-next {s} {v} {i} n l h e =
     let x = getD s i 0 in
     let r : List ℕ = drop (i + 1) s in
     record {
       within = omega arith;
-      fits = rw e (feed-lt homiqCrc v (kept (x ∷ [])));
+      fits = rw e (feed-lt homiqCrc v (withoutSeparators (x ∷ [])));
       rest =
-          ap (λ (k : ℕ). feed homiqCrc k (kept r)) e ∙ sym (feed-append homiqCrc v (kept (x ∷ [])) (kept r))
-          ∙ ap (feed homiqCrc v) (sym (kept-cons x r)) ∙ ap (λ (u : List ℕ). feed homiqCrc v (kept u)) (sym (next s i h)) ∙ l .rest;
+          ap (λ (k : ℕ). feed homiqCrc k (withoutSeparators r)) e ∙ sym (feed-append homiqCrc v (withoutSeparators (x ∷ [])) (withoutSeparators r))
+          ∙ ap (feed homiqCrc v) (sym (without-separators-cons x r)) ∙ ap (λ (u : List ℕ). feed homiqCrc v (withoutSeparators u)) (sym (next s i h)) ∙ l .rest;
     }
 
-pub summing-end : {s : List ℕ} {v i : ℕ} → Summing s v i → length s ≤ i → v ≡ check homiqCrc (kept s)
-unfolding kept
+pub summing-end : {s : List ℕ} {v i : ℕ} → Summing s v i → length s ≤ i → v ≡ check homiqCrc (withoutSeparators s)
+unfolding withoutSeparators
 summing-end {s} {v} {i} l h =
-    sym (ap (λ (u : List ℕ). feed homiqCrc v (kept u)) (drop-of-length-le s h) ∙ feed-nil homiqCrc v (l .fits)) ∙ l .rest
+    sym (ap (λ (u : List ℕ). feed homiqCrc v (withoutSeparators u)) (drop-of-length-le s h) ∙ feed-nil homiqCrc v (l .fits)) ∙ l .rest
 
-kept-field : (w : List ℕ) → T (all fieldChar w) → kept w ≡ w
-unfolding kept all
-kept-field [] h = refl
-kept-field (x ∷ w) h =
+without-separators-field : (w : List ℕ) → T (all fieldChar w) → withoutSeparators w ≡ w
+unfolding withoutSeparators all
+without-separators-field [] h = refl
+without-separators-field (x ∷ w) h =
     let q = T-and (fieldChar x) (all fieldChar w) h in
-    rw (char-bounds x (q .0) .1) (ap (λ (l : List ℕ). x ∷ l) (kept-field w (q .1)))
+    rw (char-bounds x (q .0) .1) (ap (λ (l : List ℕ). x ∷ l) (without-separators-field w (q .1)))
 
-pub kept-closed : (w : List ℕ) → T (all fieldChar w) → kept (w ++ ascii ";") ≡ w
-unfolding kept
-kept-closed w h = kept-append w (ascii ";") ∙ rw (kept-field w h) (append-nil w)
+pub without-separators-closed : (w : List ℕ) → T (all fieldChar w) → withoutSeparators (w ++ ascii ";") ≡ w
+unfolding withoutSeparators
+without-separators-closed w h = without-separators-append w (ascii ";") ∙ rw (without-separators-field w h) (append-nil w)
 
 pub type-chars : (t : ℕ) → T (oneOf (ascii "sa") t) → T (all fieldChar (t ∷ []))
 unfolding oneOf all fieldChar
@@ -234,26 +234,26 @@ type-chars t h = go (eqb t 115) refl (eqb t 97) refl h
     go false p true q h = let e : t ≡ 97 = eqb-true _ _ q in rw e tt
     go false p false q h = absurd h
 
-six-kept : (a b c d e t : List ℕ) → kept (a ++ b ++ c ++ d ++ e ++ t) ≡ kept a ++ kept b ++ kept c ++ kept d ++ kept e ++ kept t
-six-kept a b c d e t = simp kept-append
+six-kept : (a b c d e t : List ℕ) → withoutSeparators (a ++ b ++ c ++ d ++ e ++ t) ≡ withoutSeparators a ++ withoutSeparators b ++ withoutSeparators c ++ withoutSeparators d ++ withoutSeparators e ++ withoutSeparators t
+six-kept a b c d e t = simp without-separators-append
 
-front-kept : (m : Homiq) → Limits m → kept (drop 2 (frontOf m)) ≡ joined m
+front-kept : (m : Homiq) → Limits m → withoutSeparators (drop 2 (frontOf m)) ≡ joined m
 front-kept m l =
     six-kept (m .cmd ++ ascii ";") (m .val ++ ascii ";") (m .src ++ ascii ";") (m .dst ++ ascii ";") (decimal (m .id) ++ ascii ";") (m .type ∷ ascii ";")
     ∙ rw (
-      kept-closed (m .cmd) (l .cmd .chars),
-      kept-closed (m .val) (l .val .chars),
-      kept-closed (m .src) (l .src .chars),
-      kept-closed (m .dst) (l .dst .chars),
-      kept-closed (decimal (m .id)) (decimal-chars (m .id)),
-      kept-closed (m .type ∷ []) (type-chars (m .type) (l .type)),
+      without-separators-closed (m .cmd) (l .cmd .chars),
+      without-separators-closed (m .val) (l .val .chars),
+      without-separators-closed (m .src) (l .src .chars),
+      without-separators-closed (m .dst) (l .dst .chars),
+      without-separators-closed (decimal (m .id)) (decimal-chars (m .id)),
+      without-separators-closed (m .type ∷ []) (type-chars (m .type) (l .type)),
     )
 
 -- the payload too, whose last field has no separator behind it
-pub payload-kept : (m : Homiq) → Limits m → kept (payload m) ≡ joined m
-unfolding kept
-payload-kept m l =
-    sym (append-nil (kept (payload m))) ∙ sym (kept-append (payload m) (ascii ";")) ∙ ap (λ (u : List ℕ). kept (drop 2 u)) (sym (front-payload m)) ∙ front-kept m l
+pub payload-without-separators : (m : Homiq) → Limits m → withoutSeparators (payload m) ≡ joined m
+unfolding withoutSeparators
+payload-without-separators m l =
+    sym (append-nil (withoutSeparators (payload m))) ∙ sym (without-separators-append (payload m) (ascii ";")) ∙ ap (λ (u : List ℕ). withoutSeparators (drop 2 u)) (sym (front-payload m)) ∙ front-kept m l
 
 -- ---- what stands where in a list that starts with a frame's bytes
 
@@ -271,12 +271,12 @@ module _ (m : Homiq) (l : Limits m) (s t : List ℕ) (laid : s ≡ frontOf m ++ 
   front-number = let h = l .crc in ap numberIn behind-front ∙ number-read (m .crc) (omega arith) t
 
   -- what it covers
-  pub front-covered : kept (part 2 (headLen s) s) ≡ joined m
+  pub front-covered : withoutSeparators (part 2 (headLen s) s) ≡ joined m
   front-covered =
       let two : List ℕ = drop 2 (frontOf m) in
       let e : length two ≡ headLen s - 2 = omega (arith, front-length) in
-      ap (λ (u : List ℕ). kept (take (headLen s - 2) (drop 2 u))) laid
-      ∙ ap kept (take-at two ((decimal (m .crc) ++ ascii ";") ++ t) (headLen s - 2) e) ∙ front-kept m l
+      ap (λ (u : List ℕ). withoutSeparators (take (headLen s - 2) (drop 2 u))) laid
+      ∙ ap withoutSeparators (take-at two ((decimal (m .crc) ++ ascii ";") ++ t) (headLen s - 2) e) ∙ front-kept m l
 
 -- ---- the bus
 

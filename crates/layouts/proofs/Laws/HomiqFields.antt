@@ -241,25 +241,25 @@ module _ (v : ℕ) (small : v < 1000) (t : List ℕ) where
   unfolding numberIn
   number-read = rw (number-run, take-append-seam (decimal v) (59 ∷ t)) (guess-decimal v)
 
-pub record Numbered (low high : ℕ) (u : List ℕ) : Type 0 where
+pub record NumberField (low high : ℕ) (u : List ℕ) : Type 0 where
   pub value : ℕ
   pub least : low ≤ value
   pub most : value ≤ high
   pub ends : u ≡ decimal value ++ ascii ";"
 
 module _ (low high : ℕ) (small : high < 1000) where
-  pub number-right : Right (Numbered low high) (numberLen low high)
+  pub number-right : Right (NumberField low high) (numberLen low high)
   unfolding numberLen
   number-right = record { some = λ r. rw (r .ends) (omega (arith, closed-length (decimal (r .value)))); sound = sound; complete = complete }
     where
       word : (v : ℕ) → Right (λ u. u ≡ decimal v ++ ascii ";") (wordLen (decimal v ++ ascii ";"))
       word v = word-right (decimal v ++ ascii ";") (omega (arith, closed-length (decimal v)))
 
-      made : (s : List ℕ) (v r : ℕ) → low ≤ v → v ≤ high → r ≡ wordLen (decimal v ++ ascii ";") s → Head (λ u. u ≡ decimal v ++ ascii ";") s (wordLen (decimal v ++ ascii ";") s) → Head (Numbered low high) s r
+      made : (s : List ℕ) (v r : ℕ) → low ≤ v → v ≤ high → r ≡ wordLen (decimal v ++ ascii ";") s → Head (λ u. u ≡ decimal v ++ ascii ";") s (wordLen (decimal v ++ ascii ";") s) → Head (NumberField low high) s r
       made s v r a b e h =
           record { word = h .word; rest = h .rest; splits = h .splits; is = record { value = v; least = a; most = b; ends = h .is }; size = e ∙ h .size }
 
-      sound : (s : List ℕ) → 0 < numberLen low high s → Head (Numbered low high) s (numberLen low high s)
+      sound : (s : List ℕ) → 0 < numberLen low high s → Head (NumberField low high) s (numberLen low high s)
       sound s h₀ =
           let e₀ = only-eq _ _ h₀ in
           let h₁ = rw e₀ at h₀ in
@@ -271,7 +271,7 @@ module _ (low high : ℕ) (small : high < 1000) where
       whole s v e a b t l =
           rw e (only-yes _ _ (le-leb low v a) ∙ only-yes _ _ (le-leb v high b) ∙ rw l (word v .complete {w = decimal v ++ ascii ";"} refl t))
 
-      complete : {u : List ℕ} → Numbered low high u → (t : List ℕ) → numberLen low high (u ++ t) ≡ length u
+      complete : {u : List ℕ} → NumberField low high u → (t : List ℕ) → numberLen low high (u ++ t) ≡ length u
       complete r t =
           let v = r .value in
           let most = r .most in

@@ -14,7 +14,7 @@ use Rattle.digits.specs.Paper.Bytes.{part}
 use Rattle.digits.specs.Paper.Decimal.{decimal}
 use Rattle.checks.specs.Paper.Buses.{homiqCrc}
 use Rattle.checks.specs.Paper.Check.{check}
-use Rattle.layouts.specs.Paper.Homiq.{joined, homiq, kept}
+use Rattle.layouts.specs.Paper.Homiq.{joined, homiq, withoutSeparators}
 use Rattle.layouts.specs.Paper.Layout.{Form, Leads}
 use Rattle.layouts.specs.Work.Heads.{onlyIf, wordLen, on, onward, passing}
 use Rattle.layouts.specs.Work.Homiq.{fieldLen, numberIn, numberLen, typeLen, headLen, homiqFormLen, homiqPasses, homiqTo}
@@ -39,7 +39,7 @@ pub record Found (s : List ℕ) (before behind n : ℕ) : Type 0 where
   pub crosses : before < behind
   pub inner : behind ≤ length s
   pub claims : numberIn (drop before s) ≡ form .fields .crc
-  pub covered : kept (part 2 before s) ≡ joined (form .fields)
+  pub covered : withoutSeparators (part 2 before s) ≡ joined (form .fields)
 
 module _ (s : List ℕ) (before behind n : ℕ) (eb : before ≡ headLen s) (en : behind ≡ onward (numberLen 0 255) s before) (ee : n ≡ onward (wordLen closing) s behind) where
   size : n ≡ homiqFormLen s
@@ -77,7 +77,7 @@ module _ (s : List ℕ) (before behind n : ℕ) (eb : before ≡ headLen s) (en 
         crosses = omega (arith, closed-length (decimal (m .crc)));
         inner = ends-inside (numberLen 0 255) (inside (number-right 0 255 (omega arith))) s before behind en;
         claims = ap numberIn (k ∙ append-snoc (decimal (m .crc)) 59 t) ∙ number-read (m .crc) (omega (arith, l .crc)) t;
-        covered = ap (λ (i : ℕ). kept (part 2 i s)) eb ∙ front-covered m l s t laid;
+        covered = ap (λ (i : ℕ). withoutSeparators (part 2 i s)) eb ∙ front-covered m l s t laid;
       }
     where
       three : (a b c d : List ℕ) → (a ++ (b ++ c)) ++ d ≡ a ++ (b ++ (c ++ d))
@@ -89,7 +89,7 @@ module _ (s : List ℕ) (before behind n : ℕ) (eb : before ≡ headLen s) (en 
       made (omega (arith, size)) (subst (λ (k : ℕ). Form homiq (take k s)) (sym size) (taken form-right s p))
 
 module _ {s : List ℕ} {before behind n : ℕ} (f : Found s before behind n)
-    (x v : ℕ) (ex : x ≡ check homiqCrc (kept (part 2 before s))) (ev : v ≡ numberIn (drop before s)) where
+    (x v : ℕ) (ex : x ≡ check homiqCrc (withoutSeparators (part 2 before s))) (ev : v ≡ numberIn (drop before s)) where
   -- the test of the code is the definition's
   tested : homiqPasses (take n s) ≡ eqb v x
   tested =

@@ -12,12 +12,12 @@ use Rattle.digits.specs.Paper.Ascii.{ascii}
 use Rattle.digits.specs.Paper.Bytes.{Bytes}
 use Rattle.digits.specs.Paper.Decimal.{decimal}
 use Rattle.layouts.specs.Paper.Chars.{all}
-use Rattle.layouts.specs.Paper.Homiq.{Homiq, fieldChar, Field, firstId, lastId, Limits, joined, homiq, kept}
+use Rattle.layouts.specs.Paper.Homiq.{Homiq, fieldChar, Field, firstId, lastId, Limits, joined, homiq, withoutSeparators}
 use Rattle.layouts.specs.Paper.Layout.{bytesOf}
 use Rattle.layouts.specs.Work.Homiq.{numberIn}
 use Rattle.layouts.proofs.Laws.ByteRuns.{bytes-by}
 use Rattle.layouts.proofs.Laws.Heads.{Right, one-word}
-use Rattle.layouts.proofs.Laws.Homiq.{frontOf, head-right, closing, front-homiq, kept-closed, type-chars}
+use Rattle.layouts.proofs.Laws.Homiq.{frontOf, head-right, closing, front-homiq, without-separators-closed, type-chars}
 use Rattle.layouts.proofs.Laws.HomiqFields.{field-right, number-right, number-read, char-bounds, decimal-chars}
 
 -- ---- one reading
@@ -31,7 +31,7 @@ peel p {u} {v} a b r s e =
 field-cut : {k : ℕ} (a b r s : List ℕ) → Field k a → Field k b → (a ++ ascii ";") ++ r ≡ (b ++ ascii ";") ++ s → (a ≡ b) × (r ≡ s)
 field-cut {k} a b r s p q e =
     let h = peel (field-right k) (record { word = a; field = p; ends = refl }) (record { word = b; field = q; ends = refl }) r s e in
-    (sym (kept-closed a (p .chars)) ∙ ap kept (h .0) ∙ kept-closed b (q .chars), h .1)
+    (sym (without-separators-closed a (p .chars)) ∙ ap withoutSeparators (h .0) ∙ without-separators-closed b (q .chars), h .1)
 
 module _ (low high : ℕ) (small : high < 1000) where
   number-cut : (a b : ℕ) (r s : List ℕ) → low ≤ a → a ≤ high → low ≤ b → b ≤ high → (decimal a ++ ascii ";") ++ r ≡ (decimal b ++ ascii ";") ++ s → (a ≡ b) × (r ≡ s)

@@ -10,14 +10,14 @@ use lib.ListN.{length, getD, length-append}
 use lib.Seq.{getD-at}
 use Rattle.digits.specs.Paper.Ascii.{ascii}
 use Rattle.digits.specs.Paper.Decimal.{decimal}
-use Rattle.digits.specs.Paper.Read.{Tells, holds, fails}
+use Rattle.digits.specs.Paper.Read.{Decides, holds, fails}
 use Rattle.layouts.specs.Paper.Chars.{oneOf}
 use Rattle.layouts.specs.Paper.Homiq.{firstId, lastId, Limits, payload}
 use Rattle.layouts.specs.Paper.Made.{Wire, closed, homiqOf, Payload}
 use Rattle.layouts.specs.Work.Homiq.{fieldLen, numberLen, fiveLen}
 use Rattle.layouts.specs.Work.Heads.{onward}
 use Rattle.layouts.proofs.Laws.Heads.{Right, Head, Then, join, glue, then-right, inside}
-use Rattle.layouts.proofs.Laws.HomiqFields.{Fielded, Numbered, field-right, number-right}
+use Rattle.layouts.proofs.Laws.HomiqFields.{Fielded, NumberField, field-right, number-right}
 use Rattle.layouts.proofs.Laws.Made.{homiq-fit}
 
 -- ---- CMD to ID, each with its `;`
@@ -26,7 +26,7 @@ abbrev fiveOf : Wire → List ℕ
 fiveOf w = (w .cmd ++ ascii ";") ++ (w .val ++ ascii ";") ++ (w .src ++ ascii ";") ++ (w .dst ++ ascii ";") ++ (decimal (w .id) ++ ascii ";")
 
 abbrev Five : List ℕ → Type 0
-Five = Then (Then (Then (Then (Fielded 8) (λ _. Fielded 16)) (λ _. Fielded 4)) (λ _. Fielded 4)) (λ _. Numbered firstId lastId)
+Five = Then (Then (Then (Then (Fielded 8) (λ _. Fielded 16)) (λ _. Fielded 4)) (λ _. Fielded 4)) (λ _. NumberField firstId lastId)
 
 five-right : Right Five fiveLen
 unfolding fiveLen
@@ -131,13 +131,13 @@ module _ (p : List ℕ) (last : ℕ) (is : last ≡ fiveLen p) where
           subst IsPayload (sym e) (five-payload (h .word) t (h .is) (subst (λ (c : ℕ). T (oneOf (ascii "sa") c)) k type))
       go (t ∷ s ∷ r) e l = absurd (omega arith)
 
-  pub without-fields : last ≡ 0 → Tells (IsPayload p) false
+  pub without-fields : last ≡ 0 → Decides (IsPayload p) false
   without-fields e = fails (λ q. omega (arith, payload-ends q .some))
 
-  pub longer : (length p ≡ last + 1 → ⊥) → Tells (IsPayload p) false
+  pub longer : (length p ≡ last + 1 → ⊥) → Decides (IsPayload p) false
   longer f = fails (λ q. f (payload-ends q .all))
 
   -- r is the answer to the test of the last character
-  pub by-type : (last ≡ 0 → ⊥) → length p ≡ last + 1 → (r : Bool) → r ≡ oneOf (ascii "sa") (getD p last 0) → Tells (IsPayload p) r
+  pub by-type : (last ≡ 0 → ⊥) → length p ≡ last + 1 → (r : Bool) → r ≡ oneOf (ascii "sa") (getD p last 0) → Decides (IsPayload p) r
   by-type some all true e = holds (one-more (omega arith) all (rw (sym e) tt))
   by-type some all false e = fails (λ q. rw (sym e) at (payload-ends q .type))

@@ -12,7 +12,7 @@ use Rattle.digits.proofs.Laws.Bytes.{bytes-tail, bytes-append, bytes-take, byte
 use Rattle.digits.proofs.Laws.LowFirst.{length-low, bytes-low, low-inj, low-all}
 use Rattle.digits.proofs.Laws.Parts.{part-front, part-rest, front-rest}
 use Rattle.digits.specs.Paper.Bytes.{Bytes, part}
-use Rattle.digits.specs.Paper.LowFirst.{lowFirst}
+use Rattle.digits.specs.Paper.LowFirst.{lowByteFirst}
 use Rattle.checks.proofs.Laws.Feed.{check-lt}
 use Rattle.checks.specs.Paper.Buses.{nestCrc}
 use Rattle.checks.specs.Paper.Check.{check}
@@ -27,13 +27,13 @@ use Rattle.layouts.proofs.Laws.Heads.{Head, Right, Then, Run, run-right
 -- a frame is as long as its preamble, its payload and six bytes more
 pub nest-size : (mark : List ℕ) (m : Nest) → length (bytesOf (nestWith mark) m) ≡ length mark + length (m .payload) + 6
 nest-size mark m =
-    let b : List ℕ = mark ++ lowFirst 2 (m .id) ++ lowFirst 2 (length (m .payload)) in
+    let b : List ℕ = mark ++ lowByteFirst 2 (m .id) ++ lowByteFirst 2 (length (m .payload)) in
     omega (
       arith,
-      length-append (b ++ m .payload) (lowFirst 2 (m .crc)),
+      length-append (b ++ m .payload) (lowByteFirst 2 (m .crc)),
       length-append b (m .payload),
-      length-append (mark ++ lowFirst 2 (m .id)) (lowFirst 2 (length (m .payload))),
-      length-append mark (lowFirst 2 (m .id)),
+      length-append (mark ++ lowByteFirst 2 (m .id)) (lowByteFirst 2 (length (m .payload))),
+      length-append mark (lowByteFirst 2 (m .id)),
       length-low 2 (m .id),
       length-low 2 (length (m .payload)),
       length-low 2 (m .crc),
@@ -44,14 +44,14 @@ nest-size mark m =
 record Body (u : List ℕ) : Type 0 where
   fields : Nest
   limits : Limits fields
-  layout : u ≡ covered (fields .id) (fields .payload) ++ lowFirst 2 (fields .crc)
+  layout : u ≡ covered (fields .id) (fields .payload) ++ lowByteFirst 2 (fields .crc)
 
 -- two bytes are a number's
-two-bytes : (u : List ℕ) → length u ≡ 2 → Bytes u → (n : ℕ) × (n < 65536) × (u ≡ lowFirst 2 n)
+two-bytes : (u : List ℕ) → length u ≡ 2 → Bytes u → (n : ℕ) × (n < 65536) × (u ≡ lowByteFirst 2 n)
 two-bytes u l b = let a = low-all u b in (a .0, rw l at (a .1), sym (rw l at (a .2)))
 
 body-made : (u : List ℕ) (n : ℕ) → n ≡ payloadLen u → n ≤ 1024 → length u ≡ n + 6 → Bytes u → Body u
-unfolding lowFirst
+unfolding lowByteFirst
 body-made [] n e h l b = absurd (omega arith)
 body-made (x ∷ []) n e h l b = absurd (omega arith)
 body-made (x ∷ y ∷ []) n e h l b = absurd (omega arith)
@@ -72,7 +72,7 @@ body-made (x ∷ y ∷ z ∷ t ∷ r) n e h l b =
     let e₂ : length p % 256 ≡ z = omega arith in
     let f₃ : length p / 256 ≡ t = omega arith in
     let e₃ : length p / 256 % 256 ≡ t = rw f₃ (omega arith) in
-    let low : lowFirst 2 (c .0) ≡ drop n r = sym (c .2) in
+    let low : lowByteFirst 2 (c .0) ≡ drop n r = sym (c .2) in
     record {
       fields = record { id = x + y * 256; payload = p; crc = c .0 };
       limits = record { id = omega arith; short = omega arith; bytes = bytes-take n r br; crc = c .1 };
@@ -81,19 +81,19 @@ body-made (x ∷ y ∷ z ∷ t ∷ r) n e h l b =
 
 pub covered-bytes : (i : ℕ) (p : List ℕ) → Bytes p → Bytes (covered i p)
 covered-bytes i p b =
-    bytes-append (lowFirst 2 i ++ lowFirst 2 (length p)) p
-    (bytes-append (lowFirst 2 i) (lowFirst 2 (length p)) (bytes-low 2 i) (bytes-low 2 (length p))) b
+    bytes-append (lowByteFirst 2 i ++ lowByteFirst 2 (length p)) p
+    (bytes-append (lowByteFirst 2 i) (lowByteFirst 2 (length p)) (bytes-low 2 i) (bytes-low 2 (length p))) b
 
-body-bytes : (m : Nest) → Limits m → Bytes (covered (m .id) (m .payload) ++ lowFirst 2 (m .crc))
-body-bytes m l = bytes-append (covered (m .id) (m .payload)) (lowFirst 2 (m .crc)) (covered-bytes (m .id) (m .payload) (l .bytes)) (bytes-low 2 (m .crc))
+body-bytes : (m : Nest) → Limits m → Bytes (covered (m .id) (m .payload) ++ lowByteFirst 2 (m .crc))
+body-bytes m l = bytes-append (covered (m .id) (m .payload)) (lowByteFirst 2 (m .crc)) (covered-bytes (m .id) (m .payload) (l .bytes)) (bytes-low 2 (m .crc))
 
-body-length : (i x : ℕ) (p : List ℕ) → length (covered i p ++ lowFirst 2 x) ≡ length p + 6
-unfolding lowFirst
-body-length i x p = omega (arith, length-append (covered i p) (lowFirst 2 x))
+body-length : (i x : ℕ) (p : List ℕ) → length (covered i p ++ lowByteFirst 2 x) ≡ length p + 6
+unfolding lowByteFirst
+body-length i x p = omega (arith, length-append (covered i p) (lowByteFirst 2 x))
 
 -- the length that stands in it, whatever follows
-body-reads : (i x : ℕ) (p t : List ℕ) → length p ≤ 1024 → payloadLen ((covered i p ++ lowFirst 2 x) ++ t) ≡ length p
-unfolding lowFirst
+body-reads : (i x : ℕ) (p t : List ℕ) → length p ≤ 1024 → payloadLen ((covered i p ++ lowByteFirst 2 x) ++ t) ≡ length p
+unfolding lowByteFirst
 body-reads i x p t h = omega arith
 
 body-right : Right Body bodyLen
@@ -125,7 +125,7 @@ body-right = record { some = some; sound = sound; complete = complete }
     complete r t =
         let m = r .fields in
         let p = m .payload in
-        let u : List ℕ = covered (m .id) p ++ lowFirst 2 (m .crc) in
+        let u : List ℕ = covered (m .id) p ++ lowByteFirst 2 (m .crc) in
         let e : payloadLen (u ++ t) ≡ length p = body-reads (m .id) (m .crc) p t (r .limits .short) in
         let run : Run isByte (length p + 6) u = record { size = body-length (m .id) (m .crc) p; each = rw (all-bytes u (body-bytes m (r .limits))) tt } in
         rw (Body.layout r, e)
@@ -137,8 +137,8 @@ module _ (mark : List ℕ) (some : 0 < length mark) where
   abbrev Parts : List ℕ → Type 0
   Parts = Then (λ u. u ≡ mark) (λ _. Body)
 
-  laid-out : (i : ℕ) (p c : List ℕ) → mark ++ (covered i p ++ c) ≡ (mark ++ lowFirst 2 i ++ lowFirst 2 (length p)) ++ p ++ c
-  laid-out i p c = four mark (lowFirst 2 i) (lowFirst 2 (length p)) p c
+  laid-out : (i : ℕ) (p c : List ℕ) → mark ++ (covered i p ++ c) ≡ (mark ++ lowByteFirst 2 i ++ lowByteFirst 2 (length p)) ++ p ++ c
+  laid-out i p c = four mark (lowByteFirst 2 i) (lowByteFirst 2 (length p)) p c
     where
       four : (a b d p c : List ℕ) → a ++ (b ++ d ++ p ++ c) ≡ (a ++ b ++ d) ++ p ++ c
       four a b d p c = simp append-assoc
@@ -147,12 +147,12 @@ module _ (mark : List ℕ) (some : 0 < length mark) where
   to-form w r =
       let h = r .second in
       let m = h .fields in
-      record { fields = m; limits = h .limits; laid = glue (r .joins) (r .first) (h .layout) ∙ laid-out (m .id) (m .payload) (lowFirst 2 (m .crc)) }
+      record { fields = m; limits = h .limits; laid = glue (r .joins) (r .first) (h .layout) ∙ laid-out (m .id) (m .payload) (lowByteFirst 2 (m .crc)) }
 
   from-form : (w : List ℕ) → Form (nestWith mark) w → Parts w
   from-form w r =
       let m = r .fields in
-      let x : List ℕ = lowFirst 2 (m .crc) in
+      let x : List ℕ = lowByteFirst 2 (m .crc) in
       rw (r .laid ∙ sym (laid-out (m .id) (m .payload) x))
       (join mark (covered (m .id) (m .payload) ++ x) refl (record { fields = m; limits = r .limits; layout = refl }))
 
@@ -161,21 +161,21 @@ module _ (mark : List ℕ) (some : 0 < length mark) where
   forms = same-right to-form from-form (then-right (word-right mark some) (λ w a. body-right))
 
   -- behind the preamble stand what the CRC covers and the CRC
-  behind-mark : (m : Nest) → drop (length mark) (bytesOf (nestWith mark) m) ≡ covered (m .id) (m .payload) ++ lowFirst 2 (m .crc)
+  behind-mark : (m : Nest) → drop (length mark) (bytesOf (nestWith mark) m) ≡ covered (m .id) (m .payload) ++ lowByteFirst 2 (m .crc)
   behind-mark m =
       let c : List ℕ = covered (m .id) (m .payload) in
-      let x : List ℕ = lowFirst 2 (m .crc) in
+      let x : List ℕ = lowByteFirst 2 (m .crc) in
       ap (drop (length mark)) (sym (laid-out (m .id) (m .payload) x)) ∙ drop-append-seam mark (c ++ x)
 
   -- of which the test takes the two apart
-  crc-test : (c : List ℕ) (x : ℕ) → crcPasses (c ++ lowFirst 2 x) ≡ starts (lowFirst 2 (check nestCrc c)) (lowFirst 2 x)
+  crc-test : (c : List ℕ) (x : ℕ) → crcPasses (c ++ lowByteFirst 2 x) ≡ starts (lowByteFirst 2 (check nestCrc c)) (lowByteFirst 2 x)
   unfolding crcPasses
   crc-test c x =
-      let u : List ℕ = c ++ lowFirst 2 x in
-      let l : length u - 2 ≡ length c = omega (arith, length-append c (lowFirst 2 x), length-low 2 x) in
-      rw (l, take-append-seam c (lowFirst 2 x), drop-append-seam c (lowFirst 2 x))
+      let u : List ℕ = c ++ lowByteFirst 2 x in
+      let l : length u - 2 ≡ length c = omega (arith, length-append c (lowByteFirst 2 x), length-low 2 x) in
+      rw (l, take-append-seam c (lowByteFirst 2 x), drop-append-seam c (lowByteFirst 2 x))
 
-  tested : (w : List ℕ) (r : Form (nestWith mark) w) → nestPasses mark w ≡ starts (lowFirst 2 (check nestCrc (covered (r .fields .id) (r .fields .payload)))) (lowFirst 2 (r .fields .crc))
+  tested : (w : List ℕ) (r : Form (nestWith mark) w) → nestPasses mark w ≡ starts (lowByteFirst 2 (check nestCrc (covered (r .fields .id) (r .fields .payload)))) (lowByteFirst 2 (r .fields .crc))
   unfolding nestPasses
   tested w r =
       let m = r .fields in
@@ -186,28 +186,28 @@ module _ (mark : List ℕ) (some : 0 < length mark) where
       let m = r .fields in
       let c : List ℕ = covered (m .id) (m .payload) in
       let k : check nestCrc c < 65536 = check-lt nestCrc c in
-      let t : T (starts (lowFirst 2 (check nestCrc c)) (lowFirst 2 (m .crc) ++ [])) = rw append-nil (rw (tested w r) at h) in
-      let e = starts-same (lowFirst 2 (check nestCrc c)) (lowFirst 2 (m .crc)) [] (length-low 2 _ ∙ sym (length-low 2 _)) t in
+      let t : T (starts (lowByteFirst 2 (check nestCrc c)) (lowByteFirst 2 (m .crc) ++ [])) = rw append-nil (rw (tested w r) at h) in
+      let e = starts-same (lowByteFirst 2 (check nestCrc c)) (lowByteFirst 2 (m .crc)) [] (length-low 2 _ ∙ sym (length-low 2 _)) t in
       sym (low-inj 2 (check nestCrc c) (m .crc) k (r .limits .crc) e)
 
   passes : (w : List ℕ) (r : Form (nestWith mark) w) → Passes (r .fields) → T (nestPasses mark w)
   passes w r h =
       let m = r .fields in
       let c : List ℕ = covered (m .id) (m .payload) in
-      let t = same-starts (lowFirst 2 (check nestCrc c)) (lowFirst 2 (m .crc)) [] (ap (lowFirst 2) (sym h)) in
+      let t = same-starts (lowByteFirst 2 (check nestCrc c)) (lowByteFirst 2 (m .crc)) [] (ap (lowByteFirst 2) (sym h)) in
       rw (tested w r) (rw append-nil at t)
 
   begins : (w : List ℕ) (r : Form (nestWith mark) w) → payloadFrom (nestWith mark) (r .fields) ≡ nestFrom mark w
   begins w r =
       let m = r .fields in
-      omega (arith, length-append (mark ++ lowFirst 2 (m .id)) (lowFirst 2 (length (m .payload))), length-append mark (lowFirst 2 (m .id)), length-low 2 (m .id), length-low 2 (length (m .payload)))
+      omega (arith, length-append (mark ++ lowByteFirst 2 (m .id)) (lowByteFirst 2 (length (m .payload))), length-append mark (lowByteFirst 2 (m .id)), length-low 2 (m .id), length-low 2 (length (m .payload)))
 
   ends : (w : List ℕ) (r : Form (nestWith mark) w) → payloadTo (nestWith mark) (r .fields) ≡ nestTo mark w
   ends w r =
       let m = r .fields in
-      let b : List ℕ = mark ++ lowFirst 2 (m .id) ++ lowFirst 2 (length (m .payload)) in
+      let b : List ℕ = mark ++ lowByteFirst 2 (m .id) ++ lowByteFirst 2 (length (m .payload)) in
       let l : length w ≡ length (bytesOf (nestWith mark) m) = ap length (r .laid) in
-      omega (arith, length-append (b ++ m .payload) (lowFirst 2 (m .crc)), length-append b (m .payload), length-low 2 (m .crc))
+      omega (arith, length-append (b ++ m .payload) (lowByteFirst 2 (m .crc)), length-append b (m .payload), length-low 2 (m .crc))
 
   -- NEST: its recognisers find its frames, and only those
   pub nest-bus : Bus (nestWith mark) (nestFormLen mark) (nestPasses mark) (nestFrom mark) (nestTo mark)
@@ -215,15 +215,15 @@ module _ (mark : List ℕ) (some : 0 < length mark) where
 
 -- no two frames' fields have the same bytes
 pub nest-one : (mark : List ℕ) → 0 < length mark → (m n : Nest) → Limits m → Limits n → bytesOf (nestWith mark) m ≡ bytesOf (nestWith mark) n → m ≡ n
-unfolding lowFirst
+unfolding lowByteFirst
 nest-one mark some m n lm ln e =
-    let h : covered (m .id) (m .payload) ++ lowFirst 2 (m .crc) ≡ covered (n .id) (n .payload) ++ lowFirst 2 (n .crc) =
+    let h : covered (m .id) (m .payload) ++ lowByteFirst 2 (m .crc) ≡ covered (n .id) (n .payload) ++ lowByteFirst 2 (n .crc) =
     sym (behind-mark mark some m) ∙ ap (drop (length mark)) e ∙ behind-mark mark some n in
     let short = lm .short in
     let short′ = ln .short in
     let i : m .id ≡ n .id = low-inj 2 (m .id) (n .id) (lm .id) (ln .id) (ap (take 2) h) in
     let l : length (m .payload) ≡ length (n .payload) = low-inj 2 (length (m .payload)) (length (n .payload)) (omega arith) (omega arith) (ap (λ (s : List ℕ). take 2 (drop 2 s)) h) in
-    let q = cut-same (m .payload) (n .payload) (lowFirst 2 (m .crc)) (lowFirst 2 (n .crc)) l (ap (drop 4) h) in
+    let q = cut-same (m .payload) (n .payload) (lowByteFirst 2 (m .crc)) (lowByteFirst 2 (n .crc)) l (ap (drop 4) h) in
     same (m .id) (n .id) (m .payload) (n .payload) (m .crc) (n .crc) i (q .0) (low-inj 2 (m .crc) (n .crc) (lm .crc) (ln .crc) (q .1))
   where
     same : (a b : ℕ) (c d : List ℕ) (x y : ℕ) → a ≡ b → c ≡ d → x ≡ y
@@ -248,7 +248,7 @@ module _ (s : List ℕ) where
 pub body-inside : (s : List ℕ) → bodyLen s ≤ length s
 body-inside = inside body-right
 
-pub crc-tested : (u e : List ℕ) (x : ℕ) → e ≡ lowFirst 2 x → x ≡ check nestCrc (part 0 (length u - 2) u)
+pub crc-tested : (u e : List ℕ) (x : ℕ) → e ≡ lowByteFirst 2 x → x ≡ check nestCrc (part 0 (length u - 2) u)
     → starts e (part (length u - 2) (length u) u) ≡ crcPasses u
 unfolding crcPasses
 crc-tested u e x f g = rw (f, g, part-front (length u - 2) u, part-rest (length u - 2) u)

@@ -13,7 +13,7 @@ use Rattle.digits.proofs.Laws.Tests.{T-and, T-true}
 use Rattle.digits.specs.Paper.Ascii.{ascii}
 use Rattle.digits.specs.Paper.Decimal.{decimal}
 use Rattle.digits.specs.Paper.Hex.{hexByte, hexWord, hexBytes, hexDigit}
-use Rattle.digits.specs.Paper.LowFirst.{lowFirst}
+use Rattle.digits.specs.Paper.LowFirst.{lowByteFirst}
 use Rattle.layouts.specs.Paper.Chars.{all}
 use Rattle.layouts.specs.Paper.Layout.{bytesOf, Form}
 use Rattle.layouts.specs.Paper.Starts.{firstThree, nikobusStarts, nestStarts, nibeStarts, homiqStarts}
@@ -69,13 +69,13 @@ nikobus-begun f r = go (r .fields) (r .limits) (r .laid)
     go N.tail N.tail-limits e = begun nikobusTest f (bytesOf N.nikobus N.tail) e (omega arith) refl
 
 pub nest-begun : (d : Direction) (f : List ℕ) → Form (nests.nest d) f → Begun (nestStarts d) f
-unfolding nestStarts lowFirst
+unfolding nestStarts lowByteFirst
 nest-begun Command f r =
     let m = r .fields in
-    begun (λ a b c. eqb a 0xD5 && (eqb b 0xAA && eqb c 0x96)) f (bytesOf (nests.nest Command) m) (r .laid) (omega (arith, length-append (m .payload) (lowFirst 2 (m .crc)))) refl
+    begun (λ a b c. eqb a 0xD5 && (eqb b 0xAA && eqb c 0x96)) f (bytesOf (nests.nest Command) m) (r .laid) (omega (arith, length-append (m .payload) (lowByteFirst 2 (m .crc)))) refl
 nest-begun Response f r =
     let m = r .fields in
-    begun (λ a b c. eqb a 0xD5 && (eqb b 0xD5 && eqb c 0xAA)) f (bytesOf (nests.nest Response) m) (r .laid) (omega (arith, length-append (m .payload) (lowFirst 2 (m .crc)))) refl
+    begun (λ a b c. eqb a 0xD5 && (eqb b 0xD5 && eqb c 0xAA)) f (bytesOf (nests.nest Response) m) (r .laid) (omega (arith, length-append (m .payload) (lowByteFirst 2 (m .crc)))) refl
 
 -- the commands all begin with 6
 sixes : T (all (λ c. eqb (c / 16) 6) nibes.commands)

@@ -26,7 +26,7 @@ pub record Homiq : Type 0 where
 unfoldable pub fieldChar : ℕ → Bool
 fieldChar c = leb 0x21 c && (leb c 0x7E && not (oneOf (ascii ";<>") c))
 
--- a field of 1 to so many characters
+-- a field of 1 to `most` characters
 pub record Field (most : ℕ) (w : List ℕ) : Type 0 where
   pub some : 1 ≤ length w
   pub short : length w ≤ most
@@ -69,9 +69,9 @@ abbrev pub joined : Homiq → List ℕ
 joined m = m .cmd ++ m .val ++ m .src ++ m .dst ++ decimal (m .id) ++ (m .type ∷ [])
 
 -- the payload's characters without its separators: all but `;`
-unfoldable pub kept : List ℕ → List ℕ
-kept [] = []
-kept (x ∷ s) = cond (eqb x 59) (kept s) (x ∷ kept s)
+unfoldable pub withoutSeparators : List ℕ → List ℕ
+withoutSeparators [] = []
+withoutSeparators (x ∷ s) = cond (eqb x 59) (withoutSeparators s) (x ∷ withoutSeparators s)
 
 -- "The CRC covers the six fields joined without separators"
 abbrev pub Passes : Homiq → Type 0

@@ -32,13 +32,13 @@ pub record Form (l : Layout) (f : List ℕ) : Type 0 where
   pub laid : f ≡ bytesOf l fields
 
 -- f is a frame: it is laid out so, and its check values are right
-pub record Frame (l : Layout) (f : List ℕ) : Type 0 where
+pub record FrameBy (l : Layout) (f : List ℕ) : Type 0 where
   pub form : Form l f
   pub passes : l .Passes (form .fields)
 
--- A frame of n bytes stands at the head of s, and its payload goes from one place in it to another; zeros where none
+-- A frame of n bytes stands at the head of s, and its payload goes from one place in it to another; zeros if none
 -- stands there.
 pub data Leads (l : Layout) (s : List ℕ) : (n from to : ℕ) → Type 0 where
-  leads : {n : ℕ} → n ≤ length s → (f : Frame l (take n s))
+  leads : {n : ℕ} → n ≤ length s → (f : FrameBy l (take n s))
       → Leads l s n (payloadFrom l (f .form .fields)) (payloadTo l (f .form .fields))
-  none : ((n : ℕ) → n ≤ length s → Frame l (take n s) → ⊥) → Leads l s 0 0 0
+  none : ((n : ℕ) → n ≤ length s → FrameBy l (take n s) → ⊥) → Leads l s 0 0 0

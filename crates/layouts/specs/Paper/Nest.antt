@@ -6,7 +6,7 @@ use mathlib.Core.Path.{_≡_}
 use Prim.Native.Nat.{ℕ, _≤_}
 use lib.ListN.{length}
 use Rattle.digits.specs.Paper.Bytes.{Bytes}
-use Rattle.digits.specs.Paper.LowFirst.{SixteenBits, lowFirst}
+use Rattle.digits.specs.Paper.LowFirst.{SixteenBits, lowByteFirst}
 use Rattle.checks.specs.Paper.Buses.{nestCrc}
 use Rattle.checks.specs.Paper.Check.{check}
 use Rattle.layouts.specs.Paper.Layout.{Layout}
@@ -25,7 +25,7 @@ preamble Response = 0xD5 ∷ 0xD5 ∷ 0xAA ∷ 0x96 ∷ []
 
 -- the preamble, then "id and length, 16 bits each, low byte first"
 abbrev pub before : List ℕ → Nest → List ℕ
-before mark m = mark ++ lowFirst 2 (m .id) ++ lowFirst 2 (length (m .payload))
+before mark m = mark ++ lowByteFirst 2 (m .id) ++ lowByteFirst 2 (length (m .payload))
 
 -- 01, Search: "Nest's payload"
 abbrev pub payload : Nest → List ℕ
@@ -33,7 +33,7 @@ payload m = m .payload
 
 -- "CRC, low byte first"
 abbrev pub behind : Nest → List ℕ
-behind m = lowFirst 2 (m .crc)
+behind m = lowByteFirst 2 (m .crc)
 
 -- "payload 0 to 1,024 bytes"
 abbrev pub leastPayload : ℕ
@@ -51,7 +51,7 @@ pub record Limits (m : Nest) : Type 0 where
 
 -- "id, length and payload"
 abbrev pub covered : ℕ → List ℕ → List ℕ
-covered i p = lowFirst 2 i ++ lowFirst 2 (length p) ++ p
+covered i p = lowByteFirst 2 i ++ lowByteFirst 2 (length p) ++ p
 
 -- "CRC .. over id, length and payload"
 abbrev pub Passes : Nest → Type 0

@@ -7,7 +7,7 @@ use lib.Dec.{eqb, leb, ltb}
 use lib.ListN.{length, take, drop}
 use Rattle.layouts.specs.Paper.Chars.{all}
 
--- n where the test holds, else 0
+-- n if the test holds, else 0
 unfoldable pub onlyIf : Bool → ℕ → ℕ
 onlyIf true n = n
 onlyIf false n = 0
@@ -38,7 +38,7 @@ unfoldable pub leading : (ℕ → Bool) → List ℕ → ℕ
 leading f [] = 0
 leading f (x ∷ s) = cond (f x) (suc (leading f s)) 0
 
--- a place and a length behind it; 0 where either is
+-- a place and a length behind it; 0 if either is
 unfoldable pub on : ℕ → ℕ → ℕ
 on zero n = 0
 on (suc a) zero = 0
@@ -57,6 +57,6 @@ abbrev pub orElse : ℕ → ℕ → ℕ
 orElse zero m = m
 orElse (suc n) m = suc n
 
--- f, where what it found passes a test
+-- f, if what it found passes a test
 abbrev pub passing : (List ℕ → ℕ) → (List ℕ → Bool) → List ℕ → ℕ
 passing f test s = onlyIf (test (take (f s) s)) (f s)

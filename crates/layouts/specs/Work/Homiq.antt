@@ -12,10 +12,10 @@ use Rattle.digits.specs.Work.Decimal.{guess}
 use Rattle.checks.specs.Paper.Buses.{homiqCrc}
 use Rattle.checks.specs.Paper.Check.{check}
 use Rattle.layouts.specs.Paper.Chars.{CR, LF}
-use Rattle.layouts.specs.Paper.Homiq.{fieldChar, firstId, lastId, kept}
+use Rattle.layouts.specs.Paper.Homiq.{fieldChar, firstId, lastId, withoutSeparators}
 use Rattle.layouts.specs.Work.Heads.{onlyIf, wordLen, leading, andThen, orElse}
 
--- a field of at most so many characters, and `;`
+-- a field of at most `most` characters, and `;`
 unfoldable pub fieldLen : ℕ → List ℕ → ℕ
 fieldLen most s =
     let n = leading fieldChar (take (most + 1) s) in
@@ -43,12 +43,14 @@ typeLen s = orElse (wordLen (ascii "s;") s) (wordLen (ascii "a;") s)
 unfoldable pub headLen : List ℕ → ℕ
 headLen =
     andThen (andThen (andThen (andThen (andThen (andThen (wordLen (ascii "<;"))
-    (λ _. fieldLen 8)) (λ _. fieldLen 16)) (λ _. fieldLen 4)) (λ _. fieldLen 4)) (λ _. numberLen firstId lastId)) (λ _. typeLen)
+    (λ _. fieldLen 8)) (λ _. fieldLen 16)) (λ _. fieldLen 4)) (λ _. fieldLen 4)) (λ _. numberLen firstId lastId))
+    (λ _. typeLen)
 
 -- CMD `;` VAL `;` SRC `;` DST `;` ID `;`: a payload but for its last character
 unfoldable pub fiveLen : List ℕ → ℕ
 fiveLen =
-    andThen (andThen (andThen (andThen (fieldLen 8) (λ _. fieldLen 16)) (λ _. fieldLen 4)) (λ _. fieldLen 4)) (λ _. numberLen firstId lastId)
+    andThen (andThen (andThen (andThen (fieldLen 8) (λ _. fieldLen 16)) (λ _. fieldLen 4)) (λ _. fieldLen 4))
+    (λ _. numberLen firstId lastId)
 
 -- .. CRC `;` `>` CR LF
 unfoldable pub homiqFormLen : List ℕ → ℕ
@@ -56,7 +58,7 @@ homiqFormLen = andThen (andThen headLen (λ _. numberLen 0 255)) (λ _. wordLen 
 
 -- the number behind TYPE is the CRC of what stands from CMD to there, the separators left out
 unfoldable pub homiqPasses : List ℕ → Bool
-homiqPasses w = eqb (numberIn (drop (headLen w) w)) (check homiqCrc (kept (part 2 (headLen w) w)))
+homiqPasses w = eqb (numberIn (drop (headLen w) w)) (check homiqCrc (withoutSeparators (part 2 (headLen w) w)))
 
 -- where the payload of what is laid out so begins and ends
 abbrev pub homiqFrom : List ℕ → ℕ

@@ -5,7 +5,7 @@ use mathlib.Core.List.{List}
 use Prim.Native.Nat.{ℕ, _+_, _-_, _*_}
 use lib.Dec.{leb}
 use lib.ListN.{length, getD, take, drop}
-use Rattle.digits.specs.Paper.LowFirst.{lowFirst}
+use Rattle.digits.specs.Paper.LowFirst.{lowByteFirst}
 use Rattle.checks.specs.Paper.Buses.{nestCrc}
 use Rattle.checks.specs.Paper.Check.{check}
 use Rattle.layouts.specs.Work.Heads.{onlyIf, starts, wordLen, bytesLen, andThen}
@@ -24,7 +24,7 @@ nestFormLen mark = andThen (wordLen mark) (λ _. bodyLen)
 
 -- of what stands behind the preamble, the last two bytes are the CRC of the others
 unfoldable pub crcPasses : List ℕ → Bool
-crcPasses u = starts (lowFirst 2 (check nestCrc (take (length u - 2) u))) (drop (length u - 2) u)
+crcPasses u = starts (lowByteFirst 2 (check nestCrc (take (length u - 2) u))) (drop (length u - 2) u)
 
 unfoldable pub nestPasses : List ℕ → List ℕ → Bool
 nestPasses mark w = crcPasses (drop (length mark) w)

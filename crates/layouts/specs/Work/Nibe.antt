@@ -19,7 +19,8 @@ nibeFormLen s =
     (onlyIf (oneOf commands (getD s 1 0))
     (bytesLen (getD s 2 0 + 4) s))
 
--- the last byte is the check value of the length and the data (as the code has it: the check of x^8 + 1, which is their XOR)
+-- the last byte is the check value of the length and the data (as the code has it: the check of x^8 + 1, which is
+-- their XOR)
 unfoldable pub nibePasses : List ℕ → Bool
 nibePasses w = eqb (getD w (length w - 1) 0) (check nibeXor (part 2 (length w - 1) w))
 

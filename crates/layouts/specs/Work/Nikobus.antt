@@ -28,7 +28,7 @@ bytesOf (x ∷ y ∷ s) = hexPair x y ∷ bytesOf s
 abbrev pub digitsLen : ℕ → List ℕ → ℕ
 digitsLen k s = runLen isHex k s
 
--- LL, where `$` and two digits stand at the head and LL may be so; else 0
+-- LL, if `$` and two digits stand at the head and LL is allowed; else 0
 unfoldable pub llOf : List ℕ → ℕ
 llOf s =
     let ll = hexPair (getD s 1 0) (getD s 2 0) in

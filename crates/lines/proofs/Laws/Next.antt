@@ -10,12 +10,12 @@ use lib.ListN.{length}
 use lib.Seq.{sets}
 use borrow.Author.Tests.{leb-true, not-true, not-false}
 use Rattle.digits.specs.Paper.Bytes.{part}
-use Rattle.digits.specs.Paper.Refusals.{order, First, clear, here, after, Answers, answers, refuses}
+use Rattle.digits.specs.Paper.Refusals.{refusalOrder, First, clear, here, after, Answers, answers, refuses}
 use Rattle.digits.specs.declared.refusal.Refusal.{Refusal}
-use Rattle.digits.specs.declared.refusal.Refusal.the-variants.{Room}
+use Rattle.digits.specs.declared.refusal.Refusal.the-variants.{NoRoom}
 use Rattle.digits.proofs.Laws.Parts.{length-part, part-of-part}
 use Rattle.digits.proofs.Laws.Refusals.{answered, cause-of, cause-at, pass-over, some-number, refused-zeros}
-use Rattle.puts.specs.Paper.Put.{Put, last}
+use Rattle.puts.specs.Paper.Put.{Put, largestPlace}
 use Rattle.puts.specs.declared.Written.{Written}
 use Rattle.puts.specs.declared.Written.the-variants.{Bytes, Refused as Unwritten}
 use Rattle.frames.specs.Paper.Search as hits
@@ -28,8 +28,8 @@ use Rattle.messages.specs.Paper.Message.{Message}
 use Rattle.messages.specs.Paper.Says.{Says}
 use Rattle.messages.specs.Paper.Table.{Good}
 use Rattle.messages.specs.declared.Message.{Message as Coded}
-use Rattle.messages.specs.declared.Seen.{Seen}
-use Rattle.messages.specs.declared.Seen.the-variants.{At as SeenAt, Refused as Unseen}
+use Rattle.messages.specs.declared.FoundMessage.{FoundMessage}
+use Rattle.messages.specs.declared.FoundMessage.the-variants.{At as SeenAt, Refused as NotFound}
 use Rattle.messages.proofs.Laws.Cases.{search-in, found-in, search-refused}
 use Rattle.messages.proofs.Laws.Decode.{inside}
 use Rattle.messages.proofs.Laws.Find.{in-buffer, behind-start, payloaded}
@@ -62,7 +62,7 @@ line-of-said {f = f} {e = e} place c x same =
     record { message = x .message; stands = x .stands; is = put-said e c place (length f) (x .message) (x .stands .good .limits) (beside-says x same) }
 
 -- and no longer than the bound
-pub said-bounded : {k : ℕ} {f : List ℕ} {e : Coded} {from to at len : ℕ} (c : List ℕ) → Said k f e from to → c ≡ part from to f → at ≤ last → len ≤ last
+pub said-bounded : {k : ℕ} {f : List ℕ} {e : Coded} {from to at len : ℕ} (c : List ℕ) → Said k f e from to → c ≡ part from to f → at ≤ largestPlace → len ≤ largestPlace
     → Bounded (put e c at len) (length c)
 said-bounded {e = e} c x same h k = line-bounded e c h k (line-of-message e c (x .stands .good) (beside-says x same))
 
@@ -88,7 +88,7 @@ module _ {k : ℕ} {s : List ℕ} {place : ℕ} where
 
   pub hit-found : {start len from to : ℕ} → Leftmost k s place (record { start = start; len = len; from = from; to = to })
       → Searches k s place (Hit start len from to)
-  hit-found l = answers (pass-over (λ n. false) (λ n e c. not-refused l c) order clear) l
+  hit-found l = answers (pass-over (λ n. false) (λ n e c. not-refused l c) refusalOrder clear) l
 
   -- what is found has one line
   pub one-found-line : (u v : hits.Hit) {a b : List ℕ} → Leftmost k s place u → Leftmost k s place v → LineOf k (framePart s u) (u .start) a
@@ -101,17 +101,17 @@ module _ {k : ℕ} {s : List ℕ} {place : ℕ} where
       only i e (searched c) = not-refused l c
       only i e (short m p h) = true≢false e
 
-      enough : length t ≤ left → First (NextCause k s place left) order 0
-      enough h = pass-over (λ i. eqb i 4) only order (after fits clear)
+      enough : length t ≤ left → First (NextCause k s place left) refusalOrder 0
+      enough h = pass-over (λ i. eqb i 4) only refusalOrder (after fits clear)
         where
           fits : NextCause k s place left 4 → ⊥
           fits (searched c) = not-refused l c
           fits (short {v = u} m p g) = let e = ap length (one-found-line u v m l p o) in omega arith
 
-      too-few : left < length t → First (NextCause k s place left) order 4
-      too-few h = pass-over (λ i. eqb i 4) only order (here (short l o h))
+      too-few : left < length t → First (NextCause k s place left) refusalOrder 4
+      too-few h = pass-over (λ i. eqb i 4) only refusalOrder (here (short l o h))
 
-    refusing : {n : ℕ} → 0 < n → First (SearchCause k s place) order n → First (NextCause k s place left) order n
+    refusing : {n : ℕ} → 0 < n → First (SearchCause k s place) refusalOrder n → First (NextCause k s place left) refusalOrder n
     refusing {n} h f = first-at searched back f
       where
         back : (i : ℕ) → NextCause k s place left i → SearchCause k s place i
@@ -120,7 +120,7 @@ module _ {k : ℕ} {s : List ℕ} {place : ℕ} where
 
     -- where the room is long enough for whatever is found, the search alone refuses
     pub refused-by-search : ((v : hits.Hit) (t : List ℕ) → Leftmost k s place v → LineOf k (framePart s v) (v .start) t → length t ≤ left) → {n : ℕ}
-        → First (NextCause k s place left) order n → First (SearchCause k s place) order n
+        → First (NextCause k s place left) refusalOrder n → First (SearchCause k s place) refusalOrder n
     refused-by-search roomy {n} f = first-at (of n) (λ i. searched) f
       where
         of : (i : ℕ) → NextCause k s place left i → SearchCause k s place i
@@ -158,13 +158,13 @@ pub by-the-bound : (sure : Bool) (beside bytes : ℕ) → sure ≡ false → 352
 by-the-bound sure beside bytes e h = go (leb beside ((bytes - 352) / 8)) refl
   where
     go : (b : Bool) → leb beside ((bytes - 352) / 8) ≡ b → Surely sure beside bytes b
-    go true q = record { told = λ f. let m = leb-true beside ((bytes - 352) / 8) q in omega arith }
-    go false q = record { told = e }
+    go true q = record { may-put = λ f. let m = leb-true beside ((bytes - 352) / 8) q in omega arith }
+    go false q = record { may-put = e }
 
 -- ---- what is found
 
 module _ {k : ℕ} {s : List ℕ} {place : ℕ} where
-  module _ {start len from to : ℕ} (r : Seen) {e : Coded} (a : Finds k s place r) (q : r ≡ SeenAt start len from to e) where
+  module _ {start len from to : ℕ} (r : FoundMessage) {e : Coded} (a : Finds k s place r) (q : r ≡ SeenAt start len from to e) where
     seen : Finds k s place (SeenAt start len from to e)
     seen = subst (Finds k s place) q a
 
@@ -191,11 +191,11 @@ module _ {k : ℕ} {s : List ℕ} {place : ℕ} where
         let n : length f ≡ len = length-part start (start + len) s (omega arith) (x .3) ∙ omega arith in
         subst (λ (i : ℕ). LineOf k f start (put e (part from to s) start i)) n (line-of-said start (part from to s) (found-in seen) payload-of)
 
-    found-bounded : length s ≤ last → Bounded (put e (part from to s) start len) (length (part from to s))
+    found-bounded : length s ≤ largestPlace → Bounded (put e (part from to s) start len) (length (part from to s))
     found-bounded h =
         let x = found-inside in said-bounded (part from to s) (found-in seen) payload-of (omega (arith, x .3)) (omega (arith, x .3))
 
-    pub tried-put : length s ≤ last → {sure : Bool} {room later : List ℕ} {place-to behind left : ℕ} (b : Bool) → Surely sure (to - from) left b
+    pub tried-put : length s ≤ largestPlace → {sure : Bool} {room later : List ℕ} {place-to behind left : ℕ} (b : Bool) → Surely sure (to - from) left b
         → not b ≡ false → left ≡ length room - place-to → Put room later place-to behind (put e (part from to s) start len)
         → Tries k s place sure room place-to (TriedAt start len behind) later
     tried-put h {sure} {left = left} b y i l p =
@@ -209,16 +209,16 @@ module _ {k : ℕ} {s : List ℕ} {place : ℕ} where
             text = put e (part from to s) start len;
             line = found-line;
             put = p;
-            fits = λ q. let m = subst (Surely sure (to - from) left) (not-false b i) y .told q in omega (arith, found-bounded h .most, n);
+            fits = λ q. let m = subst (Surely sure (to - from) left) (not-false b i) y .may-put q in omega (arith, found-bounded h .most, n);
           };
         }
 
     pub tried-unsure : {sure : Bool} {room : List ℕ} {place-to beside left : ℕ} (b : Bool) → Surely sure beside left b → not b ≡ true
         → Tries k s place sure room place-to (Unsure start) room
     tried-unsure {sure} {beside = beside} {left = left} b y i =
-        record { comes = (subst (Surely sure beside left) (not-true b i) y .told, refl, (record { start = start; len = len; from = from; to = to }, answered (search-in seen) refl, refl)) }
+        record { comes = (subst (Surely sure beside left) (not-true b i) y .may-put, refl, (record { start = start; len = len; from = from; to = to }, answered (search-in seen) refl, refl)) }
 
-  pub tried-refused : (r : Seen) {why : Refusal} → Finds k s place r → r ≡ Unseen why → {sure : Bool} {room : List ℕ} {to : ℕ}
+  pub tried-refused : (r : FoundMessage) {why : Refusal} → Finds k s place r → r ≡ NotFound why → {sure : Bool} {room : List ℕ} {to : ℕ}
       → Tries k s place sure room to (TriedRefused why) room
   tried-refused r {why} a q = record { comes = (search-refused why (subst (Finds k s place) q a), refl) }
 
@@ -233,7 +233,7 @@ module _ {k : ℕ} {s : List ℕ} {place : ℕ} {sure : Bool} {room : List ℕ} 
   put-anyway {v} {t} e l o = go r (x .comes)
     where
       go : (r : Tried) → Comes k s place sure room to r later → later ≡ sets room to t
-      go (TriedAt start len behind) c = c .put .holds ∙ ap (sets room to) (one-found-line _ v (c .found) l (c .line) o)
+      go (TriedAt start len behind) c = c .put .room-is ∙ ap (sets room to) (one-found-line _ v (c .found) l (c .line) o)
       go (Unsure start) c = absurd (true≢false (sym e ∙ c .0))
       go (TriedRefused why) c = absurd (not-refused l (cause-at (cause-of (c .0)) (some-number why)))
 
@@ -244,19 +244,19 @@ module _ {k : ℕ} {s : List ℕ} {place : ℕ} {sure : Bool} {room : List ℕ} 
     tried-at : Clipped k s place sure room to (record { start = start; len = len; behind = behind }) later
     tried-at = in-case e
 
-    pub size-tried : to ≡ 0 → length s ≤ last → Measures k s place (SizedAt start len behind)
+    pub size-tried : to ≡ 0 → length s ≤ largestPlace → Measures k s place (SizedAt start len behind)
     size-tried z h =
         let c = tried-at in
         let few : start < 10 ^ 20 = omega (arith, c .found .stands .inside) in
         answers {v = record { start = start; len = len; size = behind }} (cause-of (hit-found (c .found)))
         (record { from = c .from; end = c .end; found = c .found; text = c .text; line = c .line; size-is = omega (arith, c .put .behind, line-most few (c .line)) })
 
-    pub next-tried : sure ≡ false → to ≤ last → PutsNext k s place room to (At start len behind) later
+    pub next-tried : sure ≡ false → to ≤ largestPlace → PutsNext k s place room to (At start len behind) later
     next-tried h l =
         let c = tried-at in
         let f = c .fits h in
         answers {v = (record { start = start; len = len; behind = behind }, later)} (enough (c .found) (c .line) f)
-        (record { from = c .from; end = c .end; found = c .found; text = c .text; line = c .line; behind-is = omega (arith, c .put .behind, c .put .slice); room-is = c .put .holds })
+        (record { from = c .from; end = c .end; found = c .found; text = c .text; line = c .line; behind-is = omega (arith, c .put .behind, c .put .slice); room-is = c .put .room-is })
 
   module _ {why : Refusal} (e : r ≡ TriedRefused why) where
     pub next-refused : PutsNext k s place room to (Refused why) later
@@ -274,7 +274,7 @@ module _ {k : ℕ} {s : List ℕ} {place : ℕ} (r : Measured) (m : Measures k s
     size-next : NextSize k s place (record { start = start; len = len; size = size })
     size-next = answered (subst (Measures k s place) e m) refl
 
-    pub measured-short : {room : List ℕ} {to left : ℕ} → left ≡ length room - to → left < size → PutsNext k s place room to (Refused Room) room
+    pub measured-short : {room : List ℕ} {to left : ℕ} → left ≡ length room - to → left < size → PutsNext k s place room to (Refused NoRoom) room
     measured-short l h = let z = size-next in refuses (lit< tt) (too-few (z .found) (z .line) (omega (arith, z .size-is)))
 
     pub measured-put : {room later : List ℕ} {to left : ℕ} → left ≡ length room - to → size ≤ left → (t : Tried) → Tries k s place true room to t later

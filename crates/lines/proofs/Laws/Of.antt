@@ -8,9 +8,9 @@ use native.Mathlib.Omega.{arith}
 use lib.Dec.{lit<}
 use lib.ListN.{length}
 use lib.Seq.{sets}
-use Rattle.digits.specs.Paper.Refusals.{order, First, answers, refuses}
+use Rattle.digits.specs.Paper.Refusals.{refusalOrder, First, answers, refuses}
 use Rattle.digits.specs.declared.refusal.Refusal.{Refusal}
-use Rattle.digits.specs.declared.refusal.Refusal.the-variants.{Limits as OutsideLimits}
+use Rattle.digits.specs.declared.refusal.Refusal.the-variants.{OutOfLimits}
 use Rattle.digits.proofs.Laws.Refusals.{answered, cause-at, cause-of, some-number}
 use Rattle.messages.specs.Paper.Allowed.{StandingCause, outside, taken, Allows}
 use Rattle.messages.specs.Paper.Meant.{ContentWith, MessageWith, Means}
@@ -26,7 +26,7 @@ use Rattle.messages.specs.declared.Tag.{Tag}
 use Rattle.messages.proofs.Laws.Meant.{one-content-with, says-with, meant-in}
 use Rattle.messages.proofs.Laws.Says.{one-said}
 use Rattle.messages.proofs.Laws.Table.{one-message}
-use Rattle.puts.specs.Paper.Put.{last, Put}
+use Rattle.puts.specs.Paper.Put.{largestPlace, Put}
 use Rattle.puts.specs.declared.Written.{Written}
 use Rattle.puts.specs.declared.Written.the-variants.{Refused as Unwritten}
 use Rattle.puts.proofs.Laws.Right.{ours, first-5, first-4, no-cause}
@@ -65,8 +65,8 @@ pub one-put-content : {t : Tag} {p : List ℕ} {at len : ℕ} {room : List ℕ} 
     → PutContent t p at len room to (v .0) (v .1) → u ≡ v
 one-put-content {t} {p} {room = room} {to = to} u v a b =
     let e : a .text ≡ b .text = one-line-said (one-has t p) (a .text) (b .text) (a .line) (b .line) in
-    ap₂ (λ (n : ℕ) (x : List ℕ). (n, x)) (a .put .behind ∙ ap (λ (x : List ℕ). min (to + length x) last) e ∙ sym (b .put .behind))
-    (a .put .holds ∙ ap (sets room to) e ∙ sym (b .put .holds))
+    ap₂ (λ (n : ℕ) (x : List ℕ). (n, x)) (a .put .behind ∙ ap (λ (x : List ℕ). min (to + length x) largestPlace) e ∙ sym (b .put .behind))
+    (a .put .room-is ∙ ap (sets room to) e ∙ sym (b .put .room-is))
 
 -- ---- the causes
 
@@ -79,13 +79,13 @@ module _ {IsSaid : Message → Type 0} {at len left : ℕ} where
     message-there : SaidCause IsSaid at len left 5 → ⊥
     message-there (no-message f) = f (l .message) (l .good) (l .said)
 
-    enough : OneSaid IsSaid → length t ≤ left → First (SaidCause IsSaid at len left) order 0
+    enough : OneSaid IsSaid → length t ≤ left → First (SaidCause IsSaid at len left) refusalOrder 0
     enough one h = no-cause only message-there fits
       where
         fits : SaidCause IsSaid at len left 4 → ⊥
         fits (short {t = u} o g) = let n : length u ≡ length t = ap length (one-line-said one u t o l) in omega arith
 
-    too-few : left < length t → First (SaidCause IsSaid at len left) order 4
+    too-few : left < length t → First (SaidCause IsSaid at len left) refusalOrder 4
     too-few h = first-4 only message-there (short l h)
 
 -- a message that is refused is none of the table
@@ -106,7 +106,7 @@ module _ (e : Coded) (s : List ℕ) (r : Standing) (a : Allows e s r) {at len : 
   pub allowed-line : r ≡ InTable → LineSaid (Says e s) at len (put e s at len)
   allowed-line q = let x = answered (subst (Allows e s) q a) refl in line-of-message e s (x .2) (x .1)
 
-  pub not-allowed : {why : Refusal} {room : List ℕ} {to : ℕ} → r ≡ Refused why → WritesSaid (Says e s) at len room to (Unwritten OutsideLimits) room
+  pub not-allowed : {why : Refusal} {room : List ℕ} {to : ℕ} → r ≡ Refused why → WritesSaid (Says e s) at len room to (Unwritten OutOfLimits) room
   not-allowed {why} q =
       refuses (lit< tt) (first-5 only (no-message (none-said e s (cause-at (cause-of (subst (Allows e s) q a)) (some-number why)))))
 

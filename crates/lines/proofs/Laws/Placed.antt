@@ -8,9 +8,9 @@ use native.Mathlib.Omega.{arith}
 use lib.Dec.{leb, lit<}
 use lib.ListN.{length}
 use borrow.Author.Tests.{leb-true, leb-false, le-leb, not-true, not-false}
-use Rattle.digits.specs.declared.refusal.Refusal.the-variants.{Room}
+use Rattle.digits.specs.declared.refusal.Refusal.the-variants.{NoRoom}
 use Rattle.digits.proofs.Laws.Stores.{sets-front}
-use Rattle.puts.specs.Paper.Put.{Put, last}
+use Rattle.puts.specs.Paper.Put.{Put, largestPlace}
 use Rattle.puts.specs.Paper.Wrote.{wrote, refused, RoomCause, Writes}
 use Rattle.puts.specs.declared.Written.{Written}
 use Rattle.puts.specs.declared.Written.the-variants.{Bytes, Refused}
@@ -23,17 +23,17 @@ use Rattle.lines.specs.Work.Tried.{Surely}
 -- a line that is shorter than what is left, by the bound
 pub surely : {t : List ℕ} {beside left : ℕ} (b : Bool) → Bounded t beside → Surely false beside left b → b ≡ true → true ≡ leb (length t) left
 surely {t} {beside} {left} b x y e =
-    let m = subst (Surely false beside left) e y .told refl in sym (le-leb (length t) left (omega (arith, x .most)))
+    let m = subst (Surely false beside left) e y .may-put refl in sym (le-leb (length t) left (omega (arith, x .most)))
 
 module _ {bs room : List ℕ} {to left : ℕ} {fits : Bool} (l : left ≡ length room - to) (f : fits ≡ leb (length bs) left) where
-  pub not-placed : not fits ≡ true → AllOrNone bs room to (Refused Room) room
+  pub not-placed : not fits ≡ true → AllOrNone bs room to (Refused NoRoom) room
   not-placed e = let h : left < length bs = leb-false (length bs) left (sym f ∙ not-true fits e) in none (omega arith)
 
-  pub all-placed : {later : List ℕ} {behind : ℕ} → not fits ≡ false → Put room later to behind bs → to ≤ last → AllOrNone bs room to (Bytes (behind - to)) later
+  pub all-placed : {later : List ℕ} {behind : ℕ} → not fits ≡ false → Put room later to behind bs → to ≤ largestPlace → AllOrNone bs room to (Bytes (behind - to)) later
   all-placed {behind = behind} e p k =
       let h : length bs ≤ left = leb-true (length bs) left (sym f ∙ not-false fits e) in
       let n : behind - to ≡ length bs = omega (arith, p .behind, p .slice) in
-      rw (n, p .holds) (all (omega arith))
+      rw (n, p .room-is) (all (omega arith))
 
 -- ---- what is written then
 

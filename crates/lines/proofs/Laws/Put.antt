@@ -9,7 +9,7 @@ use Rattle.json.specs.Paper.Json.{Member, member, number, further, object}
 use Rattle.messages.specs.Paper.Message.{Message, name}
 use Rattle.puts.specs.Paper.Put.{Put}
 use Rattle.puts.proofs.Laws.Puts.{puts-as}
-use Rattle.lines.specs.Paper.Line.{highFirst, members, line}
+use Rattle.lines.specs.Paper.Line.{highByteFirst, members, line}
 use Rattle.lines.specs.Work.Put.{commaed, named}
 
 -- nothing behind the last piece
@@ -17,7 +17,7 @@ pub last-put : {r s us : List ℕ} {a b : ℕ} → Put r s a b us → Put r s a 
 last-put {us = us} p = puts-as (sym (append-nil us)) p
 
 -- "a Nikobus module address is shown high byte first": the digits of its number
-pub word-shown : (a : ℕ) → hexWord a ≡ hexBytes (highFirst a)
+pub word-shown : (a : ℕ) → hexWord a ≡ hexBytes (highByteFirst a)
 unfolding hexWord hexBytes hexByte
 word-shown a = refl
 

@@ -9,19 +9,21 @@ use lib.ListN.{length}
 use borrow.Author.Tests.{ltb-true, ltb-false, le-ltb}
 use Rattle.digits.specs.Paper.Ascii.{ascii}
 use Rattle.digits.specs.Paper.Hex.{hexBytes}
-use Rattle.digits.specs.declared.refusal.Refusal.the-variants.{Limits as Limit}
+use Rattle.digits.specs.declared.refusal.Refusal.the-variants.{OutOfLimits}
 use Rattle.json.specs.Paper.Json.{Member, number, hex}
 use Rattle.layouts.specs.Paper.Made.{Wire, Payload}
 use Rattle.messages.specs.Paper.Message.{Message, link, state}
 use Rattle.messages.specs.Paper.Panel.{ReadsVolts}
-use Rattle.messages.specs.Paper.Says.{ofNikobus, ofResponse, ofHomiq, SaysNikobus, digits, fixed, SaysHomiq, Says}
+use Rattle.messages.specs.Paper.Says.{ofNikobus, ofResponse, ofHomiq, SaysNikobus, a-link, another, SaysHomiq, Says}
 use Rattle.messages.specs.Paper.Table.{Limits, vIn, vOp, vBat}
 use Rattle.messages.specs.declared.Message.{Message as Coded}
 use Rattle.messages.specs.declared.Message.the-variants.{Nikobus as OnNikobus, Command, Response as AsResponse, Nibe as OnNibe, Homiq as OnHomiq}
 use Rattle.messages.specs.declared.homiq.Homiq.{Homiq}
-use Rattle.messages.specs.declared.homiq.Homiq.the-variants.{Output, Input, Shutter, Beat, Homiq as Rest}
+use Rattle.messages.specs.declared.homiq.Homiq.the-variants.{Output, Input, Shutter, Beat}
+use Rattle.messages.specs.declared.homiq.Homiq.the-variants as homiqCases
 use Rattle.messages.specs.declared.nest.Response.{Response}
-use Rattle.messages.specs.declared.nest.Response.the-variants.{Climate, State, Break, End, Text, Response as Other}
+use Rattle.messages.specs.declared.nest.Response.the-variants.{Climate, State, Break, End, Text}
+use Rattle.messages.specs.declared.nest.Response.the-variants as responseCases
 use Rattle.messages.specs.declared.nest.Volts.{Volts}
 use Rattle.messages.specs.declared.nest.Volts.the-variants.{Are, Refused as NoVolts}
 use Rattle.messages.specs.declared.nikobus.Nikobus.{Nikobus}
@@ -30,17 +32,17 @@ use Rattle.messages.proofs.Laws.Responses.{volts-refused, volts-read}
 use Rattle.messages.proofs.Unique.{voltages}
 use Rattle.messages.proofs.Laws.HomiqFields.{payload-cmd, payload-val, payload-src, payload-dst, payload-id, payload-type}
 use Rattle.lines.specs.Paper.Line.{members, wired, line}
-use Rattle.lines.specs.Work.Put.{commaed, named, nikobusRest, voltsMembers, stateMembers, responseRest, homiqName, fieldMembers, restOf, put}
+use Rattle.lines.specs.Work.Put.{commaed, named, nikobusNameAndMembers, voltsMembers, stateMembers, responseNameAndMembers, homiqName, fieldMembers, nameAndMembers, put}
 use Rattle.lines.proofs.Laws.Put.{line-named}
 
 -- ---- Nikobus
 
-link-rest : (p : List ℕ) → nikobusRest Link (hexBytes p) ≡ named (link p)
-unfolding nikobusRest named members commaed
+link-rest : (p : List ℕ) → nikobusNameAndMembers Link (hexBytes p) ≡ named (link p)
+unfolding nikobusNameAndMembers named members commaed
 link-rest p = ap (λ (x : List ℕ). ascii "link\",\"data\":" ++ x) (sym (append-nil (hex p)))
 
-fixed-rest : (e : Nikobus) (s : List ℕ) → (e ≡ Link → ⊥) → nikobusRest e s ≡ named (ofNikobus e [])
-unfolding nikobusRest
+fixed-rest : (e : Nikobus) (s : List ℕ) → (e ≡ Link → ⊥) → nikobusNameAndMembers e s ≡ named (ofNikobus e [])
+unfolding nikobusNameAndMembers
 fixed-rest (Read g a) s n = refl
 fixed-rest (Set g a out) s n = refl
 fixed-rest (Answer a third out) s n = refl
@@ -48,10 +50,10 @@ fixed-rest (Press d) s n = refl
 fixed-rest Tail s n = refl
 fixed-rest Link s n = absurd (n refl)
 
-nikobus-said : (e : Nikobus) (s : List ℕ) (m : Message) → SaysNikobus e s m → nikobusRest e s ≡ named m
-nikobus-said e s m (digits {p = p} f b h g) =
-    ap (λ (x : Nikobus). nikobusRest x s) f ∙ ap (nikobusRest Link) h ∙ link-rest p ∙ ap named (sym g)
-nikobus-said e s m (fixed n g) = fixed-rest e s n ∙ ap named (sym g)
+nikobus-said : (e : Nikobus) (s : List ℕ) (m : Message) → SaysNikobus e s m → nikobusNameAndMembers e s ≡ named m
+nikobus-said e s m (a-link f a) =
+    ap (λ (x : Nikobus). nikobusNameAndMembers x s) f ∙ ap (nikobusNameAndMembers Link) (a .digits) ∙ link-rest (a .payload) ∙ ap named (sym (a .is))
+nikobus-said e s m (another n g) = fixed-rest e s n ∙ ap named (sym g)
 
 -- ---- Nest
 
@@ -61,21 +63,21 @@ unfolding stateMembers voltsMembers members
 state-members s r v = go (ltb (length s) 16) refl
   where
     go : (b : Bool) → ltb (length s) 16 ≡ b → voltsMembers s r ≡ cond b [] (commaed (members (state s)))
-    go true e = ap (voltsMembers s) (voltages s r (NoVolts Limit) v (volts-refused (ltb-true (length s) 16 e)))
+    go true e = ap (voltsMembers s) (voltages s r (NoVolts OutOfLimits) v (volts-refused (ltb-true (length s) 16 e)))
     go false e = ap (voltsMembers s) (voltages s r (Are (vIn s) (vOp s) (vBat s)) v (volts-read (ltb-false (length s) 16 e) refl refl refl))
 
-state-rest : (s : List ℕ) → 16 ≤ length s → responseRest State s ≡ named (state s)
-unfolding responseRest stateMembers named
+state-rest : (s : List ℕ) → 16 ≤ length s → responseNameAndMembers State s ≡ named (state s)
+unfolding responseNameAndMembers stateMembers named
 state-rest s h = ap (λ (b : Bool). ascii "state\"" ++ cond b [] (commaed (members (state s)))) (le-ltb (length s) 16 h)
 
-response-rest : (e : Response) (s : List ℕ) → Limits (ofResponse e s) → responseRest e s ≡ named (ofResponse e s)
-unfolding responseRest
+response-rest : (e : Response) (s : List ℕ) → Limits (ofResponse e s) → responseNameAndMembers e s ≡ named (ofResponse e s)
+unfolding responseNameAndMembers
 response-rest (Climate t h) s l = refl
 response-rest State s l = state-rest s (l .enough)
 response-rest Break s l = refl
 response-rest End s l = refl
 response-rest (Text i) s l = refl
-response-rest (Other i) s l = refl
+response-rest (responseCases.Other i) s l = refl
 
 -- ---- Homiq
 
@@ -88,15 +90,15 @@ wire-rest Output w = refl
 wire-rest Input w = refl
 wire-rest Shutter w = refl
 wire-rest Beat w = refl
-wire-rest Rest w = refl
+wire-rest homiqCases.Other w = refl
 
 homiq-said : (e : Homiq) (s : List ℕ) (m : Message) → SaysHomiq e s m → homiqName e ++ commaed (fieldMembers s) ≡ named m
 homiq-said e s m x = ap (λ (ms : List Member). homiqName e ++ commaed ms) (fields-wired (x .payload)) ∙ wire-rest e (x .wire) ∙ ap named (sym (x .is))
 
 -- ---- the line
 
-rest-said : (e : Coded) (s : List ℕ) (m : Message) → Limits m → Says e s m → restOf e s ≡ named m
-unfolding restOf
+rest-said : (e : Coded) (s : List ℕ) (m : Message) → Limits m → Says e s m → nameAndMembers e s ≡ named m
+unfolding nameAndMembers
 rest-said (OnNikobus e) s m l x = nikobus-said e s m x
 rest-said (Command i) s m l x = ap named (sym x)
 rest-said (AsResponse e) s m l x = response-rest e s (subst Limits x l) ∙ ap named (sym x)

@@ -13,7 +13,7 @@ use Rattle.digits.specs.Paper.Ascii.{ascii}
 use Rattle.digits.specs.Paper.Bytes.{Bytes}
 use Rattle.digits.specs.Paper.Decimal.{decimal}
 use Rattle.digits.specs.Paper.Hex.{hexBytes}
-use Rattle.digits.specs.Paper.LowFirst.{Width, one, two, four, Held, lowFirst}
+use Rattle.digits.specs.Paper.LowFirst.{Width, one, two, four, Held, lowByteFirst}
 use Rattle.digits.proofs.Laws.Decimal.{length-some, length-decimal}
 use Rattle.digits.proofs.Laws.Hex as hexes
 use Rattle.digits.proofs.Laws.LowFirst.{width-most, length-low}
@@ -40,23 +40,26 @@ use Rattle.messages.specs.Paper.Content.{laid}
 use Rattle.messages.specs.Paper.Content as content
 use Rattle.messages.specs.Paper.Message.{Message, read, set, answer, press, tail, link, command, climate, state, break, end, text, response, ask, reply, put, done, nibe, output, input, shutter, beat, homiq, name}
 use Rattle.messages.specs.Paper.Table.{codeOf, valued, contentOf, bytes, Group, textIds, Limits, u16At, vIn, vOp, vBat}
-use Rattle.messages.specs.Paper.Says.{ofNikobus, ofResponse, ofNibe, ofHomiq, SaysNikobus, digits, fixed, Says}
+use Rattle.messages.specs.Paper.Says.{ofNikobus, ofResponse, ofNibe, ofHomiq, SaysNikobus, a-link, another, Says}
 use Rattle.messages.specs.declared.Message.{Message as Coded}
 use Rattle.messages.specs.declared.Message.the-variants.{Nikobus as OnNikobus, Command as AsCommand, Response as AsResponse, Nibe as OnNibe, Homiq as OnHomiq}
 use Rattle.messages.specs.declared.homiq.Homiq.{Homiq}
-use Rattle.messages.specs.declared.homiq.Homiq.the-variants.{Output, Input, Shutter, Beat, Homiq as Rest}
+use Rattle.messages.specs.declared.homiq.Homiq.the-variants.{Output, Input, Shutter, Beat}
+use Rattle.messages.specs.declared.homiq.Homiq.the-variants as homiqCases
 use Rattle.messages.specs.declared.nest.Response.{Response as Responded}
-use Rattle.messages.specs.declared.nest.Response.the-variants.{Climate, State, Break, End, Text, Response as Other}
+use Rattle.messages.specs.declared.nest.Response.the-variants.{Climate, State, Break, End, Text}
+use Rattle.messages.specs.declared.nest.Response.the-variants as responseCases
 use Rattle.messages.specs.declared.nibe.Nibe.{Nibe}
-use Rattle.messages.specs.declared.nibe.Nibe.the-variants.{Ask, Reply, Put, Done, Nibe as Plain}
+use Rattle.messages.specs.declared.nibe.Nibe.the-variants.{Ask, Reply, Put, Done}
+use Rattle.messages.specs.declared.nibe.Nibe.the-variants as nibeCases
 use Rattle.messages.specs.declared.nikobus.Nikobus.{Nikobus}
 use Rattle.messages.specs.declared.nikobus.Nikobus.the-variants.{Read, Set, Answer, Press, Tail, Link}
 use Rattle.messages.proofs.Theorems.{stands-bytes}
-use Rattle.puts.specs.Paper.Put.{last}
+use Rattle.puts.specs.Paper.Put.{largestPlace}
 use Rattle.json.specs.Paper.Json.{Member, _∶_, object, number, quoted, reading}
 use Rattle.json.proofs.Laws.Sizes.{length-quoted, length-hex, length-chars, length-truth, total, length-object, length-reading}
 use Rattle.lines.specs.Paper.Answers.{LineOf, LineSaid}
-use Rattle.lines.specs.Paper.Line.{highFirst, wired, members, line, lineRoom}
+use Rattle.lines.specs.Paper.Line.{highByteFirst, wired, members, line, lineRoom}
 use Rattle.lines.specs.Work.Put.{Bounded}
 
 -- ---- frames
@@ -77,7 +80,7 @@ length-nibe : (c : ℕ) (d : List ℕ) → length (laid (content.nibe c d)) ≡ 
 length-nibe c d = nibe-size (nibeOf c d)
 
 length-valued : (r w v : ℕ) → length (valued r w v) ≡ w + 2
-length-valued r w v = omega (arith, length-append (lowFirst 2 r) (lowFirst w v), length-low 2 r, length-low w v)
+length-valued r w v = omega (arith, length-append (lowByteFirst 2 r) (lowByteFirst w v), length-low 2 r, length-low w v)
 
 -- the characters of a Homiq message's four texts
 abbrev texts : Wire → ℕ
@@ -207,16 +210,16 @@ homiq-fits m w l k e f g =
 rows : (m : Message) → Limits m → Fits m (length (bytes m))
 unfolding contentOf members total all isByte
 rows (read g a) l =
-    let n : length (bytes (read g a)) ≡ 16 = length-link (codeOf 0x12 0x17 g ∷ lowFirst 2 a) ∙ omega (arith, length-low 2 a) in
-    record { short = omega arith; beside = omega arith; room = omega (arith, group-digit (l .0), length-hex (highFirst a)) }
+    let n : length (bytes (read g a)) ≡ 16 = length-link (codeOf 0x12 0x17 g ∷ lowByteFirst 2 a) ∙ omega (arith, length-low 2 a) in
+    record { short = omega arith; beside = omega arith; room = omega (arith, group-digit (l .0), length-hex (highByteFirst a)) }
 rows (set g a out) l =
-    let p : length (lowFirst 2 a ++ out ++ (0xFF ∷ [])) ≡ 9 = simp length-append (omega (arith, length-low 2 a, l .2 .six)) in
-    let n : length (bytes (set g a out)) ≡ 30 = length-link (codeOf 0x15 0x16 g ∷ (lowFirst 2 a ++ out ++ (0xFF ∷ []))) ∙ omega arith in
-    record { short = omega arith; beside = omega arith; room = omega (arith, group-digit (l .0), length-hex (highFirst a), length-hex out, l .2 .six) }
+    let p : length (lowByteFirst 2 a ++ out ++ (0xFF ∷ [])) ≡ 9 = simp length-append (omega (arith, length-low 2 a, l .2 .six)) in
+    let n : length (bytes (set g a out)) ≡ 30 = length-link (codeOf 0x15 0x16 g ∷ (lowByteFirst 2 a ++ out ++ (0xFF ∷ []))) ∙ omega arith in
+    record { short = omega arith; beside = omega arith; room = omega (arith, group-digit (l .0), length-hex (highByteFirst a), length-hex out, l .2 .six) }
 rows (answer a third out) l =
-    let p : length (lowFirst 2 a ++ (third ∷ out)) ≡ 9 = simp length-append (omega (arith, length-low 2 a, l .2 .six)) in
-    let n : length (bytes (answer a third out)) ≡ 28 = length-link (lowFirst 2 a ++ (third ∷ out)) ∙ omega arith in
-    record { short = omega arith; beside = omega arith; room = omega (arith, byte-digits (l .1), length-hex (highFirst a), length-hex out, l .2 .six) }
+    let p : length (lowByteFirst 2 a ++ (third ∷ out)) ≡ 9 = simp length-append (omega (arith, length-low 2 a, l .2 .six)) in
+    let n : length (bytes (answer a third out)) ≡ 28 = length-link (lowByteFirst 2 a ++ (third ∷ out)) ∙ omega arith in
+    record { short = omega arith; beside = omega arith; room = omega (arith, byte-digits (l .1), length-hex (highByteFirst a), length-hex out, l .2 .six) }
 rows (press d) l =
     let n : length (bytes (press d)) ≡ 9 = length-press d ∙ omega (arith, l .0) in
     record { short = omega arith; beside = omega arith; room = omega (arith, length-chars d, l .0) }
@@ -228,8 +231,8 @@ rows (command i p) l =
     let n : length (bytes (command i p)) ≡ length p + 9 = length-command i p in
     record { short = omega (arith, l .1 .short); beside = omega arith; room = omega (arith, word-digits (l .0), length-hex p) }
 rows (climate t h) l =
-    let p : length (valueBytes 2 t ++ lowFirst 2 h) ≡ 4 = simp length-append (omega (arith, value-width 2 t, length-low 2 h)) in
-    let n : length (bytes (climate t h)) ≡ 14 = length-response 0x0002 (valueBytes 2 t ++ lowFirst 2 h) ∙ omega arith in
+    let p : length (valueBytes 2 t ++ lowByteFirst 2 h) ≡ 4 = simp length-append (omega (arith, value-width 2 t, length-low 2 h)) in
+    let n : length (bytes (climate t h)) ≡ 14 = length-response 0x0002 (valueBytes 2 t ++ lowByteFirst 2 h) ∙ omega arith in
     record {
       short = omega arith;
       beside = omega arith;
@@ -264,7 +267,7 @@ rows (response i p) l =
     let n : length (bytes (response i p)) ≡ length p + 10 = length-response i p in
     record { short = omega (arith, l .1 .short); beside = omega arith; room = omega (arith, word-digits (l .0), length-hex p) }
 rows (ask r) l =
-    let n : length (bytes (ask r)) ≡ 6 = length-nibe 0x69 (lowFirst 2 r) ∙ omega (arith, length-low 2 r) in
+    let n : length (bytes (ask r)) ≡ 6 = length-nibe 0x69 (lowByteFirst 2 r) ∙ omega (arith, length-low 2 r) in
     record { short = omega arith; beside = omega arith; room = omega (arith, word-digits l) }
 rows (reply r w v) l =
     let n : length (bytes (reply r w v)) ≡ w + 6 = length-nibe 0x6A (valued r w v) ∙ omega (arith, length-valued r w v) in
@@ -318,8 +321,8 @@ line-most {f = f} h l =
 -- ---- by what stands beside the message
 
 nikobus-taken : (e : Nikobus) (s : List ℕ) (m : Message) → SaysNikobus e s m → length (taken m) ≤ length s
-nikobus-taken e s m (digits f b h g) = rw (g, h) (omega arith)
-nikobus-taken e s m (fixed n g) = rw g (nothing e n)
+nikobus-taken e s m (a-link f a) = rw (a .is, a .digits) (omega arith)
+nikobus-taken e s m (another n g) = rw g (nothing e n)
   where
     nothing : (e : Nikobus) → (e ≡ Link → ⊥) → length (taken (ofNikobus e [])) ≤ length s
     nothing (Read g a) n = omega arith
@@ -335,21 +338,21 @@ response-taken State s = omega arith
 response-taken Break s = omega arith
 response-taken End s = omega arith
 response-taken (Text i) s = omega arith
-response-taken (Other i) s = omega arith
+response-taken (responseCases.Other i) s = omega arith
 
 nibe-taken : (e : Nibe) (s : List ℕ) → length (taken (ofNibe e s)) ≤ length s
 nibe-taken (Ask r) s = omega arith
 nibe-taken (Reply v) s = omega arith
 nibe-taken (Put v) s = omega arith
 nibe-taken (Done ok) s = omega arith
-nibe-taken (Plain c) s = omega arith
+nibe-taken (nibeCases.Other c) s = omega arith
 
 homiq-taken : (e : Homiq) (w : Wire) → taken (ofHomiq e w) ≡ homiqs.payload (homiqOf w)
 homiq-taken Output w = refl
 homiq-taken Input w = refl
 homiq-taken Shutter w = refl
 homiq-taken Beat w = refl
-homiq-taken Rest w = refl
+homiq-taken homiqCases.Other w = refl
 
 -- what a message takes stands beside it
 beside-taken : (e : Coded) (s : List ℕ) (m : Message) → Says e s m → length (taken m) ≤ length s
@@ -360,7 +363,7 @@ beside-taken (OnNibe e) s m x = rw x (nibe-taken e s)
 beside-taken (OnHomiq e) s m x = let h : length (taken m) ≡ length s = ap (λ (n : Message). length (taken n)) (x .is) ∙ ap length (homiq-taken e (x .wire) ∙ sym (x .payload .laid)) in omega arith
 
 -- A LINE IS SHORT FOR WHAT STANDS BESIDE ITS MESSAGE, whatever place and length of 20 digits it says
-pub line-bounded : (e : Coded) (s : List ℕ) {at len : ℕ} {t : List ℕ} → at ≤ last → len ≤ last → LineSaid (Says e s) at len t → Bounded t (length s)
+pub line-bounded : (e : Coded) (s : List ℕ) {at len : ℕ} {t : List ℕ} → at ≤ largestPlace → len ≤ largestPlace → LineSaid (Says e s) at len t → Bounded t (length s)
 line-bounded e s {at} {len} h k l =
     let m = l .message in
     let r = rows m (l .good .limits) in

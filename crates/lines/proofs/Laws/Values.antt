@@ -17,8 +17,8 @@ use Rattle.layouts.proofs.Laws.HomiqOne.{field-bytes}
 use Rattle.messages.specs.Paper.Message.{Message, read, set, answer, press, tail, link, command, climate, state, break, end, text, response, ask, reply, put, done, nibe, output, input, shutter, beat, homiq, name}
 use Rattle.messages.specs.Paper.Table.{Limits}
 use Rattle.json.proofs.Laws.Tokens.{unquoted, Token, number-token, hex-token, chars-token, truth-token, reading-token}
-use Rattle.lines.specs.Paper.Line.{highFirst, members}
-use Rattle.lines.specs.Work.Values.{Spelling, asNumber, asHex, asChars, asTruth, asReading, Of, spelt, Column, Values, membersOf, ofHighFirst, wireColumns, wireValues, formOf, values, sameText, formIn, formNamed}
+use Rattle.lines.specs.Paper.Line.{highByteFirst, members}
+use Rattle.lines.specs.Work.Values.{Spelling, asNumber, asHex, asChars, asTruth, asReading, Of, spelt, Column, Values, membersOf, ofHighByteFirst, wireColumns, wireValues, formOf, values, sameText, formIn, formNamed}
 
 -- ---- names and members
 
@@ -56,7 +56,7 @@ spelt-as (homiq w) = record { named = refl; plain = tt; spelling = refl }
 
 -- ---- the message that its values make
 
-again : (a : ℕ) → ofHighFirst (highFirst a) ≡ a
+again : (a : ℕ) → ofHighByteFirst (highByteFirst a) ≡ a
 again a = omega arith
 
 pub made : (m : Message) → formOf m .message (values m) ≡ m
@@ -109,7 +109,7 @@ hex-bytes : (s : List ℕ) → T (all isHex s) → Bytes s
 unfolding isHex all isByte
 hex-bytes = bytes-by isHex (λ c t. one-of-bytes (ascii "0123456789ABCDEF") c tt t)
 
-address-bytes : (a : ℕ) → a < 65536 → Bytes (highFirst a)
+address-bytes : (a : ℕ) → a < 65536 → Bytes (highByteFirst a)
 address-bytes a h = bytes-cons (omega arith) (bytes-cons (omega arith) bytes-nil)
 
 wire-proper : (w : Wire) → homiqs.Limits (homiqOf w) → AllProper wireColumns (wireValues w)

@@ -8,7 +8,7 @@ use native.Mathlib.Omega.{arith}
 use lib.Dec.{eqb}
 use lib.ListN.{length}
 use Rattle.digits.specs.Paper.Bytes.{part}
-use Rattle.digits.specs.Paper.Refusals.{order, First, clear, here, after}
+use Rattle.digits.specs.Paper.Refusals.{refusalOrder, First, clear, here, after}
 use Rattle.digits.specs.declared.refusal.Refusal.{Refusal}
 use Rattle.digits.proofs.Laws.Refusals.{cause-at, cause-of, pass-over, some-number}
 use Rattle.frames.specs.Paper.Kinds.{layoutOf, Frame}
@@ -23,7 +23,7 @@ use Rattle.messages.specs.declared.Message.{Message as Coded}
 use Rattle.messages.proofs.Laws.Cases.{said-in}
 use Rattle.messages.proofs.Laws.Decode.{is-frame}
 use Rattle.messages.proofs.Theorems.{has-message, stands-bytes}
-use Rattle.puts.specs.Paper.Put.{last}
+use Rattle.puts.specs.Paper.Put.{largestPlace}
 use Rattle.puts.specs.Paper.Right as right
 use Rattle.puts.specs.declared.Written.{Written}
 use Rattle.puts.specs.declared.Written.the-variants.{Refused as Unwritten}
@@ -68,19 +68,19 @@ module _ {k : ℕ} {f : List ℕ} {place room : ℕ} where
   frame-there r (no-frame h) = h r
 
   module _ {t : List ℕ} (l : LineOf k f place t) where
-    enough : length t ≤ room → First (LineCause k f place room) order 0
-    enough h = pass-over ours only order (after (kind-known (is-frame (l .stands))) (after (frame-there (is-frame (l .stands))) (after fits clear)))
+    enough : length t ≤ room → First (LineCause k f place room) refusalOrder 0
+    enough h = pass-over ours only refusalOrder (after (kind-known (is-frame (l .stands))) (after (frame-there (is-frame (l .stands))) (after fits clear)))
       where
         fits : LineCause k f place room 4 → ⊥
         fits (short {t = u} o g) = let e : length u ≡ length t = ap length (one-line u t o l) in omega arith
 
-    too-few : room < length t → First (LineCause k f place room) order 4
-    too-few h = pass-over ours only order (after (kind-known (is-frame (l .stands))) (after (frame-there (is-frame (l .stands))) (here (short l h))))
+    too-few : room < length t → First (LineCause k f place room) refusalOrder 4
+    too-few h = pass-over ours only refusalOrder (after (kind-known (is-frame (l .stands))) (after (frame-there (is-frame (l .stands))) (here (short l h))))
 
   -- what decoding is refused for
-  refusing : {no : ℕ} → First (DecodeCause k f) order no → DecodeCause k f no → First (LineCause k f place room) order no
-  refusing c (decoding.no-kind h) = pass-over ours only order (here (no-kind h))
-  refusing c (decoding.no-message h) = pass-over ours only order (after kind (here (no-frame (λ r. let m = has-message r in h (m .0) (m .1)))))
+  refusing : {no : ℕ} → First (DecodeCause k f) refusalOrder no → DecodeCause k f no → First (LineCause k f place room) refusalOrder no
+  refusing c (decoding.no-kind h) = pass-over ours only refusalOrder (here (no-kind h))
+  refusing c (decoding.no-message h) = pass-over ours only refusalOrder (after kind (here (no-frame (λ r. let m = has-message r in h (m .0) (m .1)))))
     where
       kind : LineCause k f place room 2 → ⊥
       kind (no-kind g) = second-passed c (λ e. absurd (omega arith)) (λ e. absurd (omega arith)) (decoding.no-kind g)
@@ -98,7 +98,7 @@ module _ {k : ℕ} {f : List ℕ} (r : Decoded) (a : Decodes k f r) where
     the-line : (place : ℕ) → LineOf k f place (put e (part from to f) place (length f))
     the-line place = line-of-said place (part from to f) (said-in decoded) refl
 
-    pub put-bounded : (place : ℕ) → place ≤ last → length f ≤ last → Bounded (put e (part from to f) place (length f)) (length (part from to f))
+    pub put-bounded : (place : ℕ) → place ≤ largestPlace → length f ≤ largestPlace → Bounded (put e (part from to f) place (length f)) (length (part from to f))
     put-bounded place h k = said-bounded (part from to f) (said-in decoded) refl h k
 
     pub written : (place : ℕ) (room later : List ℕ) (w : Written)

@@ -30,8 +30,8 @@ slice-aggregate-bytes-3 c = search needs
 bytes-requires-3 : tie.Need-bytes-requires-3
 bytes-requires-3 c κs = search needs
 
-rest-requires : tie.Need-rest-requires
-rest-requires c κs = search needs
+name-and-members-requires : tie.Need-name-and-members-requires
+name-and-members-requires c κs = search needs
 
 slice-aggregate-bytes-4 : tie.Need-slice-aggregate-bytes-4
 slice-aggregate-bytes-4 c = search needs
@@ -57,7 +57,7 @@ returns c =
     then c5 .bytes2 .ensures
     then c4 .whole2 .ensures
     then c3 .bytes3 .ensures
-    then c2 .rest .ensures
+    then c2 .name-and-members .ensures
     then c1 .bytes4 .ensures
 
 pub line-spec : {M : Type 1} → statement M
@@ -72,7 +72,7 @@ line-spec =
     whole-requires-2
     slice-aggregate-bytes-3
     bytes-requires-3
-    rest-requires
+    name-and-members-requires
     slice-aggregate-bytes-4
     bytes-requires-4
     same-length

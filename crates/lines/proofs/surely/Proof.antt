@@ -7,10 +7,10 @@ use Rattle.lines.proofs.surely.Statement.{statement}
 use Rattle.lines.proofs.surely.Tie as tie
 
 returns : tie.Need-returns
-returns c = record { told = λ e. absurd (true≢false (sym (c .if1 .taken) ∙ e)) }
+returns c = record { may-put = λ e. absurd (true≢false (sym (c .if1 .taken) ∙ e)) }
 
 returns-2 : tie.Need-returns-2
-returns-2 c = record { told = c .before .if1 .left }
+returns-2 c = record { may-put = c .before .if1 .left }
 
 returns-3 : tie.Need-returns-3
 returns-3 c = let s = c .before .before in by-the-bound (s .args .sure) (s .args .beside) (s .args .bytes) (c .before .if1 .left) (c .if2 .left)

@@ -9,7 +9,7 @@ use lib.Seq.{sets}
 use Rattle.digits.specs.Paper.Bytes.{part}
 use Rattle.digits.specs.Paper.Refusals.{refusalNumber, Answers}
 use Rattle.puts.specs.Paper.Put.{Put}
-use Rattle.puts.specs.Paper.Right.{WritesRight}
+use Rattle.puts.specs.Paper.Right.{WritesRight, AnswersInto}
 use Rattle.puts.specs.Paper.Wrote.{writtenRefusal, writtenCount}
 use Rattle.puts.specs.declared.Written.{Written}
 use Rattle.frames.specs.Paper.Kinds.{known, Frame}
@@ -73,8 +73,8 @@ pub record PutSaid (IsSaid : Message → Type 0) (at len : ℕ) (room : List ℕ
 -- r is the right answer, and `later` the right room afterwards; of a place beyond the room nothing is left
 abbrev pub WritesSaid : (Message → Type 0) → ℕ → ℕ → List ℕ → ℕ → Written → List ℕ → Type 0
 WritesSaid IsSaid at len room to r later =
-    Answers {A = ℕ × List ℕ} (0, room) (SaidCause IsSaid at len (length room - to))
-    (λ v. PutSaid IsSaid at len room to (v .0) (v .1)) (writtenRefusal r) (writtenCount r, later)
+    AnswersInto 0 room (SaidCause IsSaid at len (length room - to)) (PutSaid IsSaid at len room to) (writtenRefusal r)
+    (writtenCount r) later
 
 -- ---- put_content
 
@@ -83,9 +83,9 @@ abbrev pub HasContent : Tag → List ℕ → Message → Type 0
 HasContent tag p m = ContentWith tag p (contentOf m)
 
 -- the refusal number and the value of an answer: the place behind the line
-abbrev pub endedNumber : Ended → ℕ
-endedNumber (EndedAt behind) = 0
-endedNumber (Unended why) = refusalNumber why
+abbrev pub endedRefusal : Ended → ℕ
+endedRefusal (EndedAt behind) = 0
+endedRefusal (Unended why) = refusalNumber why
 
 abbrev pub endedPlace : Ended → ℕ
 endedPlace (EndedAt behind) = behind
@@ -101,8 +101,8 @@ pub record PutContent (tag : Tag) (p : List ℕ) (at len : ℕ) (room : List ℕ
 -- r is the right answer, and `later` the right room afterwards; refused as `messages::of` is, with 5
 abbrev pub PutsContent : Tag → List ℕ → ℕ → ℕ → List ℕ → ℕ → Ended → List ℕ → Type 0
 PutsContent tag p at len room to r later =
-    Answers {A = ℕ × List ℕ} (0, room) (MeantCause (ContentWith tag p))
-    (λ v. PutContent tag p at len room to (v .0) (v .1)) (endedNumber r) (endedPlace r, later)
+    AnswersInto 0 room (MeantCause (ContentWith tag p)) (PutContent tag p at len room to) (endedRefusal r)
+    (endedPlace r) later
 
 -- ---- next
 
@@ -112,9 +112,9 @@ pub record Placed : Type 0 where
   pub len : ℕ
   pub behind : ℕ
 
-abbrev pub listedNumber : Listed → ℕ
-listedNumber (At start len behind) = 0
-listedNumber (Refused why) = refusalNumber why
+abbrev pub listedRefusal : Listed → ℕ
+listedRefusal (At start len behind) = 0
+listedRefusal (Refused why) = refusalNumber why
 
 abbrev pub zeroPlaced : Placed
 zeroPlaced = record { start = 0; len = 0; behind = 0 }
@@ -130,8 +130,8 @@ pub data NextCause (k : ℕ) (s : List ℕ) (place left : ℕ) : ℕ → Type 0 
   short : {v : Hit} {t : List ℕ} → Leftmost k s place v → LineOf k (framePart s v) (v .start) t
       → left < length t → NextCause k s place left 4
 
--- the right values, and the right room afterwards: the search finds such a frame in the capture s, from a place on;
--- its line stands at the place `to` of the room, and every other byte is as it was
+-- The right values, and the right room afterwards. The search finds this frame in the capture s, from the place on.
+-- Its line stands at the place `to` of the room, and every other byte is as it was.
 pub record NextLine (k : ℕ) (s : List ℕ) (place : ℕ) (room : List ℕ) (to : ℕ) (v : Placed) (later : List ℕ)
     : Type 0 where
   pub from : ℕ
@@ -145,8 +145,8 @@ pub record NextLine (k : ℕ) (s : List ℕ) (place : ℕ) (room : List ℕ) (to
 -- r is the right answer, and `later` the right room afterwards; of a place beyond the room nothing is left
 abbrev pub PutsNext : ℕ → List ℕ → ℕ → List ℕ → ℕ → Listed → List ℕ → Type 0
 PutsNext k s place room to r later =
-    Answers {A = Placed × List ℕ} (zeroPlaced, room) (NextCause k s place (length room - to))
-    (λ v. NextLine k s place room to (v .0) (v .1)) (listedNumber r) (listedPlaced r, later)
+    AnswersInto zeroPlaced room (NextCause k s place (length room - to)) (NextLine k s place room to) (listedRefusal r)
+    (listedPlaced r) later
 
 -- ---- measure
 
@@ -156,9 +156,9 @@ pub record Size : Type 0 where
   pub len : ℕ
   pub size : ℕ
 
-abbrev pub measuredNumber : Measured → ℕ
-measuredNumber (SizedAt start len size) = 0
-measuredNumber (Unmeasured why) = refusalNumber why
+abbrev pub measuredRefusal : Measured → ℕ
+measuredRefusal (SizedAt start len size) = 0
+measuredRefusal (Unmeasured why) = refusalNumber why
 
 abbrev pub zeroSize : Size
 zeroSize = record { start = 0; len = 0; size = 0 }
@@ -167,7 +167,7 @@ abbrev pub measuredSize : Measured → Size
 measuredSize (SizedAt start len size) = record { start = start; len = len; size = size }
 measuredSize (Unmeasured why) = zeroSize
 
--- the right values: the search finds such a frame in the capture s, from a place on, and its line has so many bytes
+-- The right values. The search finds this frame in the capture s, from the place on, and its line has `size` bytes.
 pub record NextSize (k : ℕ) (s : List ℕ) (place : ℕ) (v : Size) : Type 0 where
   pub from : ℕ
   pub end : ℕ
@@ -178,4 +178,5 @@ pub record NextSize (k : ℕ) (s : List ℕ) (place : ℕ) (v : Size) : Type 0 w
 
 -- r is the right answer; refused as the search is
 abbrev pub Measures : ℕ → List ℕ → ℕ → Measured → Type 0
-Measures k s place r = Answers zeroSize (SearchCause k s place) (NextSize k s place) (measuredNumber r) (measuredSize r)
+Measures k s place r =
+    Answers zeroSize (SearchCause k s place) (NextSize k s place) (measuredRefusal r) (measuredSize r)

@@ -12,8 +12,8 @@ use Rattle.messages.specs.Paper.Table.{vIn, vOp, vBat}
 use Rattle.json.specs.Paper.Json.{Member, _∶_, object, number, hex, chars, quoted, truth, reading}
 
 -- "a Nikobus module address is shown high byte first"
-abbrev pub highFirst : ℕ → List ℕ
-highFirst a = a / 256 ∷ a % 256 ∷ []
+abbrev pub highByteFirst : ℕ → List ℕ
+highByteFirst a = a / 256 ∷ a % 256 ∷ []
 
 -- kind 5 `cmd,val,src,dst,id,type`; "The Homiq id is a number"
 abbrev pub wired : Wire → List Member
@@ -31,11 +31,11 @@ wired w =
 -- put `reg,width,value`; done `ok`; nibe `cmd,data`. Temperature and Vin are in hundredths, humidity in tenths, Vop
 -- and Vbat in thousandths; "value unsigned with 0 decimals"; "a press's six digits as they stand".
 unfoldable pub members : Message → List Member
-members (read g a) = ascii "group" ∶ number g ∷ ascii "addr" ∶ hex (highFirst a) ∷ []
+members (read g a) = ascii "group" ∶ number g ∷ ascii "addr" ∶ hex (highByteFirst a) ∷ []
 members (set g a out) =
-    ascii "group" ∶ number g ∷ ascii "addr" ∶ hex (highFirst a) ∷ ascii "out" ∶ hex out ∷ []
+    ascii "group" ∶ number g ∷ ascii "addr" ∶ hex (highByteFirst a) ∷ ascii "out" ∶ hex out ∷ []
 members (answer a third out) =
-    ascii "addr" ∶ hex (highFirst a) ∷ ascii "third" ∶ number third ∷ ascii "out" ∶ hex out ∷ []
+    ascii "addr" ∶ hex (highByteFirst a) ∷ ascii "third" ∶ number third ∷ ascii "out" ∶ hex out ∷ []
 members (press d) = ascii "addr" ∶ chars d ∷ []
 members tail = []
 members (link p) = ascii "data" ∶ hex p ∷ []
@@ -74,6 +74,6 @@ line at len m =
     ∷ members m)
     ++ ascii "\n"
 
--- ours: no line is longer than this, where its frame has n bytes
+-- ours: no line of a frame of n bytes is longer than this
 abbrev pub lineRoom : ℕ → ℕ
 lineRoom n = 8 * n + 96

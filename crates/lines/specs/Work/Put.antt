@@ -8,22 +8,25 @@ use lib.IntN.{pos}
 use lib.ListN.{length}
 use lib.Seq.{sets}
 use Rattle.digits.specs.Paper.Ascii.{ascii}
-use Rattle.digits.specs.declared.refusal.Refusal.the-variants.{Room}
+use Rattle.digits.specs.declared.refusal.Refusal.the-variants.{NoRoom}
 use Rattle.json.specs.Paper.Json.{Member, _∶_, member, number, hex, chars, quoted, reading}
 use Rattle.messages.specs.Paper.Homiq.{fieldAt}
 use Rattle.messages.specs.Paper.Message.{Message, command, state, name}
 use Rattle.messages.specs.Paper.Says.{ofNikobus, ofResponse, ofNibe}
 use Rattle.messages.specs.declared.Message.{Message as Coded}
-use Rattle.messages.specs.declared.Message.the-variants.{Nikobus as OnNikobus, Command, Response as AsResponse, Nibe as OnNibe, Homiq as OnHomiq}
+use Rattle.messages.specs.declared.Message.the-variants.{Nikobus as OnNikobus, Command, Response as AsResponse}
+use Rattle.messages.specs.declared.Message.the-variants.{Nibe as OnNibe, Homiq as OnHomiq}
 use Rattle.messages.specs.declared.homiq.Homiq.{Homiq}
-use Rattle.messages.specs.declared.homiq.Homiq.the-variants.{Output, Input, Shutter, Beat, Homiq as Rest}
+use Rattle.messages.specs.declared.homiq.Homiq.the-variants.{Output, Input, Shutter, Beat}
+use Rattle.messages.specs.declared.homiq.Homiq.the-variants as homiqCases
 use Rattle.messages.specs.declared.nest.Response.{Response}
-use Rattle.messages.specs.declared.nest.Response.the-variants.{Climate, State, Break, End, Text, Response as Other}
+use Rattle.messages.specs.declared.nest.Response.the-variants.{Climate, State, Break, End, Text}
+use Rattle.messages.specs.declared.nest.Response.the-variants as responseCases
 use Rattle.messages.specs.declared.nest.Volts.{Volts}
 use Rattle.messages.specs.declared.nest.Volts.the-variants.{Are, Refused as NoVolts}
 use Rattle.messages.specs.declared.nikobus.Nikobus.{Nikobus}
 use Rattle.messages.specs.declared.nikobus.Nikobus.the-variants.{Read, Set, Answer, Press, Tail, Link}
-use Rattle.puts.specs.Paper.Put.{last}
+use Rattle.puts.specs.Paper.Put.{largestPlace}
 use Rattle.puts.specs.declared.Written.{Written}
 use Rattle.puts.specs.declared.Written.the-variants.{Bytes, Refused}
 use Rattle.lines.specs.Paper.Line.{members}
@@ -38,13 +41,13 @@ unfoldable pub named : Message → List ℕ
 named m = name m ++ (34 ∷ commaed (members m))
 
 -- what is put of each of the code's messages: a link's digits stand beside it as they are shown
-unfoldable pub nikobusRest : Nikobus → List ℕ → List ℕ
-nikobusRest (Read g a) s = named (ofNikobus (Read g a) [])
-nikobusRest (Set g a out) s = named (ofNikobus (Set g a out) [])
-nikobusRest (Answer a third out) s = named (ofNikobus (Answer a third out) [])
-nikobusRest (Press d) s = named (ofNikobus (Press d) [])
-nikobusRest Tail s = named (ofNikobus Tail [])
-nikobusRest Link s = ascii "link\",\"data\":" ++ quoted s
+unfoldable pub nikobusNameAndMembers : Nikobus → List ℕ → List ℕ
+nikobusNameAndMembers (Read g a) s = named (ofNikobus (Read g a) [])
+nikobusNameAndMembers (Set g a out) s = named (ofNikobus (Set g a out) [])
+nikobusNameAndMembers (Answer a third out) s = named (ofNikobus (Answer a third out) [])
+nikobusNameAndMembers (Press d) s = named (ofNikobus (Press d) [])
+nikobusNameAndMembers Tail s = named (ofNikobus Tail [])
+nikobusNameAndMembers Link s = ascii "link\",\"data\":" ++ quoted s
 
 -- the members of a state with these voltages; a payload that is too short has none
 unfoldable pub voltsMembers : List ℕ → Volts → List ℕ
@@ -60,13 +63,13 @@ voltsMembers s (NoVolts why) = []
 unfoldable pub stateMembers : List ℕ → List ℕ
 stateMembers s = cond (ltb (length s) 16) [] (commaed (members (state s)))
 
-unfoldable pub responseRest : Response → List ℕ → List ℕ
-responseRest (Climate t h) s = named (ofResponse (Climate t h) s)
-responseRest State s = ascii "state\"" ++ stateMembers s
-responseRest Break s = named (ofResponse Break s)
-responseRest End s = named (ofResponse End s)
-responseRest (Text i) s = named (ofResponse (Text i) s)
-responseRest (Other i) s = named (ofResponse (Other i) s)
+unfoldable pub responseNameAndMembers : Response → List ℕ → List ℕ
+responseNameAndMembers (Climate t h) s = named (ofResponse (Climate t h) s)
+responseNameAndMembers State s = ascii "state\"" ++ stateMembers s
+responseNameAndMembers Break s = named (ofResponse Break s)
+responseNameAndMembers End s = named (ofResponse End s)
+responseNameAndMembers (Text i) s = named (ofResponse (Text i) s)
+responseNameAndMembers (responseCases.Other i) s = named (ofResponse (responseCases.Other i) s)
 
 -- Homiq's fields are taken out of CMD to TYPE; its id stands there in digits
 abbrev pub homiqName : Homiq → List ℕ
@@ -74,7 +77,7 @@ homiqName Output = ascii "output\""
 homiqName Input = ascii "input\""
 homiqName Shutter = ascii "shutter\""
 homiqName Beat = ascii "beat\""
-homiqName Rest = ascii "homiq\""
+homiqName homiqCases.Other = ascii "homiq\""
 
 abbrev pub fieldMembers : List ℕ → List Member
 fieldMembers s =
@@ -86,29 +89,30 @@ fieldMembers s =
     ∷ ascii "type" ∶ chars (fieldAt 5 s)
     ∷ []
 
-unfoldable pub restOf : Coded → List ℕ → List ℕ
-restOf (OnNikobus e) s = nikobusRest e s
-restOf (Command i) s = named (command i s)
-restOf (AsResponse e) s = responseRest e s
-restOf (OnNibe e) s = named (ofNibe e s)
-restOf (OnHomiq e) s = homiqName e ++ commaed (fieldMembers s)
+unfoldable pub nameAndMembers : Coded → List ℕ → List ℕ
+nameAndMembers (OnNikobus e) s = nikobusNameAndMembers e s
+nameAndMembers (Command i) s = named (command i s)
+nameAndMembers (AsResponse e) s = responseNameAndMembers e s
+nameAndMembers (OnNibe e) s = named (ofNibe e s)
+nameAndMembers (OnHomiq e) s = homiqName e ++ commaed (fieldMembers s)
 
 -- the whole line
 unfoldable pub put : Coded → List ℕ → ℕ → ℕ → List ℕ
 put e s at len =
-    ascii "{\"at\":" ++ (number at ++ (ascii ",\"len\":" ++ (number len ++ (ascii ",\"msg\":\"" ++ (restOf e s ++ ascii "}\n")))))
+    ascii "{\"at\":" ++ (number at ++ (ascii ",\"len\":" ++ (number len
+    ++ (ascii ",\"msg\":\"" ++ (nameAndMembers e s ++ ascii "}\n")))))
 
--- no line is longer than this, where so many bytes stand beside its message
+-- no line with n bytes beside its message is longer than this
 abbrev pub mostBeside : ℕ → ℕ
 mostBeside n = 8 * n + 352
 
 -- a line is no longer than that, and a place can say where it ends
 pub record Bounded (t : List ℕ) (beside : ℕ) : Type 0 where
   pub most : length t ≤ mostBeside beside
-  pub short : length t ≤ last
+  pub short : length t ≤ largestPlace
 
--- r is the right answer, and `later` the right room afterwards, where all of bs is put at a place, or nothing where too little is left
--- behind it
+-- r is the right answer, and `later` the right room afterwards: all of bs is put at a place, or nothing if too little
+-- is left behind it
 pub data AllOrNone (bs room : List ℕ) (to : ℕ) : Written → List ℕ → Type 0 where
   all : length bs ≤ length room - to → AllOrNone bs room to (Bytes (length bs)) (sets room to bs)
-  none : length room - to < length bs → AllOrNone bs room to (Refused Room) room
+  none : length room - to < length bs → AllOrNone bs room to (Refused NoRoom) room

@@ -14,16 +14,16 @@ use Rattle.lines.specs.Work.Put.{mostBeside}
 use Rattle.lines.specs.declared.Tried.{Tried}
 use Rattle.lines.specs.declared.Tried.the-variants.{At, Unsure, Refused}
 
--- r tells whether a line is put: where it is put in any case, or where no line with so much beside its message is
--- longer
-abbrev pub Told : Bool → (beside bytes : ℕ) → Bool → Type 0
-Told sure beside bytes true = sure ≡ false → mostBeside beside ≤ bytes
-Told sure beside bytes false = sure ≡ false
+-- r is whether a line is put: it is put in any case, or no line with `beside` bytes beside its message is longer than
+-- `bytes`
+abbrev pub MayPut : Bool → (beside bytes : ℕ) → Bool → Type 0
+MayPut sure beside bytes true = sure ≡ false → mostBeside beside ≤ bytes
+MayPut sure beside bytes false = sure ≡ false
 
 pub record Surely (sure : Bool) (beside bytes : ℕ) (r : Bool) : Type 0 where
-  pub told : Told sure beside bytes r
+  pub may-put : MayPut sure beside bytes r
 
--- the line of what is found is put as far as the room goes; all of it, where it is not put in any case
+-- the line of what is found is put as far as the room goes; all of it, unless it is put in any case
 pub record Clipped (k : ℕ) (s : List ℕ) (place : ℕ) (sure : Bool) (room : List ℕ) (to : ℕ) (v : Placed)
     (later : List ℕ) : Type 0 where
   pub from : ℕ

@@ -1,5 +1,6 @@
--- The members of a line as a table: for each message its name, the names of its members with how their values are spelt, and the
--- message that such values make. The laws show that the lines are those of the paper, so that a line can be read back.
+-- The members of a line as a table: for each message its name, the names of its members with how their values are
+-- spelt, and the message that such values make. The laws show that the lines are those of document 01, so that a line
+-- can be read back.
 -- Assumes nothing.
 use mathlib.Core.Bool.{Bool, true, false, cond, _&&_}
 use mathlib.Core.List.{List, [], _∷_}
@@ -9,10 +10,12 @@ use lib.IntN.{ℤ, pos, natAbs}
 use lib.ListN.{getD}
 use Rattle.digits.specs.Paper.Ascii.{ascii}
 use Rattle.layouts.specs.Paper.Made.{Wire}
-use Rattle.messages.specs.Paper.Message.{Message, read, set, answer, press, tail, link, command, climate, state, break, end, text, response, ask, reply, put, done, nibe, output, input, shutter, beat, homiq}
+use Rattle.messages.specs.Paper.Message.{Message, read, set, answer, press, tail, link, command, climate, state}
+use Rattle.messages.specs.Paper.Message.{break, end, text, response, ask, reply, put, done, nibe, output, input}
+use Rattle.messages.specs.Paper.Message.{shutter, beat, homiq}
 use Rattle.messages.specs.Paper.Table.{vIn, vOp, vBat}
 use Rattle.json.specs.Paper.Json.{Member, _∶_, number, hex, chars, truth, reading}
-use Rattle.lines.specs.Paper.Line.{highFirst}
+use Rattle.lines.specs.Paper.Line.{highByteFirst}
 
 -- ---- columns
 
@@ -65,11 +68,18 @@ pub record Form : Type 0 where
   pub message : Values columns → Message
 
 -- the number whose bytes are these two, high byte first
-abbrev pub ofHighFirst : List ℕ → ℕ
-ofHighFirst s = getD s 0 0 * 256 + getD s 1 0
+abbrev pub ofHighByteFirst : List ℕ → ℕ
+ofHighByteFirst s = getD s 0 0 * 256 + getD s 1 0
 
 abbrev pub wireColumns : List Column
-wireColumns = ascii "cmd" by asChars ∷ ascii "val" by asChars ∷ ascii "src" by asChars ∷ ascii "dst" by asChars ∷ ascii "id" by asNumber ∷ ascii "type" by asChars ∷ []
+wireColumns =
+    ascii "cmd" by asChars
+    ∷ ascii "val" by asChars
+    ∷ ascii "src" by asChars
+    ∷ ascii "dst" by asChars
+    ∷ ascii "id" by asNumber
+    ∷ ascii "type" by asChars
+    ∷ []
 
 abbrev pub wireValues : Wire → Values wireColumns
 wireValues w = (w .cmd, (w .val, (w .src, (w .dst, (w .id, (w .type ∷ [], tt))))))
@@ -97,7 +107,12 @@ valuedForm n f =
     }
 
 abbrev pub payloadForm : List ℕ → (ℕ → List ℕ → Message) → Form
-payloadForm n f = record { name = n; columns = ascii "id" by asNumber ∷ ascii "data" by asHex ∷ []; message = λ v. f (v .0) (v .1 .0) }
+payloadForm n f =
+    record {
+      name = n;
+      columns = ascii "id" by asNumber ∷ ascii "data" by asHex ∷ [];
+      message = λ v. f (v .0) (v .1 .0);
+    }
 
 abbrev pub bareForm : List ℕ → Message → Form
 bareForm n m = record { name = n; columns = []; message = λ v. m }
@@ -107,19 +122,19 @@ formOf (read g a) =
     record {
       name = ascii "read";
       columns = ascii "group" by asNumber ∷ ascii "addr" by asHex ∷ [];
-      message = λ v. read (v .0) (ofHighFirst (v .1 .0));
+      message = λ v. read (v .0) (ofHighByteFirst (v .1 .0));
     }
 formOf (set g a out) =
     record {
       name = ascii "set";
       columns = ascii "group" by asNumber ∷ ascii "addr" by asHex ∷ ascii "out" by asHex ∷ [];
-      message = λ v. set (v .0) (ofHighFirst (v .1 .0)) (v .1 .1 .0);
+      message = λ v. set (v .0) (ofHighByteFirst (v .1 .0)) (v .1 .1 .0);
     }
 formOf (answer a third out) =
     record {
       name = ascii "answer";
       columns = ascii "addr" by asHex ∷ ascii "third" by asNumber ∷ ascii "out" by asHex ∷ [];
-      message = λ v. answer (ofHighFirst (v .0)) (v .1 .0) (v .1 .1 .0);
+      message = λ v. answer (ofHighByteFirst (v .0)) (v .1 .0) (v .1 .1 .0);
     }
 formOf (press d) = record { name = ascii "press"; columns = ascii "addr" by asChars ∷ []; message = λ v. press (v .0) }
 formOf tail = bareForm (ascii "tail") tail
@@ -134,18 +149,29 @@ formOf (climate t h) =
 formOf (state p) =
     record {
       name = ascii "state";
-      columns = ascii "vin" by asReading 2 ∷ ascii "vop" by asReading 3 ∷ ascii "vbat" by asReading 3 ∷ ascii "data" by asHex ∷ [];
+      columns = ascii "vin" by asReading 2 ∷ ascii "vop" by asReading 3
+          ∷ ascii "vbat" by asReading 3 ∷ ascii "data" by asHex ∷ [];
       message = λ v. state (v .1 .1 .1 .0);
     }
 formOf break = bareForm (ascii "break") break
 formOf end = bareForm (ascii "end") end
-formOf (text i p) = record { name = ascii "text"; columns = ascii "id" by asNumber ∷ ascii "text" by asChars ∷ []; message = λ v. text (v .0) (v .1 .0) }
+formOf (text i p) =
+    record {
+      name = ascii "text";
+      columns = ascii "id" by asNumber ∷ ascii "text" by asChars ∷ [];
+      message = λ v. text (v .0) (v .1 .0);
+    }
 formOf (response i p) = payloadForm (ascii "response") response
 formOf (ask r) = record { name = ascii "ask"; columns = ascii "reg" by asNumber ∷ []; message = λ v. ask (v .0) }
 formOf (reply r w v) = valuedForm (ascii "reply") reply
 formOf (put r w v) = valuedForm (ascii "put") put
 formOf (done ok) = record { name = ascii "done"; columns = ascii "ok" by asTruth ∷ []; message = λ v. done (v .0) }
-formOf (nibe c d) = record { name = ascii "nibe"; columns = ascii "cmd" by asNumber ∷ ascii "data" by asHex ∷ []; message = λ v. nibe (v .0) (v .1 .0) }
+formOf (nibe c d) =
+    record {
+      name = ascii "nibe";
+      columns = ascii "cmd" by asNumber ∷ ascii "data" by asHex ∷ [];
+      message = λ v. nibe (v .0) (v .1 .0);
+    }
 formOf (output w) = wireForm (ascii "output") output
 formOf (input w) = wireForm (ascii "input") input
 formOf (shutter w) = wireForm (ascii "shutter") shutter
@@ -154,9 +180,9 @@ formOf (homiq w) = wireForm (ascii "homiq") homiq
 
 -- a message's own
 abbrev pub values : (m : Message) → Values (formOf m .columns)
-values (read g a) = (g, (highFirst a, tt))
-values (set g a out) = (g, (highFirst a, (out, tt)))
-values (answer a third out) = (highFirst a, (third, (out, tt)))
+values (read g a) = (g, (highByteFirst a, tt))
+values (set g a out) = (g, (highByteFirst a, (out, tt)))
+values (answer a third out) = (highByteFirst a, (third, (out, tt)))
 values (press d) = (d, tt)
 values tail = tt
 values (link p) = (p, tt)

@@ -9,7 +9,7 @@ use native.Mathlib.Omega.{arith}
 use lib.Dec.{eqb}
 use lib.ListN.{length, getD, drop}
 use borrow.Author.Tests.{eqb-true, eqb-false}
-use Rattle.digits.specs.Paper.Read.{Tells, holds, fails}
+use Rattle.digits.specs.Paper.Read.{Decides, holds, fails}
 use Rattle.frames.specs.Paper.Kinds.{known}
 use Rattle.list.specs.Paper.Listing.{Input}
 
@@ -48,20 +48,20 @@ input-of (x ∷ y ∷ s) h a k e =
     record { kind = x - 48; is-kind = k; capture = s; is = rw (f, ← d) }
 
 module _ (s : List ℕ) where
-  pub too-few : length s < 2 → Tells (Input s) false
+  pub too-few : length s < 2 → Decides (Input s) false
   too-few h = fails (λ i. omega (arith, two-bytes i))
 
-  pub no-digit : getD s 0 0 < 48 → Tells (Input s) false
+  pub no-digit : getD s 0 0 < 48 → Decides (Input s) false
   no-digit h = fails (λ i. omega (arith, digit i))
 
-  pub not-known : (b : Bool) → b ≡ known (getD s 0 0 - 48) → b ≡ false → Tells (Input s) b
+  pub not-known : (b : Bool) → b ≡ known (getD s 0 0 - 48) → b ≡ false → Decides (Input s) b
   not-known true e f = absurd (true≢false f)
   not-known false e f = fails (λ i. true≢false (sym (kind-known i) ∙ sym e))
 
-  pub then-line-feed : 2 ≤ length s → 48 ≤ getD s 0 0 → known (getD s 0 0 - 48) ≡ true → Tells (Input s) (eqb (getD s 1 0) 10)
+  pub then-line-feed : 2 ≤ length s → 48 ≤ getD s 0 0 → known (getD s 0 0 - 48) ≡ true → Decides (Input s) (eqb (getD s 1 0) 10)
   then-line-feed h a k = go (eqb (getD s 1 0) 10) refl
     where
-      go : (b : Bool) → eqb (getD s 1 0) 10 ≡ b → Tells (Input s) b
+      go : (b : Bool) → eqb (getD s 1 0) 10 ≡ b → Decides (Input s) b
       go true e = holds (input-of s h a k (eqb-true (getD s 1 0) 10 e))
       go false e = fails (λ i. eqb-false (getD s 1 0) 10 e (line-feed i))
 
@@ -69,7 +69,7 @@ module _ (s : List ℕ) where
   pub begins-or-not : Dec (Input s)
   begins-or-not = go (decLe 2 (length s)) (decLe 48 (getD s 0 0)) (known (getD s 0 0 - 48)) refl
     where
-      last : (b : Bool) → Tells (Input s) b → Dec (Input s)
+      last : (b : Bool) → Decides (Input s) b → Dec (Input s)
       last b (holds i) = yes i
       last b (fails f) = no f
 

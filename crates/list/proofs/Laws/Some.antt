@@ -19,9 +19,9 @@ use Rattle.frames.proofs.Theorems.{an-answer, in-order}
 use Rattle.messages.proofs.Theorems.{has-message}
 use Rattle.lines.specs.Paper.Line as paper
 use Rattle.list.specs.Paper.Listing.{Lines, none, line, inside, lastLine, Lists, Input, mostInput, refusedWith, Listing, bad-start, too-long, listed}
-use Rattle.list.specs.Work.Rest.{Rest}
+use Rattle.list.specs.Work.Remaining.{Remaining}
 use Rattle.list.proofs.Laws.Inputs.{begins-or-not}
-use Rattle.list.proofs.Laws.Rest.{from-start, refused-none}
+use Rattle.list.proofs.Laws.Remaining.{from-start, refused-none}
 
 -- at most so many bytes are left
 a-run : (most k : ℕ) (s : List ℕ) (place : ℕ) → known k ≡ true → place ≤ length s → length s < place + most → (hits : List Hit) × Run k s place hits
@@ -44,7 +44,7 @@ some-lines {s = s} (next {v = v} b q r) =
     (paper.line (v .start) (length (framePart s v)) (m .0) ++ ts .0, line {v = v} (record { message = m .0; stands = m .1; is = refl }) (ts .1))
 
 -- whatever was found before, something is left from a place on
-pub some-rest : (k : ℕ) (s : List ℕ) (place count within : ℕ) → known k ≡ true → place ≤ length s → (t : List ℕ) × Rest k s place count within t
+pub some-rest : (k : ℕ) (s : List ℕ) (place count within : ℕ) → known k ≡ true → place ≤ length s → (t : List ℕ) × Remaining k s place count within t
 some-rest k s place count within kn h =
     let r = a-run (suc (length s)) k s place kn h (omega arith) in
     let ts = some-lines (in-order (r .1)) in (

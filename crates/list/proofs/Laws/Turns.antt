@@ -9,7 +9,7 @@ use lib.ListN.{length, length-append}
 use Rattle.digits.specs.Paper.Refusals.{refuses}
 use Rattle.digits.specs.declared.refusal.Refusal.{Refusal}
 use Rattle.digits.proofs.Laws.Refusals.{answered, cause-of, some-number}
-use Rattle.puts.specs.Paper.Put.{Put, last}
+use Rattle.puts.specs.Paper.Put.{Put, largestPlace}
 use Rattle.puts.proofs.Laws.Puts.{_then_, put-length}
 use Rattle.frames.specs.Paper.Kinds.{known}
 use Rattle.frames.specs.Paper.Search.{Hit, Leftmost, Searches, framePart}
@@ -22,8 +22,8 @@ use Rattle.lines.specs.declared.Measured.{Measured}
 use Rattle.lines.specs.declared.Measured.the-variants.{At as Size, Refused as NoSize}
 use Rattle.lines.proofs.Laws.Next.{hit-found, refused-by-search, line-next, room-kept}
 use Rattle.list.specs.Paper.Listing.{lastLine}
-use Rattle.list.specs.Work.Rest.{Listable, Rest, Passed, Sized, Roomy, Sums, PutsLists, Completes}
-use Rattle.list.proofs.Laws.Rest.{from-start, found-line, last-left, refused-none}
+use Rattle.list.specs.Work.Remaining.{Listable, Remaining, Passed, SizedListing, Roomy, Sums, PutsLists, Completes}
+use Rattle.list.proofs.Laws.Remaining.{from-start, found-line, last-left, refused-none}
 use Rattle.list.proofs.Laws.Sizes.{lists-most}
 use Rattle.list.proofs.Laws.Some.{some-rest}
 
@@ -38,11 +38,11 @@ module _ {k : ℕ} {s : List ℕ} {place : ℕ} where
 
   -- its line, and what is left behind it
   line-left : (v : Hit) {count within : ℕ} {u t : List ℕ} → Leftmost k s place v → LineOf k (framePart s v) (v .start) u
-      → Rest k s (v .start + v .len) (count + 1) (within + v .len) t → Rest k s place count within (u ++ t)
+      → Remaining k s (v .start + v .len) (count + 1) (within + v .len) t → Remaining k s place count within (u ++ t)
   line-left v l o x = found-line (hit-found l) o x
 
   some-left : known k ≡ true → (v : Hit) (count within : ℕ) → Leftmost k s place v
-      → (t : List ℕ) × Rest k s (v .start + v .len) (count + 1) (within + v .len) t
+      → (t : List ℕ) × Remaining k s (v .start + v .len) (count + 1) (within + v .len) t
   some-left kn v count within l = some-rest k s (v .start + v .len) (count + 1) (within + v .len) kn (l .stands .inside)
 
 passed-on : {s : List ℕ} {place count within start len : ℕ} → Passed s place count within → Ahead s place start len
@@ -56,7 +56,7 @@ none-passed = record { place-in = omega arith; few = omega arith; within-place =
 -- ---- measuring
 
 pub sums-start : {k : ℕ} {s : List ℕ} → Sums k s 0 0 0 0
-sums-start = record { passed = none-passed; whole = λ t r. record { text = t; right = from-start r; size = omega arith } }
+sums-start = record { passed = none-passed; completes = λ t r. record { text = t; right = from-start r; size = omega arith } }
 
 module _ {k : ℕ} {s : List ℕ} {place : ℕ} (r : Measured) (m : Measures k s place r) where
   module _ {start len size : ℕ} (e : r ≡ Size start len size) where
@@ -68,16 +68,16 @@ module _ {k : ℕ} {s : List ℕ} {place : ℕ} (r : Measured) (m : Measures k s
 
     module _ {sum count within : ℕ} (c : Sums k s sum place count within) where
       -- a line more
-      added : (t : List ℕ) → Rest k s (start + len) (count + 1) (within + len) t → Sized k s (sum + size + length t)
+      added : (t : List ℕ) → Remaining k s (start + len) (count + 1) (within + len) t → SizedListing k s (sum + size + length t)
       added t x =
-          let z = c .whole (size-next .text ++ t) (line-left _ (size-next .found) (size-next .line) x) in
+          let z = c .completes (size-next .text ++ t) (line-left _ (size-next .found) (size-next .line) x) in
           record { text = z .text; right = z .right; size = omega (arith, z .size, length-append (size-next .text) t, size-next .size-is) }
 
       pub summed : Sums k s (sum + size) (start + len) (count + 1) (within + len)
-      summed = record { passed = passed-on (c .passed) measured-ahead; whole = added }
+      summed = record { passed = passed-on (c .passed) measured-ahead; completes = added }
 
       -- the sum stays small
-      pub sum-most : Listable k s → sum + size ≤ last
+      pub sum-most : Listable k s → sum + size ≤ largestPlace
       sum-most l =
           let x = some-left (l .is-kind) _ count within (size-next .found) in
           let z = added (x .0) (x .1) in
@@ -85,22 +85,22 @@ module _ {k : ℕ} {s : List ℕ} {place : ℕ} (r : Measured) (m : Measures k s
 
   -- where none is left the last line completes the listing
   pub sums-end : {why : Refusal} {sum count within n : ℕ} → r ≡ NoSize why → Listable k s → Sums k s sum place count within
-      → n ≡ min (sum + length (lastLine count (length s - within))) last → Sized k s n
+      → n ≡ min (sum + length (lastLine count (length s - within))) largestPlace → SizedListing k s n
   sums-end {why} e l c b =
       let f : Searches k s place (NoHit why) = refuses (some-number why) (cause-of (subst (Measures k s place) e m)) in
-      let z = c .whole _ (last-left (refused-none why (l .is-kind) (c .passed .place-in) f)) in
+      let z = c .completes _ (last-left (refused-none why (l .is-kind) (c .passed .place-in) f)) in
       record { text = z .text; right = z .right; size = omega (arith, b, z .size, lists-most (l .short) (z .right), l .short) }
 
 -- ---- putting
 
-pub started : {k : ℕ} {s room : List ℕ} → length room ≤ last → Roomy k s (length room) → Completes k s room room 0 0 0 0
+pub started : {k : ℕ} {s room : List ℕ} → length room ≤ largestPlace → Roomy k s (length room) → Completes k s room room 0 0 0 0
 started h e =
     record {
       passed = none-passed;
       slice = h;
       same = refl;
       enough = λ t r. omega (arith, e .each t (from-start r));
-      whole = λ later behind t r p. record { text = t; lists = from-start r; put = p };
+      completes = λ later behind t r p. record { text = t; lists = from-start r; put = p };
     }
 
 module _ {k : ℕ} {s : List ℕ} {place : ℕ} {room₀ : List ℕ} {next : ℕ} (r : Listed) {later : List ℕ} (n : PutsNext k s place room₀ next r later) where
@@ -125,7 +125,7 @@ module _ {k : ℕ} {s : List ℕ} {place : ℕ} {room₀ : List ℕ} {next : ℕ
         let p : Put room₀ later next behind u =
         record {
           slice = omega (arith, c .same, c .slice);
-          holds = a .room-is;
+          room-is = a .room-is;
           behind = omega (arith, a .behind-is, roomy _ u (a .found) (a .line), c .same, c .slice);
         } in
         record {
@@ -133,7 +133,7 @@ module _ {k : ℕ} {s : List ℕ} {place : ℕ} {room₀ : List ℕ} {next : ℕ
           slice = c .slice;
           same = put-length p ∙ c .same;
           enough = λ t x. omega (arith, c .enough (u ++ t) (line-left _ (a .found) (a .line) x), length-append u t, a .behind-is);
-          whole = λ end to t x q. c .whole end to _ (line-left _ (a .found) (a .line) x) (p then q);
+          completes = λ end to t x q. c .completes end to _ (line-left _ (a .found) (a .line) x) (p then q);
         }
 
     -- where none is left the room is as it was, and the last line completes the listing
@@ -143,5 +143,5 @@ module _ {k : ℕ} {s : List ℕ} {place : ℕ} {room₀ : List ℕ} {next : ℕ
         let a = known-next e in
         let f : Searches k s place (NoHit why) =
         refuses (some-number why) (refused-by-search (λ v t m o. let h = roomy v t m o in omega arith) (cause-of a)) in
-        c .whole end behind _ (last-left (refused-none why (l .is-kind) (c .passed .place-in) f))
+        c .completes end behind _ (last-left (refused-none why (l .is-kind) (c .passed .place-in) f))
         (subst (λ (x : List ℕ). Put x end next behind (lastLine count (length s - within))) (room-kept why a) p)

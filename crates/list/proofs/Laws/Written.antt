@@ -10,7 +10,7 @@ use lib.ListN.{length, getD}
 use Rattle.digits.specs.Paper.Ascii.{ascii}
 use Rattle.digits.specs.Paper.Bytes.{part}
 use Rattle.digits.specs.Paper.Decimal.{decimal, decimalIn, enough}
-use Rattle.digits.specs.declared.refusal.Refusal.the-variants.{Room}
+use Rattle.digits.specs.declared.refusal.Refusal.the-variants.{NoRoom}
 use Rattle.digits.proofs.Laws.Parts.{part-rest}
 use Rattle.json.specs.Paper.Json.{number, further, object}
 use Rattle.puts.specs.Paper.Wrote.{refused, RoomCause, Writes}
@@ -21,7 +21,7 @@ use Rattle.puts.proofs.Laws.Sizes as sizes
 use Rattle.puts.proofs.Laws.Wrote.{wrote-by, too-short, room-for}
 use Rattle.list.specs.Paper.Answers.{WritesListing}
 use Rattle.list.specs.Paper.Listing.{lastLine, Lists, Input, mostInput, refusedWith, bad-start, too-long, listed}
-use Rattle.list.specs.Work.Rest.{Listable, Fits, Roomy, PutsLists, WritesLists}
+use Rattle.list.specs.Work.Remaining.{Listable, Fits, Roomy, PutsLists, WritesLists}
 use Rattle.list.proofs.Laws.Inputs.{digit, behind-start, kind-known}
 use Rattle.list.proofs.Laws.One.{lists-one}
 use Rattle.list.proofs.Laws.Sizes.{lists-most}
@@ -46,7 +46,7 @@ module _ {k : ℕ} {s : List ℕ} where
   pub roomy : {n : ℕ} → Fits k s n true → Roomy k s n
   roomy f = record { each = λ t l. large-enough (λ a b. lists-one) f l }
 
-  pub refused-4 : {room : List ℕ} → Fits k s (length room) false → WritesLists k s room (Refused Room) room
+  pub refused-4 : {room : List ℕ} → Fits k s (length room) false → WritesLists k s room (Refused NoRoom) room
   refused-4 f = record { text = f .text; lists = f .right; written = refused (lit< tt) (too-short (too-small f)) }
 
   pub all-written : {room later : List ℕ} {n : ℕ} → Fits k s (length room) true → PutsLists k s room later n → WritesLists k s room (Bytes n) later

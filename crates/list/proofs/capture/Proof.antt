@@ -4,7 +4,7 @@ use mathlib.Core.Bool.{true}
 use mathlib.Core.Path.{subst}
 use lib.ListN.{length}
 use borrow.Author.Tests.{not-true, not-false}
-use Rattle.list.specs.Work.Rest.{Fits}
+use Rattle.list.specs.Work.Remaining.{Fits}
 use Rattle.list.proofs.Laws.Written.{roomy, refused-4, all-written}
 use borrow.Author.Needs.{needs}
 use Rattle.list.proofs.capture.Statement.{statement}

@@ -4,7 +4,7 @@ use Prim.Native.Nat.{_-_}
 use native.Mathlib.Omega.{arith}
 use lib.ListN.{length}
 use borrow.Author.Needs.{needs}
-use Rattle.list.specs.Work.Rest.{Completes}
+use Rattle.list.specs.Work.Remaining.{Completes}
 use Rattle.list.proofs.Laws.Turns.{started, next-ahead, turned, ended}
 use Rattle.list.proofs.put.Statement.{statement}
 use Rattle.list.proofs.put.Tie as tie

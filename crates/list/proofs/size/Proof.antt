@@ -4,7 +4,7 @@ use Prim.Native.Nat.{_-_}
 use native.Mathlib.Omega.{arith}
 use lib.ListN.{length}
 use borrow.Author.Needs.{needs}
-use Rattle.list.specs.Work.Rest.{Sums}
+use Rattle.list.specs.Work.Remaining.{Sums}
 use Rattle.list.proofs.Laws.Turns.{sums-start, measured-ahead, summed, sum-most, sums-end}
 use Rattle.list.proofs.size.Statement.{statement}
 use Rattle.list.proofs.size.Tie as tie

@@ -7,8 +7,8 @@ use Rattle.puts.specs.Paper.Wrote.{Wrote, RoomCause, writtenRefusal, writtenCou
 use Rattle.puts.specs.declared.Written.{Written}
 use Rattle.list.specs.Paper.Listing.{Listing}
 
--- The right outcome of a call that writes the listing of s from the front of a lent room, as a refusal number, a
--- count of bytes and the room afterwards: the whole, or 4 and nothing written where the room is too short.
+-- The right outcome of a call that writes the listing of s from the front of a lent room: a refusal number, a count
+-- of bytes, and the room afterwards. The whole listing is written, or nothing and 4 if the room is too short.
 pub record WroteListing (s room : List ℕ) (no count : ℕ) (later : List ℕ) : Type 0 where
   pub listing : List ℕ
   pub lists : Listing s listing

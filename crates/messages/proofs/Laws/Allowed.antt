@@ -9,15 +9,15 @@ use native.Mathlib.Omega.{arith}
 use lib.Dec.{eqb, lit<}
 use Rattle.digits.proofs.Laws.Refusals.{one-first, one-refusal, some-number, cause-of, pass-over}
 use Rattle.digits.specs.Paper.Hex.{hexBytes}
-use Rattle.digits.specs.Paper.Read.{Tells, holds, fails}
-use Rattle.digits.specs.Paper.Refusals.{order, First, Answers, clear, here, after, answers, refuses}
-use Rattle.digits.specs.declared.refusal.Refusal.the-variants.{Limits as OutsideLimits, Above as TakenAbove}
+use Rattle.digits.specs.Paper.Read.{Decides, holds, fails}
+use Rattle.digits.specs.Paper.Refusals.{refusalOrder, First, Answers, clear, here, after, answers, refuses}
+use Rattle.digits.specs.declared.refusal.Refusal.the-variants.{OutOfLimits, ContentAbove}
 use Rattle.layouts.specs.Paper.Made.{Wire, Payload}
-use Rattle.messages.specs.Paper.Allowed.{Allows, StandingCause, outside, taken, InTheTable, standingNumber, StandsSo}
+use Rattle.messages.specs.Paper.Allowed.{Allows, StandingCause, outside, taken, InTheTable, standingRefusal, StandsSo}
 use Rattle.messages.specs.Paper.Content as content
 use Rattle.messages.specs.Paper.Homiq.{fieldAt}
 use Rattle.messages.specs.Paper.Message.{Message, link, homiq, row}
-use Rattle.messages.specs.Paper.Says.{ofNikobus, ofResponse, ofNibe, ofHomiq, SaysNikobus, digits, fixed, SaysHomiq}
+use Rattle.messages.specs.Paper.Says.{ofNikobus, ofResponse, ofNibe, ofHomiq, SaysNikobus, a-link, another, SaysHomiq}
 use Rattle.messages.specs.Paper.Table.{contentOf, Limits, Above}
 use Rattle.messages.specs.Work.Answers.{Only, standingOf}
 use Rattle.messages.specs.Work.Homiq.{whichOf, caseNumber}
@@ -25,13 +25,16 @@ use Rattle.messages.specs.Work.Look.{lookHomiq, look}
 use Rattle.messages.specs.Work.Nikobus.{LinkDigits}
 use Rattle.messages.specs.declared.Message.{Message as Coded}
 use Rattle.messages.specs.declared.nest.Response.{Response}
-use Rattle.messages.specs.declared.nest.Response.the-variants.{Climate, State, Break, End, Text, Response as Other}
+use Rattle.messages.specs.declared.nest.Response.the-variants.{Climate, State, Break, End, Text}
+use Rattle.messages.specs.declared.nest.Response.the-variants as responseCases
 use Rattle.messages.specs.declared.nibe.Nibe.{Nibe}
-use Rattle.messages.specs.declared.nibe.Nibe.the-variants.{Ask, Reply, Put, Done, Nibe as Plain}
+use Rattle.messages.specs.declared.nibe.Nibe.the-variants.{Ask, Reply, Put, Done}
+use Rattle.messages.specs.declared.nibe.Nibe.the-variants as nibeCases
 use Rattle.messages.specs.declared.Standing.{Standing}
 use Rattle.messages.specs.declared.Standing.the-variants.{Good as InTable, Refused}
 use Rattle.messages.specs.declared.homiq.Homiq.{Homiq}
-use Rattle.messages.specs.declared.homiq.Homiq.the-variants.{Output, Input, Shutter, Beat, Homiq as Rest}
+use Rattle.messages.specs.declared.homiq.Homiq.the-variants.{Output, Input, Shutter, Beat}
+use Rattle.messages.specs.declared.homiq.Homiq.the-variants as homiqCases
 use Rattle.messages.specs.declared.nikobus.Nikobus.{Nikobus}
 use Rattle.messages.specs.declared.nikobus.Nikobus.the-variants.{Read, Set, Answer, Press, Tail, Link}
 use Rattle.digits.proofs.Laws.Hex.{hex-inj}
@@ -54,8 +57,8 @@ only k e (taken s a) = true≢false e
 
 module _ {Means : Message → Type 0} where
   -- outside its limits, or no message at all
-  pub is-outside : ((q : Message) → Means q → Limits q → ⊥) → StandsSo Means (Refused OutsideLimits)
-  is-outside f = refuses (lit< tt) (pass-over ours only order (here (outside f)))
+  pub is-outside : ((q : Message) → Means q → Limits q → ⊥) → StandsSo Means (Refused OutOfLimits)
+  is-outside f = refuses (lit< tt) (pass-over ours only refusalOrder (here (outside f)))
 
   -- one message is meant
   module _ (m : Message) (meant : Means m) (one : (q : Message) → Means q → q ≡ m) (l : Limits m) where
@@ -64,15 +67,15 @@ module _ {Means : Message → Type 0} where
 
     pub is-good : look (contentOf m) ≡ m → StandsSo Means InTable
     is-good e =
-        answers {v = tt {0}} (pass-over ours only order (after not-5 (after not-6 clear))) (m, meant, record { limits = l; free = free m e })
+        answers {v = tt {0}} (pass-over ours only refusalOrder (after not-5 (after not-6 clear))) (m, meant, record { limits = l; free = free m e })
       where
         not-6 : StandingCause Means 6 → ⊥
         not-6 (taken {m = q} s a) = free m e (subst Above (one q s) a)
 
     -- what is found for its content stands above it
-    pub found-above : {q : Message} → q ≡ look (contentOf m) → row q < row m → StandsSo Means (Refused TakenAbove)
+    pub found-above : {q : Message} → q ≡ look (contentOf m) → row q < row m → StandsSo Means (Refused ContentAbove)
     found-above e h =
-        refuses (lit< tt) (pass-over ours only order (after not-5 (here (taken meant (above-of m l (subst (λ (x : Message). row x < row m) e h))))))
+        refuses (lit< tt) (pass-over ours only refusalOrder (after not-5 (here (taken meant (above-of m l (subst (λ (x : Message). row x < row m) e h))))))
 
     -- what is found does not stand above it: so it is found itself
     pub found-same : {q : Message} → q ≡ look (contentOf m) → (row q < row m → ⊥) → StandsSo Means InTable
@@ -84,14 +87,14 @@ module _ (m : Message) where
   the-only : (q : Message) → Only m q → q ≡ m
   the-only q e = e
 
-  pub only-outside : (Limits m → ⊥) → StandsSo (Only m) (Refused OutsideLimits)
+  pub only-outside : (Limits m → ⊥) → StandsSo (Only m) (Refused OutOfLimits)
   only-outside f = is-outside (λ q e l. f (subst Limits e l))
 
   module _ (l : Limits m) where
     pub only-good : look (contentOf m) ≡ m → StandsSo (Only m) InTable
     only-good = is-good m refl the-only l
 
-    pub only-above : {q : Message} → q ≡ look (contentOf m) → row q < row m → StandsSo (Only m) (Refused TakenAbove)
+    pub only-above : {q : Message} → q ≡ look (contentOf m) → row q < row m → StandsSo (Only m) (Refused ContentAbove)
     only-above = found-above m refl the-only l
 
     pub only-same : {q : Message} → q ≡ look (contentOf m) → (row q < row m → ⊥) → StandsSo (Only m) InTable
@@ -99,7 +102,7 @@ module _ (m : Message) where
 
   -- its limits hold exactly where what is tested does, and no message above has its content
   module _ {P : Type 0} (within : P → Limits m) (back : Limits m → P) (own : Limits m → look (contentOf m) ≡ m) where
-    pub only-if : {hold : Bool} {r : Standing} → Tells P hold → r ≡ standingOf hold → StandsSo (Only m) r
+    pub only-if : {hold : Bool} {r : Standing} → Decides P hold → r ≡ standingOf hold → StandsSo (Only m) r
     only-if (holds p) e = subst (StandsSo (Only m)) (sym e) (only-good (within p) (own (within p)))
     only-if (fails f) e = subst (StandsSo (Only m)) (sym e) (only-outside (λ l. f (back l)))
 
@@ -117,19 +120,19 @@ module _ {A B : Message → Type 0} (to : (m : Message) → A m → B m) (back :
   first-as _ (after n f) = after (λ c. n (cause-as back to _ c)) (first-as _ f)
 
   answer-as : {no : ℕ} {v : Unit {0}} → Answers (tt {0}) (StandingCause A) (InTheTable A) no v → Answers (tt {0}) (StandingCause B) (InTheTable B) no v
-  answer-as (answers c x) = answers (first-as order c) (x .0, to (x .0) (x .1), x .2)
-  answer-as (refuses p c) = refuses p (first-as order c)
+  answer-as (answers c x) = answers (first-as refusalOrder c) (x .0, to (x .0) (x .1), x .2)
+  answer-as (refuses p c) = refuses p (first-as refusalOrder c)
 
   pub stands-as : (r : Standing) → StandsSo A r → StandsSo B r
   stands-as r a = answer-as a
 
 -- a Nikobus message that takes nothing from beside it
 pub fixed-as : (e : Nikobus) (s : List ℕ) → (e ≡ Link → ⊥) → (r : Standing) → StandsSo (Only (ofNikobus e [])) r → StandsSo (SaysNikobus e s) r
-fixed-as e s n = stands-as (λ m h. fixed n h) back
+fixed-as e s n = stands-as (λ m h. another n h) back
   where
     back : (m : Message) → SaysNikobus e s m → m ≡ ofNikobus e []
-    back m (digits h b d i) = absurd (n h)
-    back m (fixed h i) = i
+    back m (a-link h l) = absurd (n h)
+    back m (another h i) = i
 
 -- ---- the code's messages, case by case
 
@@ -165,37 +168,38 @@ response-row State p = refl
 response-row Break p = refl
 response-row End p = refl
 response-row (Text id) p = refl
-response-row (Other id) p = refl
+response-row (responseCases.Other id) p = refl
 
 pub nibe-row : (e : Nibe) (d : List ℕ) → row (ofNibe e d) ≡ row (ofNibe e [])
 nibe-row (Ask register) d = refl
 nibe-row (Reply v) d = refl
 nibe-row (Put v) d = refl
 nibe-row (Done ok) d = refl
-nibe-row (Plain command) d = refl
+nibe-row (nibeCases.Other command) d = refl
 
 -- ---- a link
 
 module _ {d : List ℕ} where
-  pub no-digits : (LinkDigits d → ⊥) → StandsSo (SaysNikobus Link d) (Refused OutsideLimits)
+  pub no-digits : (LinkDigits d → ⊥) → StandsSo (SaysNikobus Link d) (Refused OutOfLimits)
   no-digits f = is-outside go
     where
       go : (q : Message) → SaysNikobus Link d q → Limits q → ⊥
-      go q (digits {p = p} h b e i) l = f (record { payload = p; limits = subst Limits i l; is = e })
-      go q (fixed h i) l = h refl
+      go q (a-link h a) l = f (record { payload = a .payload; limits = subst Limits (a .is) l; is = a .digits })
+      go q (another h i) l = h refl
 
   module _ (x : LinkDigits d) where
     abbrev own : Message
     own = link (x .payload)
 
     meant : SaysNikobus Link d own
-    meant = digits refl (x .limits .bytes) (x .is) refl
+    meant = a-link refl (record { payload = x .payload; bytes = x .limits .bytes; digits = x .is; is = refl })
 
     one : (q : Message) → SaysNikobus Link d q → q ≡ own
-    one q (digits {p = p} h b e i) = i ∙ ap link (hex-inj p (x .payload) b (x .limits .bytes) (sym e ∙ x .is))
-    one q (fixed h i) = absurd (h refl)
+    one q (a-link h a) =
+        a .is ∙ ap link (hex-inj (a .payload) (x .payload) (a .bytes) (x .limits .bytes) (sym (a .digits) ∙ x .is))
+    one q (another h i) = absurd (h refl)
 
-    pub link-above : {q : Message} → q ≡ look (contentOf own) → row q < 6 → StandsSo (SaysNikobus Link d) (Refused TakenAbove)
+    pub link-above : {q : Message} → q ≡ look (contentOf own) → row q < 6 → StandsSo (SaysNikobus Link d) (Refused ContentAbove)
     link-above = found-above own meant one (x .limits)
 
     pub link-good : {q : Message} → q ≡ look (contentOf own) → (row q < 6 → ⊥) → StandsSo (SaysNikobus Link d) InTable
@@ -209,39 +213,39 @@ homiq-content Output w = refl
 homiq-content Input w = refl
 homiq-content Shutter w = refl
 homiq-content Beat w = refl
-homiq-content Rest w = refl
+homiq-content homiqCases.Other w = refl
 
 -- the number tells the case
 abbrev caseOf : ℕ → Homiq
-caseOf n = cond (eqb n 0) Output (cond (eqb n 1) Input (cond (eqb n 2) Shutter (cond (eqb n 3) Beat Rest)))
+caseOf n = cond (eqb n 0) Output (cond (eqb n 1) Input (cond (eqb n 2) Shutter (cond (eqb n 3) Beat homiqCases.Other)))
 
 case-back : (e : Homiq) → caseOf (caseNumber e) ≡ e
 case-back Output = refl
 case-back Input = refl
 case-back Shutter = refl
 case-back Beat = refl
-case-back Rest = refl
+case-back homiqCases.Other = refl
 
 one-case : (d e : Homiq) → caseNumber d ≡ caseNumber e → d ≡ e
 one-case d e h = sym (case-back d) ∙ ap caseOf h ∙ case-back e
 
 -- a message but the last has its command and value
-which-is : (e : Homiq) (w : Wire) → (e ≡ Rest → ⊥) → Limits (ofHomiq e w) → whichOf (w .cmd) (w .val) ≡ e
+which-is : (e : Homiq) (w : Wire) → (e ≡ homiqCases.Other → ⊥) → Limits (ofHomiq e w) → whichOf (w .cmd) (w .val) ≡ e
 which-is Output w n l = output-which w l
 which-is Input w n l = input-which w l
 which-is Shutter w n l = shutter-which w l
 which-is Beat w n l = beat-which w l
-which-is Rest w n l = absurd (n refl)
+which-is homiqCases.Other w n l = absurd (n refl)
 
-rest-last : (e : Homiq) (w : Wire) → (e ≡ Rest → ⊥) → row (ofHomiq e w) < row (homiq w)
+rest-last : (e : Homiq) (w : Wire) → (e ≡ homiqCases.Other → ⊥) → row (ofHomiq e w) < row (homiq w)
 rest-last Output w n = lit< tt
 rest-last Input w n = lit< tt
 rest-last Shutter w n = lit< tt
 rest-last Beat w n = lit< tt
-rest-last Rest w n = absurd (n refl)
+rest-last homiqCases.Other w n = absurd (n refl)
 
 module _ (e : Homiq) {s : List ℕ} where
-  pub no-payload : ((w : Wire) × Payload s w → ⊥) → StandsSo (SaysHomiq e s) (Refused OutsideLimits)
+  pub no-payload : ((w : Wire) × Payload s w → ⊥) → StandsSo (SaysHomiq e s) (Refused OutOfLimits)
   no-payload f = is-outside (λ q a l. f (a .wire, a .payload))
 
   -- these are the fields, and d is the message that they are
@@ -267,15 +271,15 @@ module _ (e : Homiq) {s : List ℕ} where
         is-good (ofHomiq e w) homiq-meant homiq-one l (sym looked ∙ ap (λ (x : Homiq). ofHomiq x w) k)
 
     module _ (other : caseNumber e ≡ caseNumber d → ⊥) where
-      pub homiq-above : caseNumber e ≡ 4 → StandsSo (SaysHomiq e s) (Refused TakenAbove)
+      pub homiq-above : caseNumber e ≡ 4 → StandsSo (SaysHomiq e s) (Refused ContentAbove)
       homiq-above h =
-          let r : e ≡ Rest = one-case e Rest h in
+          let r : e ≡ homiqCases.Other = one-case e homiqCases.Other h in
           let l : Limits (ofHomiq e w) = subst (λ (x : Homiq). Limits (ofHomiq x w)) (sym r) (pl .limits) in
           let above : row (ofHomiq d w) < row (ofHomiq e w) =
           subst (λ (x : Homiq). row (ofHomiq d w) < row (ofHomiq x w)) (sym r) (rest-last d w (λ q. other (h ∙ sym (ap caseNumber q)))) in
           found-above (ofHomiq e w) homiq-meant homiq-one l looked above
 
-      pub homiq-other : (caseNumber e ≡ 4 → ⊥) → StandsSo (SaysHomiq e s) (Refused OutsideLimits)
+      pub homiq-other : (caseNumber e ≡ 4 → ⊥) → StandsSo (SaysHomiq e s) (Refused OutOfLimits)
       homiq-other h =
           is-outside λ q a l.
           let k : whichOf (w .cmd) (w .val) ≡ e = which-is e w (λ r. h (ap caseNumber r)) (subst Limits (homiq-one q a) l) in

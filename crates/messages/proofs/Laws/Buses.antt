@@ -6,7 +6,7 @@ use Prim.Native.Nat.{ℕ, _≤_, _<_}
 use native.Mathlib.Omega.{arith}
 use lib.ListN.{length, getD}
 use Rattle.digits.specs.Paper.Bytes.{part}
-use Rattle.digits.specs.Paper.LowFirst.{lowFirst}
+use Rattle.digits.specs.Paper.LowFirst.{lowByteFirst}
 use Rattle.layouts.specs.Paper.Homiq as homiqs
 use Rattle.layouts.specs.Paper.Layout.{bytesOf}
 use Rattle.layouts.specs.Paper.Layout as layout
@@ -42,15 +42,15 @@ use Rattle.messages.proofs.Laws.HomiqFields.{payload-cmd, payload-val}
 -- ---- where the fields stand
 
 pub command-id : (m : Nest) → m .id < 65536 → u16At 3 (bytesOf (nests.nest AsCommand) m) ≡ m .id
-unfolding lowFirst
+unfolding lowByteFirst
 command-id m h = omega arith
 
 pub response-id : (m : Nest) → m .id < 65536 → u16At 4 (bytesOf (nests.nest AsResponse) m) ≡ m .id
-unfolding lowFirst
+unfolding lowByteFirst
 response-id m h = omega arith
 
 -- the six fields of a frame, and the payload that they have
-pub wire-in : {f : List ℕ} (r : layout.Frame homiqs.homiq f) → Payload (homiqs.payload (r .form .fields)) (wireOf (r .form .fields))
+pub wire-in : {f : List ℕ} (r : layout.FrameBy homiqs.homiq f) → Payload (homiqs.payload (r .form .fields)) (wireOf (r .form .fields))
 wire-in r =
     let m = r .form .fields in
     record { limits = homiq-fit (wireOf m) (m .crc) (r .form .limits); laid = refl }
@@ -66,7 +66,7 @@ homiq-says {w = w} l g = record { wire = w; payload = l; is = ap (λ (x : Homiq)
 
 module _ {f : List ℕ} {from to : ℕ} where
   module _ (kind : Kind) (o : Payloaded (numberOf kind) f from to) where
-    own : layout.Frame (layoutOf kind) f
+    own : layout.FrameBy (layoutOf kind) f
     own = of-kind (o .frame) kind refl
 
     own-content : contentAt (o .frame) ≡ contentIn kind (own .form .fields)
@@ -103,7 +103,7 @@ module _ {f : List ℕ} {from to : ℕ} where
     -- ---- Nest
 
     pub long-command : kind ≡ kinds.NestCommand → 5 ≤ length f
-    unfolding lowFirst
+    unfolding lowByteFirst
     long-command h = let q = in-arm h in omega (arith, inside q, own-from kinds.NestCommand q)
 
     pub said-command : kind ≡ kinds.NestCommand → (i : ℕ) → i ≡ u16At 3 f → Said (numberOf kind) f (Command i) from to
@@ -117,7 +117,7 @@ module _ {f : List ℕ} {from to : ℕ} where
         (ap (λ (j : ℕ). messages.command j (m .payload)) (sym id) ∙ ap (messages.command i) (sym (own-part kinds.NestCommand q))))
 
     pub long-response : kind ≡ kinds.NestResponse → 6 ≤ length f
-    unfolding lowFirst
+    unfolding lowByteFirst
     long-response h = let q = in-arm h in omega (arith, inside q, own-from kinds.NestResponse q)
 
     pub said-response : {e : Responded} → kind ≡ kinds.NestResponse → (i : ℕ) → i ≡ u16At 4 f

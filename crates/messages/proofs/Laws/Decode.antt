@@ -8,7 +8,7 @@ use denote.Ref.{RefT, now}
 use lib.ListN.{length}
 use Rattle.digits.specs.Paper.Bytes.{part}
 use Rattle.digits.specs.Paper.Part.{zeroEnds, IsPart}
-use Rattle.digits.specs.Paper.Refusals.{refusalNumber, order, First, clear, here, after}
+use Rattle.digits.specs.Paper.Refusals.{refusalNumber, refusalOrder, First, clear, here, after}
 use Rattle.digits.specs.declared.refusal.Refusal.{Refusal}
 use Rattle.digits.proofs.Laws.Handed.{same-ends, hands-right, hands-none}
 use Rattle.digits.proofs.Laws.Parts.{part-middle}
@@ -16,10 +16,10 @@ use Rattle.digits.proofs.Laws.Refusals.{answered, cause-of}
 use Rattle.layouts.specs.Paper.Layout.{Layout, bytesOf}
 use Rattle.layouts.specs.Paper.Layout as layout
 use Rattle.frames.specs.Paper.Kinds.{layoutOf, Frame}
-use Rattle.frames.specs.Paper.Whole as whole
-use Rattle.frames.specs.Paper.Whole.{WholeCause, TestsWhole}
-use Rattle.frames.specs.declared.Whole.{Whole}
-use Rattle.frames.specs.declared.Whole.the-variants.{Is as WholeIs, Refused as WholeRefused}
+use Rattle.frames.specs.Paper.OneFrame as whole
+use Rattle.frames.specs.Paper.OneFrame.{OneFrameCause, TestsOneFrame}
+use Rattle.frames.specs.declared.FramePayload.{FramePayload}
+use Rattle.frames.specs.declared.FramePayload.the-variants.{Is as WholeIs, Refused as WholeRefused}
 use Rattle.frames.proofs.Laws.Kinds.{payload-inside}
 use Rattle.messages.specs.Paper.Answers.{Stands, DecodeCause, no-kind, no-message, Said, Contents}
 use Rattle.messages.specs.Paper.Content.{Content, contentAt, kindOf, made, laid, payloadIn, payloadFrom, payloadTo}
@@ -55,16 +55,16 @@ pub is-frame : {k : ℕ} {f : List ℕ} {m : Message} → Stands k f m → Frame
 is-frame s = s .frame
 
 module _ {k : ℕ} {f : List ℕ} where
-  to-decode : (no : ℕ) → WholeCause k f no → DecodeCause k f no
+  to-decode : (no : ℕ) → OneFrameCause k f no → DecodeCause k f no
   to-decode i (whole.no-kind h) = no-kind h
   to-decode i (whole.no-frame h) = no-message (λ m s. h (is-frame s))
 
-  to-whole : (no : ℕ) → DecodeCause k f no → WholeCause k f no
+  to-whole : (no : ℕ) → DecodeCause k f no → OneFrameCause k f no
   to-whole i (no-kind h) = whole.no-kind h
   to-whole i (no-message h) = whole.no-frame (λ r. let q = message-of r in h (q .0) (q .1))
 
-  pub first-decode : {no : ℕ} → First (WholeCause k f) order no → First (DecodeCause k f) order no
-  first-decode {no = i} c = first-same to-decode to-whole order i c
+  pub first-decode : {no : ℕ} → First (OneFrameCause k f) refusalOrder no → First (DecodeCause k f) refusalOrder no
+  first-decode {no = i} c = first-same to-decode to-whole refusalOrder i c
 
   -- ---- the payload
 
@@ -114,7 +114,7 @@ module _ {k : ℕ} {f : List ℕ} where
 
 -- content: that part of the frame
 module _ {k : ℕ} {s r : RefT (List ℕ)} where
-  pub contents-part : {from to : ℕ} → Payloaded k (now s) from to → First (WholeCause k (now s)) order 0 → IsPart s (record { from = from; to = to }) r
+  pub contents-part : {from to : ℕ} → Payloaded k (now s) from to → First (OneFrameCause k (now s)) refusalOrder 0 → IsPart s (record { from = from; to = to }) r
       → Contents k s r
   contents-part o c i =
       let same : contentOf (look (its o)) ≡ its o = reads (its o) (its-fit o) .same in
@@ -126,20 +126,20 @@ module _ {k : ℕ} {s r : RefT (List ℕ)} where
       i
 
   -- refused
-  pub contents-nothing : (why : Refusal) → First (WholeCause k (now s)) order (refusalNumber why) → IsPart s zeroEnds r → Contents k s r
+  pub contents-nothing : (why : Refusal) → First (OneFrameCause k (now s)) refusalOrder (refusalNumber why) → IsPart s zeroEnds r → Contents k s r
   contents-nothing why c = hands-none why (first-decode c)
 
 -- what is tested of the whole, case by case
-module _ {k : ℕ} {f : List ℕ} {r : Whole} (a : TestsWhole k f r) where
+module _ {k : ℕ} {f : List ℕ} {r : FramePayload} (a : TestsOneFrame k f r) where
   module _ {from to : ℕ} (e : r ≡ WholeIs from to) where
-    tested : TestsWhole k f (WholeIs from to)
-    tested = subst (TestsWhole k f) e a
+    tested : TestsOneFrame k f (WholeIs from to)
+    tested = subst (TestsOneFrame k f) e a
 
     pub one-frame : Payloaded k f from to
     one-frame = answered tested refl
 
-    pub no-first : First (WholeCause k f) order 0
+    pub no-first : First (OneFrameCause k f) refusalOrder 0
     no-first = cause-of tested
 
-  pub first-of : {why : Refusal} → r ≡ WholeRefused why → First (WholeCause k f) order (refusalNumber why)
-  first-of e = cause-of (subst (TestsWhole k f) e a)
+  pub first-of : {why : Refusal} → r ≡ WholeRefused why → First (OneFrameCause k f) refusalOrder (refusalNumber why)
+  first-of e = cause-of (subst (TestsOneFrame k f) e a)

@@ -14,7 +14,7 @@ use Rattle.frames.specs.declared.Found.the-variants.{At as Hit, Refused as NoHi
 use Rattle.messages.specs.Paper.Answers.{Said, Finds}
 use Rattle.messages.specs.Work.Answers.{Payloaded}
 use Rattle.messages.specs.declared.Message.{Message as Coded}
-use Rattle.messages.specs.declared.Seen.the-variants.{At, Refused as Unseen}
+use Rattle.messages.specs.declared.FoundMessage.the-variants.{At, Refused as NotFound}
 use Rattle.messages.proofs.Laws.Cases as cases
 
 module _ {k : ℕ} {s : List ℕ} {place : ℕ} {r : Found} (a : Searches k s place r) where
@@ -37,5 +37,5 @@ module _ {k : ℕ} {s : List ℕ} {place : ℕ} {r : Found} (a : Searches k s pl
     pub found : {c : Coded} → Said k (part start (start + len) s) c (from - start) (to - start) → Finds k s place (At start len from to c)
     found x = cases.found finding x
 
-  pub not-found : {why : Refusal} → r ≡ NoHit why → Finds k s place (Unseen why)
+  pub not-found : {why : Refusal} → r ≡ NoHit why → Finds k s place (NotFound why)
   not-found {why} e = cases.unfound why (subst (Searches k s place) e a)

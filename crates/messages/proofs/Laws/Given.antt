@@ -15,13 +15,13 @@ use Rattle.digits.proofs.Laws.Hex.{length-hex}
 use Rattle.digits.proofs.Laws.Tests.{T-true}
 use Rattle.digits.specs.Paper.Bytes.{Bytes}
 use Rattle.digits.specs.Paper.LowFirst.{Width, one, two, four, Held}
-use Rattle.digits.specs.Paper.Read.{Tells, holds, fails}
+use Rattle.digits.specs.Paper.Read.{Decides, holds, fails}
 use Rattle.layouts.proofs.Laws.HexDigits.{hex-all, hex-bytes, length-bytes, bytes-bytes}
 use Rattle.layouts.specs.Paper.Chars.{all, isHex}
 use Rattle.layouts.specs.Work.Nikobus.{bytesOf}
 use Rattle.numbers.proofs.Laws.Values.{In, lower, upper, size, in-held}
-use Rattle.numbers.specs.Paper.ByteValues.{Holds}
-use Rattle.messages.specs.Paper.Table.{SixBytes, Sized}
+use Rattle.numbers.specs.Paper.ByteValues.{HeldBy}
+use Rattle.messages.specs.Paper.Table.{SixBytes, BytesBetween}
 use Rattle.messages.specs.Work.Nikobus.{LinkDigits}
 use Rattle.messages.proofs.Laws.Telling.{tells}
 
@@ -46,10 +46,10 @@ module _ {d : List ℕ} (least : 2 ≤ length d) (most : length d ≤ 244) (even
         is = sym (hex-bytes (length d / 2) d n h);
       }
 
-  pub tells-link : {r : Bool} → r ≡ all isHex d → Tells (LinkDigits d) r
+  pub tells-link : {r : Bool} → r ≡ all isHex d → Decides (LinkDigits d) r
   tells-link {r} e = tells r (λ t. link-digits (subst T (sym (sym e ∙ t)) tt)) (λ x. e ∙ T-true _ (subst (λ (s : List ℕ). T (all isHex s)) (sym (x .is)) (hex-all (x .payload) (x .limits .bytes))))
 
-pub tells-press : (d : List ℕ) → length d ≡ 6 → {r : Bool} → r ≡ all isHex d → Tells ((length d ≡ 6) × T (all isHex d)) r
+pub tells-press : (d : List ℕ) → length d ≡ 6 → {r : Bool} → r ≡ all isHex d → Decides ((length d ≡ 6) × T (all isHex d)) r
 tells-press d n {r} e = tells r (λ t. (n, subst T (sym (sym e ∙ t)) tt)) (λ x. e ∙ T-true _ (x .1))
 
 -- ---- six values
@@ -60,12 +60,12 @@ six-bytes a b c d e f =
 
 -- ---- widths
 
-pub held-by : {w v : ℕ} {b : Bool} → Width w → Tells (v < 256 ^ w) b → Tells (Held w v) b
+pub held-by : {w v : ℕ} {b : Bool} → Width w → Decides (v < 256 ^ w) b → Decides (Held w v) b
 held-by k (holds h) = holds (record { known = k; below = h })
 held-by k (fails f) = fails (λ h. f (h .below))
 
 -- of the widths that there are, what is not 1 or 2 is 4, which holds every number of 32 bits
-pub held-four : {w v : ℕ} {b : Bool} → v < 256 ^ 4 → (w ≡ 1 → ⊥) → (w ≡ 2 → ⊥) → Tells (w ≡ 4) b → Tells (Held w v) b
+pub held-four : {w v : ℕ} {b : Bool} → v < 256 ^ 4 → (w ≡ 1 → ⊥) → (w ≡ 2 → ⊥) → Decides (w ≡ 4) b → Decides (Held w v) b
 held-four {w} {v} h n1 n2 (holds e) = holds (subst (λ (x : ℕ). Held x v) (sym e) (record { known = four; below = h }))
 held-four h n1 n2 (fails n4) = fails (λ q. none n1 n2 n4 (q .known))
   where
@@ -81,10 +81,10 @@ sixteen (pos n) f = lower {n = n} (omega (arith, f .sfits))
 sixteen (negsuc n) f = upper {n = n} (omega (arith, f .sfits))
 
 -- two bytes hold it
-pub holds-sixteen : (z : ℤ) → SFits w16 z → Holds 2 true z
+pub holds-sixteen : (z : ℤ) → SFits w16 z → HeldBy 2 true z
 holds-sixteen z f = in-held (size two) (sixteen z f)
 
 -- ---- payloads and data
 
-pub sized : {most : ℕ} {p : List ℕ} → length p ≤ most → Bytes p → Sized 0 most p
+pub sized : {most : ℕ} {p : List ℕ} → length p ≤ most → Bytes p → BytesBetween 0 most p
 sized h b = record { enough = omega arith; short = h; bytes = b }

@@ -19,12 +19,12 @@ use Rattle.digits.specs.Paper.Ascii.{ascii}
 use Rattle.digits.specs.Paper.Bytes.{part}
 use Rattle.digits.specs.Paper.Decimal.{decimal}
 use Rattle.digits.specs.Paper.Part.{Ends, IsPart}
-use Rattle.digits.specs.Paper.Read.{Tells, holds, fails}
+use Rattle.digits.specs.Paper.Read.{Decides, holds, fails}
 use Rattle.layouts.specs.Paper.Chars.{oneOf}
 use Rattle.messages.specs.Paper.Homiq.{upTo, past, fieldAt, fieldsFrom, fieldEnds}
-use Rattle.messages.specs.Paper.Table.{Numbered, Letter}
-use Rattle.messages.specs.Work.Homiq.{same, isNumbered, isLetter, whichOf}
-use Rattle.messages.specs.declared.homiq.Homiq.the-variants.{Output, Input, Shutter, Beat, Homiq as Rest}
+use Rattle.messages.specs.Paper.Table.{MarkedNumber, Letter}
+use Rattle.messages.specs.Work.Homiq.{same, isMarkedNumber, isLetter, whichOf}
+use Rattle.messages.specs.declared.homiq.Homiq.the-variants.{Output, Input, Shutter, Beat, Other}
 use Rattle.messages.proofs.Laws.HomiqTests.{same-tells, numbered-tells, letter-tells}
 use Rattle.messages.proofs.Laws.Telling.{both-tell}
 
@@ -149,7 +149,7 @@ module _ (s : List ℕ) (from end left : ℕ) (is : end ≡ from + length (upTo 
 
 -- ---- a mark and a number
 
-module _ {mark : List ℕ} {most : ℕ} {cmd : List ℕ} (q : Numbered mark most cmd) where
+module _ {mark : List ℕ} {most : ℕ} {cmd : List ℕ} (q : MarkedNumber mark most cmd) where
   pub numbered-long : length mark ≤ length cmd
   numbered-long = omega (arith, ap length (q .is), length-append mark (decimal (q .number)))
 
@@ -161,7 +161,7 @@ module _ {mark : List ℕ} {most : ℕ} {cmd : List ℕ} (q : Numbered mark most
 
 -- a command that begins with the mark, and behind it the digits of n
 pub numbered-by : {mark : List ℕ} {most n : ℕ} {cmd : List ℕ} {b : Bool} → mark ≡ part 0 (length mark) cmd → decimal n ≡ part (length mark) (length cmd) cmd
-    → Tells (n ≤ most) b → Tells (Numbered mark most cmd) b
+    → Decides (n ≤ most) b → Decides (MarkedNumber mark most cmd) b
 numbered-by {mark} {most} {n} {cmd} m d (holds h) =
     holds
     (record {
@@ -180,47 +180,47 @@ numbered-by {mark} {most} {n} {cmd} m d (fails f) =
 pub letter-one : {letters val : List ℕ} → Letter letters val → length val ≡ 1
 letter-one r = ap length (r .is)
 
-pub letter-by : (letters val : List ℕ) {b : Bool} → length val ≡ 1 → b ≡ oneOf letters (getD val 0 0) → Tells (Letter letters val) b
+pub letter-by : (letters val : List ℕ) {b : Bool} → length val ≡ 1 → b ≡ oneOf letters (getD val 0 0) → Decides (Letter letters val) b
 unfolding isLetter
 letter-by letters val {b} l e =
     let t : isLetter letters val ≡ b = rw (eq-eqb (length val) 1 l) (sym e) in
-    subst (Tells (Letter letters val)) t (letter-tells letters val)
+    subst (Decides (Letter letters val)) t (letter-tells letters val)
 
 -- ---- the message of a command and a value, from the answers of the four tests
 
 module _ (cmd val : List ℕ) where
-  output-test : {a : Bool} → Tells (Numbered (ascii "O.") 9 cmd × Letter (ascii "01") val) a → (isNumbered (ascii "O.") 9 cmd && isLetter (ascii "01") val) ≡ a
+  output-test : {a : Bool} → Decides (MarkedNumber (ascii "O.") 9 cmd × Letter (ascii "01") val) a → (isMarkedNumber (ascii "O.") 9 cmd && isLetter (ascii "01") val) ≡ a
   output-test t = test (both-tell (numbered-tells (ascii "O.") 9 cmd) (letter-tells (ascii "01") val)) t
 
-  input-test : {a : Bool} → Tells (Numbered (ascii "I.") 15 cmd × Letter (ascii "01") val) a → (isNumbered (ascii "I.") 15 cmd && isLetter (ascii "01") val) ≡ a
+  input-test : {a : Bool} → Decides (MarkedNumber (ascii "I.") 15 cmd × Letter (ascii "01") val) a → (isMarkedNumber (ascii "I.") 15 cmd && isLetter (ascii "01") val) ≡ a
   input-test t = test (both-tell (numbered-tells (ascii "I.") 15 cmd) (letter-tells (ascii "01") val)) t
 
-  shutter-test : {a : Bool} → Tells ((cmd ≡ ascii "UD") × Letter (ascii "uds") val) a → (same (ascii "UD") cmd && isLetter (ascii "uds") val) ≡ a
+  shutter-test : {a : Bool} → Decides ((cmd ≡ ascii "UD") × Letter (ascii "uds") val) a → (same (ascii "UD") cmd && isLetter (ascii "uds") val) ≡ a
   shutter-test t = test (both-tell (same-tells (ascii "UD") cmd) (letter-tells (ascii "uds") val)) t
 
-  beat-test : {a : Bool} → Tells ((cmd ≡ ascii "HB") × Letter (ascii "1") val) a → (same (ascii "HB") cmd && isLetter (ascii "1") val) ≡ a
+  beat-test : {a : Bool} → Decides ((cmd ≡ ascii "HB") × Letter (ascii "1") val) a → (same (ascii "HB") cmd && isLetter (ascii "1") val) ≡ a
   beat-test t = test (both-tell (same-tells (ascii "HB") cmd) (letter-tells (ascii "1") val)) t
 
-  module _ {a : Bool} (p : Tells (Numbered (ascii "O.") 9 cmd × Letter (ascii "01") val) a) where
+  module _ {a : Bool} (p : Decides (MarkedNumber (ascii "O.") 9 cmd × Letter (ascii "01") val) a) where
     pub look-output : a ≡ true → Output ≡ whichOf cmd val
     unfolding whichOf
     look-output e = rw (output-test p, e)
 
-    module _ {b : Bool} (q : Tells (Numbered (ascii "I.") 15 cmd × Letter (ascii "01") val) b) (e : a ≡ false) where
+    module _ {b : Bool} (q : Decides (MarkedNumber (ascii "I.") 15 cmd × Letter (ascii "01") val) b) (e : a ≡ false) where
       pub look-input : b ≡ true → Input ≡ whichOf cmd val
       unfolding whichOf
       look-input f = rw (output-test p, input-test q, e, f)
 
-      module _ {c : Bool} (r : Tells ((cmd ≡ ascii "UD") × Letter (ascii "uds") val) c) (f : b ≡ false) where
+      module _ {c : Bool} (r : Decides ((cmd ≡ ascii "UD") × Letter (ascii "uds") val) c) (f : b ≡ false) where
         pub look-shutter : c ≡ true → Shutter ≡ whichOf cmd val
         unfolding whichOf
         look-shutter g = rw (output-test p, input-test q, shutter-test r, e, f, g)
 
-        module _ {d : Bool} (s : Tells ((cmd ≡ ascii "HB") × Letter (ascii "1") val) d) (g : c ≡ false) where
+        module _ {d : Bool} (s : Decides ((cmd ≡ ascii "HB") × Letter (ascii "1") val) d) (g : c ≡ false) where
           pub look-beat : d ≡ true → Beat ≡ whichOf cmd val
           unfolding whichOf
           look-beat h = rw (output-test p, input-test q, shutter-test r, beat-test s, e, f, g, h)
 
-          pub look-rest : d ≡ false → Rest ≡ whichOf cmd val
+          pub look-rest : d ≡ false → Other ≡ whichOf cmd val
           unfolding whichOf
           look-rest h = rw (output-test p, input-test q, shutter-test r, beat-test s, e, f, g, h)

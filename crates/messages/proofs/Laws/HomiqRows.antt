@@ -16,10 +16,10 @@ use Rattle.messages.specs.Work.Content.{Fit}
 use Rattle.messages.specs.Paper.Message.{Message, output, input, shutter, beat, homiq}
 use Rattle.messages.specs.Paper.Says.{ofHomiq}
 use Rattle.messages.specs.Paper.Table.{Sends, contentOf, Limits}
-use Rattle.messages.specs.Work.Homiq.{same, isNumbered, isLetter, whichOf}
+use Rattle.messages.specs.Work.Homiq.{same, isMarkedNumber, isLetter, whichOf}
 use Rattle.messages.specs.Work.Look.{lookHomiq, look}
 use Rattle.messages.specs.declared.homiq.Homiq.{Homiq}
-use Rattle.messages.specs.declared.homiq.Homiq.the-variants.{Output, Input, Shutter, Beat, Homiq as Rest}
+use Rattle.messages.specs.declared.homiq.Homiq.the-variants.{Output, Input, Shutter, Beat, Other}
 use Rattle.messages.proofs.Laws.Choices.{by-test}
 use Rattle.messages.proofs.Laws.HomiqTests.{same-tells, numbered-tells, letter-tells, output-which, input-which, shutter-which, beat-which}
 use Rattle.messages.proofs.Laws.Rows.{ReadsTo, Found}
@@ -37,9 +37,9 @@ module _ (w : Wire) (f : homiqs.Limits (homiqOf w)) where
 pub homiq-reads : (w : Wire) → homiqs.Limits (homiqOf w) → ReadsTo (content.homiq w) (lookHomiq w)
 unfolding whichOf contentOf
 homiq-reads w f =
-    by-test (λ e. ReadsTo (content.homiq w) (ofHomiq e w)) (isNumbered (ascii "O.") 9 (w .cmd) && isLetter (ascii "01") (w .val))
+    by-test (λ e. ReadsTo (content.homiq w) (ofHomiq e w)) (isMarkedNumber (ascii "O.") 9 (w .cmd) && isLetter (ascii "01") (w .val))
     (λ t. row w f (output w) refl (sends w f (told (both-tell (numbered-tells (ascii "O.") 9 (w .cmd)) (letter-tells (ascii "01") (w .val))) t)))
-    (λ _. by-test (λ e. ReadsTo (content.homiq w) (ofHomiq e w)) (isNumbered (ascii "I.") 15 (w .cmd) && isLetter (ascii "01") (w .val))
+    (λ _. by-test (λ e. ReadsTo (content.homiq w) (ofHomiq e w)) (isMarkedNumber (ascii "I.") 15 (w .cmd) && isLetter (ascii "01") (w .val))
     (λ t. row w f (input w) refl (sends w f (told (both-tell (numbered-tells (ascii "I.") 15 (w .cmd)) (letter-tells (ascii "01") (w .val))) t)))
     (λ _. by-test (λ e. ReadsTo (content.homiq w) (ofHomiq e w)) (same (ascii "UD") (w .cmd) && isLetter (ascii "uds") (w .val))
     (λ t. row w f (shutter w) refl (sends w f (told (both-tell (same-tells (ascii "UD") (w .cmd)) (letter-tells (ascii "uds") (w .val))) t)))
@@ -59,7 +59,7 @@ module _ (w : Wire) where
   last Input = inr (lit< tt)
   last Shutter = inr (lit< tt)
   last Beat = inr (lit< tt)
-  last Rest = inl refl
+  last Other = inl refl
 
 pub output-found : (w : Wire) → Limits (output w) → look (contentOf (output w)) ≡ output w
 unfolding look contentOf

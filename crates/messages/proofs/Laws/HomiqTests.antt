@@ -13,15 +13,15 @@ use Rattle.digits.proofs.Laws.Decimal.{guess-decimal}
 use Rattle.digits.proofs.Laws.Tests.{T-true}
 use Rattle.digits.specs.Paper.Ascii.{ascii}
 use Rattle.digits.specs.Paper.Decimal.{decimal}
-use Rattle.digits.specs.Paper.Read.{Tells}
+use Rattle.digits.specs.Paper.Read.{Decides}
 use Rattle.digits.specs.Work.Decimal.{guess}
 use Rattle.layouts.proofs.Laws.Heads.{starts-splits, starts-append}
 use Rattle.layouts.specs.Paper.Chars.{oneOf}
 use Rattle.layouts.specs.Paper.Made.{Wire}
 use Rattle.layouts.specs.Work.Heads.{starts}
 use Rattle.messages.specs.Paper.Message.{output, input, shutter, beat}
-use Rattle.messages.specs.Paper.Table.{Numbered, Letter, Limits}
-use Rattle.messages.specs.Work.Homiq.{same, isNumbered, isLetter, whichOf}
+use Rattle.messages.specs.Paper.Table.{MarkedNumber, Letter, Limits}
+use Rattle.messages.specs.Work.Homiq.{same, isMarkedNumber, isLetter, whichOf}
 use Rattle.messages.specs.declared.homiq.Homiq.the-variants.{Output, Input, Shutter, Beat}
 use Rattle.messages.proofs.Laws.Choices.{both-true}
 use Rattle.messages.proofs.Laws.Telling.{tells}
@@ -41,20 +41,20 @@ same-complete a b e =
     let s : starts a a ≡ true = subst (λ (l : List ℕ). starts a l ≡ true) (append-nil a) (starts-append a []) in
     rw (e, eq-eqb (length a) (length a) refl, s)
 
-pub same-tells : (a b : List ℕ) → Tells (b ≡ a) (same a b)
+pub same-tells : (a b : List ℕ) → Decides (b ≡ a) (same a b)
 same-tells a b = tells (same a b) (same-sound a b) (same-complete a b)
 
 -- ---- a mark and a number
 
-numbered-sound : (mark : List ℕ) (most : ℕ) (cmd : List ℕ) → isNumbered mark most cmd ≡ true → Numbered mark most cmd
-unfolding isNumbered
+numbered-sound : (mark : List ℕ) (most : ℕ) (cmd : List ℕ) → isMarkedNumber mark most cmd ≡ true → MarkedNumber mark most cmd
+unfolding isMarkedNumber
 numbered-sound mark most cmd e =
     let n = guess 0 (drop (length mark) cmd) in
     let q = both-true (leb n most) (same (mark ++ decimal n) cmd) e in
     record { number = n; few = leb-true n most (q .0); is = same-sound (mark ++ decimal n) cmd (q .1) }
 
-numbered-complete : (mark : List ℕ) (most : ℕ) (cmd : List ℕ) → Numbered mark most cmd → isNumbered mark most cmd ≡ true
-unfolding isNumbered
+numbered-complete : (mark : List ℕ) (most : ℕ) (cmd : List ℕ) → MarkedNumber mark most cmd → isMarkedNumber mark most cmd ≡ true
+unfolding isMarkedNumber
 numbered-complete mark most cmd r =
     let k = r .number in
     let e : guess 0 (drop (length mark) cmd) ≡ k =
@@ -62,8 +62,8 @@ numbered-complete mark most cmd r =
     in
     rw (e, le-leb k most (r .few)) (same-complete (mark ++ decimal k) cmd (r .is))
 
-pub numbered-tells : (mark : List ℕ) (most : ℕ) (cmd : List ℕ) → Tells (Numbered mark most cmd) (isNumbered mark most cmd)
-numbered-tells mark most cmd = tells (isNumbered mark most cmd) (numbered-sound mark most cmd) (numbered-complete mark most cmd)
+pub numbered-tells : (mark : List ℕ) (most : ℕ) (cmd : List ℕ) → Decides (MarkedNumber mark most cmd) (isMarkedNumber mark most cmd)
+numbered-tells mark most cmd = tells (isMarkedNumber mark most cmd) (numbered-sound mark most cmd) (numbered-complete mark most cmd)
 
 -- ---- one character of these
 
@@ -82,12 +82,12 @@ letter-complete : (letters val : List ℕ) → Letter letters val → isLetter l
 unfolding isLetter
 letter-complete letters val r = rw (r .is) (T-true _ (r .one))
 
-pub letter-tells : (letters val : List ℕ) → Tells (Letter letters val) (isLetter letters val)
+pub letter-tells : (letters val : List ℕ) → Decides (Letter letters val) (isLetter letters val)
 letter-tells letters val = tells (isLetter letters val) (letter-sound letters val) (letter-complete letters val)
 
 -- ---- the four messages: their commands differ in the first character
 
-numbered-first : (m : ℕ) (mark : List ℕ) (most : ℕ) (cmd : List ℕ) → isNumbered (m ∷ mark) most cmd ≡ true → getD cmd 0 0 ≡ m
+numbered-first : (m : ℕ) (mark : List ℕ) (most : ℕ) (cmd : List ℕ) → isMarkedNumber (m ∷ mark) most cmd ≡ true → getD cmd 0 0 ≡ m
 numbered-first m mark most cmd e = ap (λ (l : List ℕ). getD l 0 0) (numbered-sound (m ∷ mark) most cmd e .is)
 
 same-first : (m : ℕ) (rest cmd : List ℕ) → same (m ∷ rest) cmd ≡ true → getD cmd 0 0 ≡ m
@@ -99,10 +99,10 @@ other-first true c m n f e apart = absurd (apart (sym (f refl) ∙ e))
 other-first false c m n f e apart = refl
 
 module _ (cmd : List ℕ) where
-  no-output : (n : ℕ) → getD cmd 0 0 ≡ n → (79 ≡ n → ⊥) → isNumbered (ascii "O.") 9 cmd ≡ false
+  no-output : (n : ℕ) → getD cmd 0 0 ≡ n → (79 ≡ n → ⊥) → isMarkedNumber (ascii "O.") 9 cmd ≡ false
   no-output n e apart = other-first _ (getD cmd 0 0) 79 n (numbered-first 79 (ascii ".") 9 cmd) e apart
 
-  no-input : (n : ℕ) → getD cmd 0 0 ≡ n → (73 ≡ n → ⊥) → isNumbered (ascii "I.") 15 cmd ≡ false
+  no-input : (n : ℕ) → getD cmd 0 0 ≡ n → (73 ≡ n → ⊥) → isMarkedNumber (ascii "I.") 15 cmd ≡ false
   no-input n e apart = other-first _ (getD cmd 0 0) 73 n (numbered-first 73 (ascii ".") 15 cmd) e apart
 
   no-shutter : (n : ℕ) → getD cmd 0 0 ≡ n → (85 ≡ n → ⊥) → same (ascii "UD") cmd ≡ false

@@ -23,7 +23,7 @@ use Rattle.layouts.specs.Paper.Nikobus.{link-limits, press-limits}
 use Rattle.frames.specs.declared.kinds.Kind.the-variants.{Nikobus as OfNikobus}
 use Rattle.messages.specs.Paper.Content.{contentIn}
 use Rattle.messages.specs.Paper.Message.{Message, read, set, answer, press, link}
-use Rattle.messages.specs.Paper.Says.{six, ofNikobus, SaysNikobus, digits, fixed}
+use Rattle.messages.specs.Paper.Says.{six, ofNikobus, SaysNikobus, a-link, another}
 use Rattle.messages.specs.Paper.Table.{u16At}
 use Rattle.messages.specs.Work.Look.{isRead, isSet, groupOf, lookLink, look}
 use Rattle.messages.specs.Work.Nikobus.{NikobusFrame, NikobusSaid, LinkDigits, LinkSaid, ByteAt, WordAt, SixAt}
@@ -171,12 +171,12 @@ pub no-link : (e : Nikobus) → isLink e ≡ false → e ≡ Link → ⊥
 no-link e f g = true≢false (sym (ap isLink g) ∙ f)
 
 pub says-of : (e : Nikobus) (p s : List ℕ) {m : Message} → Bytes p → s ≡ hexBytes p → ofNikobus e p ≡ m → SaysNikobus e s m
-says-of (Read g a) p s b h k = fixed (no-link (Read g a) refl) (sym k)
-says-of (Set g a o) p s b h k = fixed (no-link (Set g a o) refl) (sym k)
-says-of (Answer a t o) p s b h k = fixed (no-link (Answer a t o) refl) (sym k)
-says-of (Press o) p s b h k = fixed (no-link (Press o) refl) (sym k)
-says-of Tail p s b h k = fixed (no-link Tail refl) (sym k)
-says-of Link p s b h k = digits refl b h (sym k)
+says-of (Read g a) p s b h k = another (no-link (Read g a) refl) (sym k)
+says-of (Set g a o) p s b h k = another (no-link (Set g a o) refl) (sym k)
+says-of (Answer a t o) p s b h k = another (no-link (Answer a t o) refl) (sym k)
+says-of (Press o) p s b h k = another (no-link (Press o) refl) (sym k)
+says-of Tail p s b h k = another (no-link Tail refl) (sym k)
+says-of Link p s b h k = a-link refl (record { payload = p; bytes = b; digits = h; is = sym k })
 
 module _ {f p : List ℕ} (n : NikobusFrame f p) where
   pub two-long : 2 ≤ length f
@@ -223,7 +223,7 @@ module _ {f p : List ℕ} (n : NikobusFrame f p) where
       where
         go : (m : nikobuses.Nikobus) → f ≡ bytesOf nikobuses.nikobus m → p ≡ nikobuses.payload m → SaysNikobus (Press o) p (look (contentIn OfNikobus m))
         go (nikobuses.link q x y) e h = absurd (other (ap (λ (w : List ℕ). getD w 0 0) e))
-        go (nikobuses.press d) e h = fixed (no-link (Press o) refl) (ap press (sym (s ∙ h)))
+        go (nikobuses.press d) e h = another (no-link (Press o) refl) (ap press (sym (s ∙ h)))
         go nikobuses.tail e h = absurd (omega (arith, ap (λ (w : List ℕ). getD w 1 0) e))
 
     pub frame-tail : (getD f 1 0 ≡ 78 → ⊥) → NikobusSaid f p Tail
@@ -233,4 +233,4 @@ module _ {f p : List ℕ} (n : NikobusFrame f p) where
         go : (m : nikobuses.Nikobus) → f ≡ bytesOf nikobuses.nikobus m → p ≡ nikobuses.payload m → SaysNikobus Tail p (look (contentIn OfNikobus m))
         go (nikobuses.link q x y) e h = absurd (other (ap (λ (w : List ℕ). getD w 0 0) e))
         go (nikobuses.press d) e h = absurd (mark (ap (λ (w : List ℕ). getD w 1 0) e))
-        go nikobuses.tail e h = fixed (no-link Tail refl) refl
+        go nikobuses.tail e h = another (no-link Tail refl) refl

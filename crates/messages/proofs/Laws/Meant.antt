@@ -11,8 +11,8 @@ use lib.ListN.{length}
 use Rattle.digits.proofs.Laws.Hex.{hex-inj}
 use Rattle.digits.proofs.Laws.Refusals.{answered, cause-of, one-first, one-refusal, pass-over, some-number}
 use Rattle.digits.specs.Paper.Bytes.{Bytes}
-use Rattle.digits.specs.Paper.Refusals.{order, clear, here, after, answers, refuses}
-use Rattle.digits.specs.declared.refusal.Refusal.the-variants.{Limits as OutsideLimits}
+use Rattle.digits.specs.Paper.Refusals.{refusalOrder, clear, here, after, answers, refuses}
+use Rattle.digits.specs.declared.refusal.Refusal.the-variants.{OutOfLimits}
 use Rattle.digits.specs.Paper.Hex.{hexBytes}
 use Rattle.layouts.proofs.Laws.Made.{link-fit, nest-fit, nibe-fit, press-said}
 use Rattle.layouts.specs.Paper.Chars.{all, isHex, oneOf}
@@ -25,7 +25,7 @@ use Rattle.messages.specs.Paper.Content as content
 use Rattle.messages.specs.Paper.Meant.{LinkWith, PressWith, CommandWith, ResponseWith, NibeWith, HomiqWith, ContentWith, MeantCause, no-message, MessageWith, Means}
 use Rattle.messages.specs.Paper.Homiq.{fieldAt}
 use Rattle.messages.specs.Paper.Message.{Message, press, tail}
-use Rattle.messages.specs.Paper.Says.{six, ofResponse, ofNibe, fixed, SaysHomiq, Says}
+use Rattle.messages.specs.Paper.Says.{six, ofResponse, ofNibe, another, SaysHomiq, Says}
 use Rattle.messages.specs.Paper.Table.{contentOf, Good}
 use Rattle.messages.specs.Work.Content.{Fit}
 use Rattle.messages.specs.Work.Homiq.{whichOf}
@@ -67,19 +67,19 @@ module _ {With : Content → Type 0} where
       let same : contentOf (look c) ≡ c = reads c f .same in
       let m : MessageWith With e =
       record { message = look c; good = good c f; content = subst With (sym same) w; says = subst (λ (p : List ℕ). Says e p (look c)) (ap payloadIn (sym same)) s } in
-      answers {v = some e} (pass-over ours only order (after (never m) clear)) (e, refl, m)
+      answers {v = some e} (pass-over ours only refusalOrder (after (never m) clear)) (record { coded = e; is = refl; right = m })
     where
       never : {d : Coded} → MessageWith With d → MeantCause With 5 → ⊥
       never m (no-message g) = g (m .message) (m .good) (m .content)
 
   -- and one outside them has none
-  pub not-meant : ((c : Content) → With c → Fit c → ⊥) → Means With (Refused OutsideLimits)
-  not-meant g = refuses (lit< tt) (pass-over ours only order (here (no-message (λ m a w. g (contentOf m) w (fit m (a .limits))))))
+  pub not-meant : ((c : Content) → With c → Fit c → ⊥) → Means With (Refused OutOfLimits)
+  not-meant g = refuses (lit< tt) (pass-over ours only refusalOrder (here (no-message (λ m a w. g (contentOf m) w (fit m (a .limits))))))
 
   -- ---- one only
 
   pub meant-in : {e : Coded} → Means With (Is e) → MessageWith With e
-  meant-in a = let v = answered a refl in subst (MessageWith With) (same-some (v .1)) (v .2)
+  meant-in a = let v = answered a refl in subst (MessageWith With) (same-some (v .is)) (v .right)
 
   pub one-meant : ((m n : Message) → Good m → Good n → With (contentOf m) → With (contentOf n) → contentOf m ≡ contentOf n)
       → (r q : Meant) → Means With r → Means With q → r ≡ q
@@ -125,7 +125,7 @@ one-content-with tag.Homiq p = one-homiq
 
 pub tail-meant : Means (λ c. c ≡ content.tail) (Is (OnNikobus Tail))
 unfolding look
-tail-meant = is-meant content.tail nikobuses.tail-limits refl {e = OnNikobus Tail} (fixed (no-link Tail refl) refl)
+tail-meant = is-meant content.tail nikobuses.tail-limits refl {e = OnNikobus Tail} (another (no-link Tail refl) refl)
 
 module _ {d : List ℕ} where
   digits-of : {c : Content} → (x : LinkWith d c) → Fit c → LinkDigits d
@@ -134,7 +134,7 @@ module _ {d : List ℕ} where
       go : nikobuses.Limits (linkOf (x .payload)) → LinkDigits d
       go (nikobuses.link-limits a b c e g) = record { payload = x .payload; limits = record { enough = a; short = b; bytes = c }; is = x .digits }
 
-  pub link-not-meant : (LinkDigits d → ⊥) → Means (LinkWith d) (Refused OutsideLimits)
+  pub link-not-meant : (LinkDigits d → ⊥) → Means (LinkWith d) (Refused OutOfLimits)
   link-not-meant n = not-meant (λ c x f. n (digits-of x f))
 
   pub link-meant : {e : Nikobus} → LinkSaid d e → Means (LinkWith d) (Is (OnNikobus e))
@@ -145,21 +145,21 @@ module _ {d : List ℕ} where
       is-meant (content.link p) (link-fit p (l .limits .enough) (l .limits .short) (l .limits .bytes)) (record { payload = p; is = refl; digits = l .is })
       {e = OnNikobus e} (says-of e p (hexBytes p) (l .limits .bytes) refl (s .says))
 
-  pub press-not-meant : ((length d ≡ 6) × T (all isHex d) → ⊥) → Means (PressWith d) (Refused OutsideLimits)
+  pub press-not-meant : ((length d ≡ 6) × T (all isHex d) → ⊥) → Means (PressWith d) (Refused OutOfLimits)
   press-not-meant n = not-meant (λ c x f. n (press-said (subst Fit x f)))
 
   pub press-meant : (length d ≡ 6) × T (all isHex d) → (o : Six) → six o ≡ d → Means (PressWith d) (Is (OnNikobus (Press o)))
   unfolding look
-  press-meant l o e = is-meant (content.press d) (nikobuses.press-limits (l .0) (l .1)) refl {e = OnNikobus (Press o)} (fixed (no-link (Press o) refl) (ap press (sym e)))
+  press-meant l o e = is-meant (content.press d) (nikobuses.press-limits (l .0) (l .1)) refl {e = OnNikobus (Press o)} (another (no-link (Press o) refl) (ap press (sym e)))
 
 module _ {i : ℕ} {p : List ℕ} where
-  pub command-not-meant : (length p ≤ 1024 → ⊥) → Means (CommandWith i p) (Refused OutsideLimits)
+  pub command-not-meant : (length p ≤ 1024 → ⊥) → Means (CommandWith i p) (Refused OutOfLimits)
   command-not-meant n = not-meant (λ c x f. n (nest-short (subst Fit x f)))
     where
       nest-short : Fit (content.command i p) → length p ≤ 1024
       nest-short f = f .short
 
-  pub response-not-meant : (length p ≤ 1024 → ⊥) → Means (ResponseWith i p) (Refused OutsideLimits)
+  pub response-not-meant : (length p ≤ 1024 → ⊥) → Means (ResponseWith i p) (Refused OutOfLimits)
   response-not-meant n = not-meant (λ c x f. n (nest-short (subst Fit x f)))
     where
       nest-short : Fit (content.response i p) → length p ≤ 1024
@@ -175,7 +175,7 @@ module _ {i : ℕ} {p : List ℕ} where
     response-meant {e} s = is-meant (content.response i p) (nest-fit i p id short bytes) refl {e = OfResponse e} (sym s)
 
 module _ {k : ℕ} {d : List ℕ} where
-  pub nibe-not-meant : ((T (oneOf commands k)) × (length d ≤ 255) → ⊥) → Means (NibeWith k d) (Refused OutsideLimits)
+  pub nibe-not-meant : ((T (oneOf commands k)) × (length d ≤ 255) → ⊥) → Means (NibeWith k d) (Refused OutOfLimits)
   nibe-not-meant n = not-meant (λ c x f. go (subst Fit x f))
     where
       go : nibes.Limits (nibeOf k d) → ⊥
@@ -186,7 +186,7 @@ module _ {k : ℕ} {d : List ℕ} where
   nibe-meant o short bytes {e} s = is-meant (content.nibe k d) (nibe-fit k d o short bytes) refl {e = OnNibe e} (sym s)
 
 module _ {p : List ℕ} where
-  pub homiq-not-meant : ((w : Wire) × Payload p w → ⊥) → Means (HomiqWith p) (Refused OutsideLimits)
+  pub homiq-not-meant : ((w : Wire) × Payload p w → ⊥) → Means (HomiqWith p) (Refused OutOfLimits)
   homiq-not-meant n = not-meant (λ c x f. n (x .wire, x .payload))
 
   pub homiq-meant : (w : Wire) × Payload p w → {e : Homiq} → e ≡ whichOf (fieldAt 0 p) (fieldAt 1 p) → Means (HomiqWith p) (Is (OnHomiq e))
@@ -204,8 +204,8 @@ module _ (p : List ℕ) (e : Coded) (m : Message) (s : Says e (payloadIn (conten
 
   says-tail : m ≡ tail → Says e p m
   says-tail q =
-      let same : e ≡ OnNikobus Tail = one-case e (OnNikobus Tail) (payloadIn (contentOf m)) p m s (fixed (no-link Tail refl) q) in
-      subst (λ (d : Coded). Says d p m) (sym same) (fixed (no-link Tail refl) q)
+      let same : e ≡ OnNikobus Tail = one-case e (OnNikobus Tail) (payloadIn (contentOf m)) p m s (another (no-link Tail refl) q) in
+      subst (λ (d : Coded). Says d p m) (sym same) (another (no-link Tail refl) q)
 
   pub says-with : (t : Tag) → Good m → ContentWith t p (contentOf m) → Says e p m
   unfolding look contentOf

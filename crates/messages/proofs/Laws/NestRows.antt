@@ -15,7 +15,7 @@ use Rattle.digits.proofs.Laws.Bytes.{bytes-nil, bytes-cons, bytes-append}
 use Rattle.digits.proofs.Laws.LowFirst.{length-low, bytes-low}
 use Rattle.digits.specs.Paper.Ascii.{ascii}
 use Rattle.digits.specs.Paper.Bytes.{Bytes, part}
-use Rattle.digits.specs.Paper.LowFirst.{two, lowFirst}
+use Rattle.digits.specs.Paper.LowFirst.{two, lowByteFirst}
 use Rattle.layouts.proofs.Laws.ByteRuns.{one-of-bytes}
 use Rattle.layouts.proofs.Laws.Heads.{starts-same}
 use Rattle.layouts.proofs.Laws.Made.{nest-fit}
@@ -30,7 +30,7 @@ use Rattle.messages.specs.Paper.Content.{Content}
 use Rattle.messages.specs.Paper.Content as content
 use Rattle.messages.specs.Work.Content.{Fit}
 use Rattle.messages.specs.Paper.Message.{command, climate, state, break, end, text, response}
-use Rattle.messages.specs.Paper.Table.{contentOf, Sized, textIds, Limits, u16At}
+use Rattle.messages.specs.Paper.Table.{contentOf, BytesBetween, textIds, Limits, u16At}
 use Rattle.messages.specs.Work.Look.{ofTwos, signedAt, isClimate, isState, isBreak, isEnd, lookResponse, look}
 use Rattle.messages.proofs.Laws.Choices.{by-test, both-true, by-length}
 use Rattle.messages.proofs.Laws.Rows.{ReadsTo, Found}
@@ -62,7 +62,7 @@ is-word w s l e =
 abbrev answered : ℕ → List ℕ → Content
 answered i p = content.response i p
 
-module _ (i : ℕ) (p : List ℕ) (b : Sized 0 1024 p) where
+module _ (i : ℕ) (p : List ℕ) (b : BytesBetween 0 1024 p) where
   climate-row : isClimate i p ≡ true → ReadsTo (answered i p) (climate (signedAt 0 p) (u16At 2 p))
   unfolding contentOf isClimate
   climate-row t =
@@ -73,7 +73,7 @@ module _ (i : ℕ) (p : List ℕ) (b : Sized 0 1024 p) where
       record {
         same =
             ap₂ answered (sym (eqb-true i 0x0002 (q .0)))
-            (ap₂ (λ (s t : List ℕ). s ++ t) (ap (lowFirst 2) (w .1) ∙ word-bytes 0 p (b .bytes) (omega arith)) (word-bytes 2 p (b .bytes) (omega arith)) ∙ all);
+            (ap₂ (λ (s t : List ℕ). s ++ t) (ap (lowByteFirst 2) (w .1) ∙ word-bytes 0 p (b .bytes) (omega arith)) (word-bytes 2 p (b .bytes) (omega arith)) ∙ all);
         limits = (in-held (size two) (w .0), word-lt 2 p (b .bytes));
       }
 
@@ -110,7 +110,7 @@ module _ (i : ℕ) (p : List ℕ) (b : Sized 0 1024 p) where
       (λ _. record { same = refl; limits = (h, b) })))))
 
 -- a payload within the layout's limits
-sized : (i : ℕ) (p : List ℕ) → nests.Limits (nestOf i p) → Sized 0 1024 p
+sized : (i : ℕ) (p : List ℕ) → nests.Limits (nestOf i p) → BytesBetween 0 1024 p
 sized i p l = record { enough = omega arith; short = l .short; bytes = l .bytes }
 
 pub response-reads : (i : ℕ) (p : List ℕ) → nests.Limits (nestOf i p) → ReadsTo (answered i p) (lookResponse i p)
@@ -123,10 +123,10 @@ command-reads i p l = record { same = refl; limits = (l .id, sized i p l) }
 -- ---- found again
 
 pub climate-found : (t : ℤ) (h : ℕ) → Limits (climate t h) → look (contentOf (climate t h)) ≡ climate t h
-unfolding look contentOf lookResponse lowFirst isClimate
+unfolding look contentOf lookResponse lowByteFirst isClimate
 climate-found t h l =
     let i = held-in (size two) true t (l .0) in
-    ap₂ climate (ap ofTwos (word-at [] (lowFirst 2 h) (twos 2 t) (twos-lt (size two) i)) ∙ twos-back i) (word-at (valueBytes 2 t) [] h (l .1))
+    ap₂ climate (ap ofTwos (word-at [] (lowByteFirst 2 h) (twos 2 t) (twos-lt (size two) i)) ∙ twos-back i) (word-at (valueBytes 2 t) [] h (l .1))
 
 pub state-found : (p : List ℕ) → Limits (state p) → look (contentOf (state p)) ≡ state p
 unfolding look contentOf lookResponse isClimate isState
@@ -172,8 +172,8 @@ command-fit i p l = nest-fit i p (l .0) (l .1 .short) (l .1 .bytes)
 pub climate-fit : (t : ℤ) (h : ℕ) → Limits (climate t h) → Fit (contentOf (climate t h))
 unfolding contentOf
 climate-fit t h l =
-    let n : length (valueBytes 2 t ++ lowFirst 2 h) ≡ 4 = simp (length-append, length-low) in
-    answer-passing 0x0002 _ (lit< tt) (omega arith) (bytes-append (valueBytes 2 t) (lowFirst 2 h) (bytes-low 2 (twos 2 t)) (bytes-low 2 h))
+    let n : length (valueBytes 2 t ++ lowByteFirst 2 h) ≡ 4 = simp (length-append, length-low) in
+    answer-passing 0x0002 _ (lit< tt) (omega arith) (bytes-append (valueBytes 2 t) (lowByteFirst 2 h) (bytes-low 2 (twos 2 t)) (bytes-low 2 h))
 
 pub state-fit : (p : List ℕ) → Limits (state p) → Fit (contentOf (state p))
 unfolding contentOf

@@ -9,11 +9,11 @@ use Rattle.digits.specs.declared.refusal.Refusal.{Refusal}
 use Rattle.numbers.proofs.Unique as numbers
 use Rattle.numbers.specs.Paper.Panel.{ClimatePair}
 use Rattle.numbers.specs.declared.panel.Climate.{Climate as Counts}
-use Rattle.messages.specs.Paper.Panel.{PairOf, pairNumber, pairValue, ShowsPair, Voltages, voltsNumber, voltsValue, ReadsVolts}
+use Rattle.messages.specs.Paper.Panel.{PairOf, pairRefusal, pairValue, ShowsPair, Voltages, voltsRefusal, voltsValue, ReadsVolts}
 use Rattle.messages.specs.declared.nest.Pair.{Pair}
 use Rattle.messages.specs.declared.nest.Pair.the-variants.{Is, Refused}
 use Rattle.messages.specs.declared.nest.Response.{Response}
-use Rattle.messages.specs.declared.nest.Response.the-variants.{Climate, State, Break, End, Text, Response as Other}
+use Rattle.messages.specs.declared.nest.Response.the-variants.{Climate, State, Break, End, Text, Other}
 use Rattle.messages.specs.declared.nest.Volts.{Volts}
 use Rattle.messages.specs.declared.nest.Volts.the-variants.{Are, Refused as NoVolts}
 
@@ -51,7 +51,7 @@ pair-cases P f g (Refused why) = g why
 pub one-pair : (e : Response) (r q : Pair) → ShowsPair e r → ShowsPair e q → r ≡ q
 one-pair e r q a b =
     let s = one-answer pair-one a b in
-    same-answer Is Refused pairNumber pairValue (λ v. refl) (λ why. refl) (λ v. refl) pair-cases r q (s .0) (s .1)
+    same-answer Is Refused pairRefusal pairValue (λ v. refl) (λ why. refl) (λ v. refl) pair-cases r q (s .0) (s .1)
 
 -- ---- voltages
 
@@ -62,4 +62,4 @@ volts-cases P f g (NoVolts why) = g why
 pub one-volts : (p : List ℕ) (r q : Volts) → ReadsVolts p r → ReadsVolts p q → r ≡ q
 one-volts p r q a b =
     let s = one-answer (λ u v x y. x ∙ sym y) a b in
-    same-answer (λ (v : Voltages). Are (v .vIn) (v .vOp) (v .vBat)) NoVolts voltsNumber voltsValue (λ v. refl) (λ why. refl) (λ v. refl) volts-cases r q (s .0) (s .1)
+    same-answer (λ (v : Voltages). Are (v .vIn) (v .vOp) (v .vBat)) NoVolts voltsRefusal voltsValue (λ v. refl) (λ why. refl) (λ v. refl) volts-cases r q (s .0) (s .1)

@@ -11,7 +11,7 @@ use lib.ListN.{length, getD}
 use Rattle.digits.proofs.Laws.LowFirst.{value-low}
 use Rattle.digits.proofs.Laws.Parts.{length-part}
 use Rattle.digits.specs.Paper.Bytes.{part}
-use Rattle.digits.specs.Paper.LowFirst.{Width, Held, lowFirst}
+use Rattle.digits.specs.Paper.LowFirst.{Width, Held, lowByteFirst}
 use Rattle.digits.specs.Work.LowFirst.{lowValue}
 use Rattle.messages.specs.Paper.Message.{ask, reply, put, done, nibe}
 use Rattle.messages.specs.Paper.Table.{u16At}
@@ -23,7 +23,7 @@ use Rattle.messages.proofs.Laws.NibeRows.{sizes}
 -- ---- numbers
 
 -- bytes of which a number is written are that number's
-pub number-value : {s : List ℕ} {n : ℕ} → Held (length s) n × (lowFirst (length s) n ≡ s) → n ≡ lowValue s
+pub number-value : {s : List ℕ} {n : ℕ} → Held (length s) n × (lowByteFirst (length s) n ≡ s) → n ≡ lowValue s
 number-value {s} {n} p = sym (value-low (length s) n (p .0 .below)) ∙ ap lowValue (p .1)
 
 -- what stands behind a register has the value's width

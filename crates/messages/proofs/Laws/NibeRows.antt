@@ -13,7 +13,7 @@ use lib.Seq.{drop-at, take-all}
 use Rattle.digits.proofs.Laws.Bytes.{bytes-nil, bytes-cons, bytes-append, bytes-drop}
 use Rattle.digits.proofs.Laws.LowFirst.{width-most, length-low, bytes-low, value-low, low-value, value-lt}
 use Rattle.digits.specs.Paper.Bytes.{Bytes}
-use Rattle.digits.specs.Paper.LowFirst.{Width, one, two, four, Held, lowFirst}
+use Rattle.digits.specs.Paper.LowFirst.{Width, one, two, four, Held, lowByteFirst}
 use Rattle.digits.specs.Work.LowFirst.{lowValue}
 use Rattle.layouts.proofs.Laws.Made.{nibe-fit}
 use Rattle.layouts.specs.Paper.Chars.{oneOf}
@@ -51,8 +51,8 @@ sized _ four = refl
 
 valued-bytes : (d : List ℕ) → Bytes d → 2 ≤ length d → valued (u16At 0 d) (length d - 2) (lowValue (drop 2 d)) ≡ d
 valued-bytes d b h =
-    ap (λ (l : List ℕ). l ++ lowFirst (length d - 2) (lowValue (drop 2 d))) (word-bytes 0 d b h)
-    ∙ ap (λ (n : ℕ). take 2 d ++ lowFirst n (lowValue (drop 2 d))) (sym (length-drop 2 d))
+    ap (λ (l : List ℕ). l ++ lowByteFirst (length d - 2) (lowValue (drop 2 d))) (word-bytes 0 d b h)
+    ∙ ap (λ (n : ℕ). take 2 d ++ lowByteFirst n (lowValue (drop 2 d))) (sym (length-drop 2 d))
     ∙ ap (λ (l : List ℕ). take 2 d ++ l) (low-value (drop 2 d) (bytes-drop 2 d b)) ∙ take-append-drop 2 d
 
 valued-limits : (d : List ℕ) → Bytes d → Width (length d - 2) → (u16At 0 d < 65536) × Held (length d - 2) (lowValue (drop 2 d))
@@ -60,7 +60,7 @@ valued-limits d b k =
     (word-lt 0 d b, record { known = k; below = value-lt (length d - 2) (drop 2 d) (bytes-drop 2 d b) (omega (arith, length-drop 2 d)) })
 
 valued-length : (r w v : ℕ) → length (valued r w v) ≡ 2 + w
-valued-length r w v = rw (length-append (lowFirst 2 r) (lowFirst w v), length-low 2 r, length-low w v)
+valued-length r w v = rw (length-append (lowByteFirst 2 r) (lowByteFirst w v), length-low 2 r, length-low w v)
 
 -- ---- what is found has the content that was given
 
@@ -88,7 +88,7 @@ module _ (c : ℕ) (d : List ℕ) (f : nibes.Limits (nibeOf c d)) where
   ask-row t =
       let q = both-true (eqb c 0x69) _ t in
       let l : length d ≡ 2 = eqb-true _ 2 (q .1) in
-      let e : lowFirst 2 (u16At 0 d) ≡ d = word-bytes 0 d b (omega arith) ∙ take-all 2 d (omega arith) in
+      let e : lowByteFirst 2 (u16At 0 d) ≡ d = word-bytes 0 d b (omega arith) ∙ take-all 2 d (omega arith) in
       record { same = made _ _ (sym (eqb-true c 0x69 (q .0))) e; limits = word-lt 0 d b }
 
   -- a reply and a put differ in the command
@@ -137,7 +137,7 @@ nibe-reads c d f =
 -- ---- each row's message is found again
 
 pub ask-found : (r : ℕ) → Limits (ask r) → look (contentOf (ask r)) ≡ ask r
-unfolding look contentOf lookNibe isAsk lowFirst
+unfolding look contentOf lookNibe isAsk lowByteFirst
 ask-found r h = ap ask (word-at [] [] r h)
 
 valued-found : (make : ℕ → ℕ → ℕ → Message) (other : Message) (r w v : ℕ) → (r < 65536) × Held w v
@@ -146,13 +146,13 @@ valued-found : (make : ℕ → ℕ → ℕ → Message) (other : Message) (r w v
     ≡ make r w v
 valued-found make other r w v h =
     let n : (2 + w) - 2 ≡ w = omega arith in
-    let e : u16At 0 (valued r w v) ≡ r = word-at [] (lowFirst w v) r (h .0) in
+    let e : u16At 0 (valued r w v) ≡ r = word-at [] (lowByteFirst w v) r (h .0) in
     rw (
       valued-length r w v,
       sized w (h .1 .known),
       e,
       n,
-      drop-at (lowFirst 2 r) (lowFirst w v) 2 (length-low 2 r),
+      drop-at (lowByteFirst 2 r) (lowByteFirst w v) 2 (length-low 2 r),
       value-low w v (h .1 .below),
     )
 
@@ -186,12 +186,12 @@ made-fit c d o s b = nibe-fit c d o s b
 
 pub ask-fit : (r : ℕ) → Limits (ask r) → Fit (contentOf (ask r))
 unfolding contentOf oneOf
-ask-fit r l = made-fit 0x69 (lowFirst 2 r) tt (omega (arith, length-low 2 r)) (bytes-low 2 r)
+ask-fit r l = made-fit 0x69 (lowByteFirst 2 r) tt (omega (arith, length-low 2 r)) (bytes-low 2 r)
 
 valued-fit : (c r w v : ℕ) → T (oneOf commands c) → (r < 65536) × Held w v → Fit (content.nibe c (valued r w v))
 valued-fit c r w v o l =
     made-fit c (valued r w v) o (omega (arith, valued-length r w v, width-most (l .1 .known)))
-    (bytes-append (lowFirst 2 r) (lowFirst w v) (bytes-low 2 r) (bytes-low w v))
+    (bytes-append (lowByteFirst 2 r) (lowByteFirst w v) (bytes-low 2 r) (bytes-low w v))
 
 pub reply-fit : (r w v : ℕ) → Limits (reply r w v) → Fit (contentOf (reply r w v))
 unfolding contentOf oneOf

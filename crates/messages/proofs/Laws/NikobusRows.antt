@@ -14,14 +14,14 @@ use Rattle.digits.proofs.Laws.Bytes.{bytes-nil, bytes-cons, bytes-append, bytes
 use Rattle.digits.proofs.Laws.LowFirst.{length-low, bytes-low}
 use Rattle.digits.proofs.Laws.Parts.{length-part, ats}
 use Rattle.digits.specs.Paper.Bytes.{Bytes, part}
-use Rattle.digits.specs.Paper.LowFirst.{lowFirst}
+use Rattle.digits.specs.Paper.LowFirst.{lowByteFirst}
 use Rattle.layouts.proofs.Laws.Made.{link-fit}
 use Rattle.layouts.specs.Paper.Nikobus.{link-limits, press-limits, tail-limits}
 use Rattle.messages.specs.Paper.Content.{Content}
 use Rattle.messages.specs.Paper.Content as content
 use Rattle.messages.specs.Work.Content.{Fit}
 use Rattle.messages.specs.Paper.Message.{read, set, answer, press, tail, link}
-use Rattle.messages.specs.Paper.Table.{codeOf, contentOf, Group, SixBytes, Sized, Limits, u16At}
+use Rattle.messages.specs.Paper.Table.{codeOf, contentOf, Group, SixBytes, BytesBetween, Limits, u16At}
 use Rattle.messages.specs.Work.Look.{isRead, isSet, groupOf, lookLink, look}
 use Rattle.messages.proofs.Laws.Choices.{by-test, both-true, by-length}
 use Rattle.messages.proofs.Laws.Rows.{ReadsTo, Found}
@@ -87,7 +87,7 @@ module _ (p : List ℕ) (b : Bytes p) where
         limits = (word-lt 0 p b, b .each 2, six-part (omega arith));
       }
 
-  link-reads : Sized 1 122 p → ReadsTo (linked p) (lookLink p)
+  link-reads : BytesBetween 1 122 p → ReadsTo (linked p) (lookLink p)
   unfolding lookLink contentOf
   link-reads f =
       by-test (ReadsTo (linked p)) (isRead p) read-row
@@ -104,13 +104,13 @@ by-group : (g : ℕ) (P : ℕ → Type 0) → P 1 → P 2 → Group g → P g
 by-group g P a b k = ⊎-elim {C = P g} (λ e. rw e a) (λ e. rw e b) k
 
 pub read-found : (g a : ℕ) → Limits (read g a) → look (contentOf (read g a)) ≡ read g a
-unfolding look contentOf lookLink lowFirst isRead isSet
+unfolding look contentOf lookLink lowByteFirst isRead isSet
 read-found g a h =
     by-group g (λ g. look (contentOf (read g a)) ≡ read g a)
     (ap (read 1) (word-at (0x12 ∷ []) [] a (h .1))) (ap (read 2) (word-at (0x17 ∷ []) [] a (h .1))) (h .0)
 
 pub set-found : (g a : ℕ) (out : List ℕ) → Limits (set g a out) → look (contentOf (set g a out)) ≡ set g a out
-unfolding look contentOf lookLink lowFirst isRead isSet
+unfolding look contentOf lookLink lowByteFirst isRead isSet
 set-found g a out h =
     by-length 6 (λ o. look (contentOf (set g a o)) ≡ set g a o)
     (λ t. by-group g (λ g. look (contentOf (set g a (ats t 0 6))) ≡ set g a (ats t 0 6))
@@ -119,7 +119,7 @@ set-found g a out h =
     out (h .2 .six)
 
 pub answer-found : (a third : ℕ) (out : List ℕ) → Limits (answer a third out) → look (contentOf (answer a third out)) ≡ answer a third out
-unfolding look contentOf lookLink lowFirst isRead isSet
+unfolding look contentOf lookLink lowByteFirst isRead isSet
 answer-found a third out h =
     by-length 6 (λ o. look (contentOf (answer a third o)) ≡ answer a third o)
     (λ t. ap (λ (n : ℕ). answer n third (ats t 0 6)) (word-at [] [] a (h .0))) out (h .2 .six)
@@ -149,16 +149,16 @@ read-fit g a h =
 pub set-fit : (g a : ℕ) (out : List ℕ) → Limits (set g a out) → Fit (contentOf (set g a out))
 unfolding contentOf
 set-fit g a out h =
-    let l : length (lowFirst 2 a ++ out ++ (0xFF ∷ [])) ≡ 9 = simp (length-append, length-low) (omega (arith, h .2 .six)) in
+    let l : length (lowByteFirst 2 a ++ out ++ (0xFF ∷ [])) ≡ 9 = simp (length-append, length-low) (omega (arith, h .2 .six)) in
     link-passing _ (omega arith) (omega arith)
     (bytes-cons (code-lt (eqb g 1) 0x15 0x16 (lit< tt) (lit< tt))
-    (bytes-append (lowFirst 2 a ++ out) (0xFF ∷ []) (bytes-append (lowFirst 2 a) out (bytes-low 2 a) (h .2 .bytes)) (bytes-cons (lit< tt) bytes-nil)))
+    (bytes-append (lowByteFirst 2 a ++ out) (0xFF ∷ []) (bytes-append (lowByteFirst 2 a) out (bytes-low 2 a) (h .2 .bytes)) (bytes-cons (lit< tt) bytes-nil)))
 
 pub answer-fit : (a third : ℕ) (out : List ℕ) → Limits (answer a third out) → Fit (contentOf (answer a third out))
 unfolding contentOf
 answer-fit a third out h =
-    let l : length (lowFirst 2 a ++ (third ∷ out)) ≡ 9 = simp (length-append, length-low) (omega (arith, h .2 .six)) in
-    link-passing _ (omega arith) (omega arith) (bytes-append (lowFirst 2 a) (third ∷ out) (bytes-low 2 a) (bytes-cons (h .1) (h .2 .bytes)))
+    let l : length (lowByteFirst 2 a ++ (third ∷ out)) ≡ 9 = simp (length-append, length-low) (omega (arith, h .2 .six)) in
+    link-passing _ (omega arith) (omega arith) (bytes-append (lowByteFirst 2 a) (third ∷ out) (bytes-low 2 a) (bytes-cons (h .1) (h .2 .bytes)))
 
 pub press-fit : (d : List ℕ) → Limits (press d) → Fit (contentOf (press d))
 unfolding contentOf

@@ -14,9 +14,9 @@ use mir.Val.{SFits, toZ, ofZ}
 use mir.ValLaws.{toZ-ofZ, toZ-pos}
 use Rattle.digits.proofs.Laws.Refusals.{pass-over}
 use Rattle.digits.specs.Paper.Bytes.{Bytes}
-use Rattle.digits.specs.Paper.Read.{Tells, holds, fails}
-use Rattle.digits.specs.Paper.Refusals.{order, First, clear, here, after, answers, refuses}
-use Rattle.digits.specs.declared.refusal.Refusal.the-variants.{Limits}
+use Rattle.digits.specs.Paper.Read.{Decides, holds, fails}
+use Rattle.digits.specs.Paper.Refusals.{refusalOrder, First, clear, here, after, answers, refuses}
+use Rattle.digits.specs.declared.refusal.Refusal.the-variants.{OutOfLimits}
 use Rattle.layouts.proofs.Laws.Heads.{starts-append}
 use Rattle.layouts.specs.Work.Heads.{starts}
 use Rattle.numbers.proofs.Laws.Values.{In, lower, upper}
@@ -27,7 +27,7 @@ use Rattle.messages.specs.Paper.Table.{u16At, vIn, vOp, vBat}
 use Rattle.messages.specs.Work.Look.{ofTwos, signedAt, isClimate}
 use Rattle.messages.specs.declared.nest.Pair.the-variants.{Is, Refused}
 use Rattle.messages.specs.declared.nest.Response.{Response}
-use Rattle.messages.specs.declared.nest.Response.the-variants.{Climate, State, Break, End, Text, Response as Other}
+use Rattle.messages.specs.declared.nest.Response.the-variants.{Climate, State, Break, End, Text, Other}
 use Rattle.messages.specs.declared.nest.Volts.the-variants.{Are, Refused as NoVolts}
 use Rattle.messages.proofs.Laws.Choices.{both-true}
 use Rattle.messages.proofs.Laws.NestRows.{of-twos, is-word}
@@ -81,7 +81,7 @@ all-starts : (w : List ℕ) → starts w w ≡ true
 all-starts w = ap (starts w) (sym (append-nil w)) ∙ starts-append w []
 
 -- a test for one word, by its length and its characters
-pub word-test : (w p : List ℕ) {t : Bool} → Tells (p ≡ w) t → t ≡ (eqb (length p) (length w) && starts w p)
+pub word-test : (w p : List ℕ) {t : Bool} → Decides (p ≡ w) t → t ≡ (eqb (length p) (length w) && starts w p)
 word-test w p (holds e) = sym (ap (λ (s : List ℕ). eqb (length s) (length w) && starts w s) e ∙ rw (eq-eqb (length w) (length w) refl) (all-starts w))
 word-test w p (fails f) = go (eqb (length p) (length w) && starts w p) refl
   where
@@ -93,11 +93,11 @@ word-test w p (fails f) = go (eqb (length p) (length w) && starts w p) refl
 
 -- the calls refuse with 5 alone
 module _ {C : ℕ → Type 0} (only : (k : ℕ) → eqb k 5 ≡ false → C k → ⊥) where
-  five : C 5 → First C order 5
-  five c = pass-over (λ k. eqb k 5) only order (here c)
+  five : C 5 → First C refusalOrder 5
+  five c = pass-over (λ k. eqb k 5) only refusalOrder (here c)
 
-  none : (C 5 → ⊥) → First C order 0
-  none n = pass-over (λ k. eqb k 5) only order (after n clear)
+  none : (C 5 → ⊥) → First C refusalOrder 0
+  none n = pass-over (λ k. eqb k 5) only refusalOrder (after n clear)
 
 pair-only : {e : Response} (k : ℕ) → eqb k 5 ≡ false → PairCause e k → ⊥
 pair-only k f (other g) = true≢false f
@@ -129,10 +129,10 @@ isCounts (Text i) = false
 isCounts (Other i) = false
 
 -- any other message is refused
-pub pair-refused : {e : Response} (m : Response) → e ≡ m → isCounts m ≡ false → ShowsPair e (Refused Limits)
+pub pair-refused : {e : Response} (m : Response) → e ≡ m → isCounts m ≡ false → ShowsPair e (Refused OutOfLimits)
 pair-refused m is f = refuses (lit< tt) (five pair-only (other (λ t h e. true≢false (sym (ap isCounts (sym is ∙ e)) ∙ f))))
 
-pub volts-refused : {p : List ℕ} → length p < 16 → ReadsVolts p (NoVolts Limits)
+pub volts-refused : {p : List ℕ} → length p < 16 → ReadsVolts p (NoVolts OutOfLimits)
 volts-refused h = refuses (lit< tt) (five volts-only (short h))
 
 pub volts-read : {p : List ℕ} {x y z : ℕ} → 16 ≤ length p → x ≡ vIn p → y ≡ vOp p → z ≡ vBat p → ReadsVolts p (Are x y z)

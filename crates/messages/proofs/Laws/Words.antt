@@ -7,7 +7,7 @@ use native.Mathlib.Omega.{arith}
 use lib.ListN.{length, getD, take, drop}
 use Rattle.digits.proofs.Laws.Parts.{take-ats}
 use Rattle.digits.specs.Paper.Bytes.{Bytes, part}
-use Rattle.digits.specs.Paper.LowFirst.{lowFirst}
+use Rattle.digits.specs.Paper.LowFirst.{lowByteFirst}
 use Rattle.messages.specs.Paper.Table.{u16At}
 
 -- a number of two bytes is taken apart
@@ -22,8 +22,8 @@ module _ (i : ℕ) (p : List ℕ) (b : Bytes p) where
   word-lt = omega (arith, b .each i, b .each (i + 1))
 
   -- the number's bytes are those that stand there
-  pub word-bytes : i + 2 ≤ length p → lowFirst 2 (u16At i p) ≡ part i (i + 2) p
-  unfolding lowFirst
+  pub word-bytes : i + 2 ≤ length p → lowByteFirst 2 (u16At i p) ≡ part i (i + 2) p
+  unfolding lowByteFirst
   word-bytes h =
       let l = low-of (getD p i 0) (getD p (i + 1) 0) (b .each i) in
       let m = high-of (getD p i 0) (getD p (i + 1) 0) (b .each i) (b .each (i + 1)) in
@@ -37,8 +37,8 @@ word-behind [] s = refl
 word-behind (x ∷ l) s = let e : suc (length l) + 1 ≡ suc (length l + 1) = omega arith in rw e (word-behind l s)
 
 -- a number's bytes, behind a list and in front of another, are read as that number
-pub word-at : (l s : List ℕ) (a : ℕ) → a < 65536 → u16At (length l) (l ++ (lowFirst 2 a ++ s)) ≡ a
-unfolding lowFirst
+pub word-at : (l s : List ℕ) (a : ℕ) → a < 65536 → u16At (length l) (l ++ (lowByteFirst 2 a ++ s)) ≡ a
+unfolding lowByteFirst
 word-at l s a h =
     let e : a % 256 + 256 * (a / 256 % 256) ≡ a = omega arith in
-    word-behind l (lowFirst 2 a ++ s) ∙ e
+    word-behind l (lowByteFirst 2 a ++ s) ∙ e

@@ -11,16 +11,16 @@ use Rattle.messages.specs.declared.Message.{Message as Coded}
 use Rattle.messages.specs.declared.Standing.{Standing}
 use Rattle.messages.specs.declared.Standing.the-variants.{Good as InTable, Refused}
 
--- why the message that is meant is none of the table. 5: "a field .. outside its limits", "not held by its width"; 6:
--- "a message with the content of one above it in the table"
+-- why the message that is meant is not one of the table. 5: "a field .. outside its limits", "not held by its width";
+-- 6: "a message with the content of one above it in the table"
 pub data StandingCause (Means : Message → Type 0) : ℕ → Type 0 where
   outside : ((m : Message) → Means m → Limits m → ⊥) → StandingCause Means 5
   taken : {m : Message} → Means m → Above m → StandingCause Means 6
 
 -- the refusal number of an answer
-abbrev pub standingNumber : Standing → ℕ
-standingNumber InTable = 0
-standingNumber (Refused why) = refusalNumber why
+abbrev pub standingRefusal : Standing → ℕ
+standingRefusal InTable = 0
+standingRefusal (Refused why) = refusalNumber why
 
 -- it has no other value
 abbrev pub standingValue : Standing → Unit {0}
@@ -32,7 +32,7 @@ InTheTable Means v = (m : Message) × (Means m) × Good m
 
 -- r is the right answer to whether the message that is meant is one of the table
 abbrev pub StandsSo : (Message → Type 0) → Standing → Type 0
-StandsSo Means r = Answers (tt {0}) (StandingCause Means) (InTheTable Means) (standingNumber r) (standingValue r)
+StandsSo Means r = Answers (tt {0}) (StandingCause Means) (InTheTable Means) (standingRefusal r) (standingValue r)
 
 abbrev pub Allows : Coded → List ℕ → Standing → Type 0
 Allows e s r = StandsSo (Says e s) r

@@ -17,8 +17,8 @@ use Rattle.messages.specs.Paper.Table.{contentOf, Good}
 use Rattle.messages.specs.declared.Message.{Message as Coded}
 use Rattle.messages.specs.declared.Decoded.{Decoded}
 use Rattle.messages.specs.declared.Decoded.the-variants.{Is, Refused}
-use Rattle.messages.specs.declared.Seen.{Seen}
-use Rattle.messages.specs.declared.Seen.the-variants.{At, Refused as Unseen}
+use Rattle.messages.specs.declared.FoundMessage.{FoundMessage}
+use Rattle.messages.specs.declared.FoundMessage.the-variants.{At, Refused as NotFound}
 
 -- the message m stands in f: f is a frame of kind k, and what it says is the content of m
 pub record Stands (k : ℕ) (f : List ℕ) (m : Message) : Type 0 where
@@ -33,7 +33,7 @@ pub data DecodeCause (k : ℕ) (f : List ℕ) : ℕ → Type 0 where
   no-kind : known k ≡ false → DecodeCause k f 2
   no-message : ((m : Message) → Stands k f m → ⊥) → DecodeCause k f 5
 
--- the right message, with the places in the frame of what stands beside it
+-- e says the message that stands in f, with the payload of f beside it, which goes from the one place to the other
 pub record Said (k : ℕ) (f : List ℕ) (e : Coded) (from to : ℕ) : Type 0 where
   pub message : Message
   pub stands : Stands k f message
@@ -41,25 +41,32 @@ pub record Said (k : ℕ) (f : List ℕ) (e : Coded) (from to : ℕ) : Type 0 wh
   pub from-is : from ≡ payloadFrom (contentOf message)
   pub to-is : to ≡ payloadTo (contentOf message)
 
--- the refusal number and the values of an answer: its message, and those places; of a refusal none, and zeros
-abbrev pub decodedNumber : Decoded → ℕ
-decodedNumber (Is e from to) = 0
-decodedNumber (Refused why) = refusalNumber why
+-- the values of an answer: the message, and the places in the frame of what stands beside it
+pub record DecodedValue : Type 0 where
+  pub message : Option Coded
+  pub ends : Ends
 
-abbrev pub zeroDecoded : Option Coded × Ends
-zeroDecoded = (none, zeroEnds)
+-- of a refusal there is no message, and the places are zeros
+abbrev pub zeroDecoded : DecodedValue
+zeroDecoded = record { message = none; ends = zeroEnds }
 
-abbrev pub decodedValue : Decoded → Option Coded × Ends
-decodedValue (Is e from to) = (some e, record { from = from; to = to })
+abbrev pub decodedRefusal : Decoded → ℕ
+decodedRefusal (Is e from to) = 0
+decodedRefusal (Refused why) = refusalNumber why
+
+abbrev pub decodedValue : Decoded → DecodedValue
+decodedValue (Is e from to) = record { message = some e; ends = record { from = from; to = to } }
 decodedValue (Refused why) = zeroDecoded
 
--- the right values
-abbrev pub DecodedTo : ℕ → List ℕ → Option Coded × Ends → Type 0
-DecodedTo k f v = (e : Coded) × (v .0 ≡ some e) × Said k f e (v .1 .from) (v .1 .to)
+-- v has the right values
+pub record DecodedTo (k : ℕ) (f : List ℕ) (v : DecodedValue) : Type 0 where
+  pub message : Coded
+  pub is : v .message ≡ some message
+  pub said : Said k f message (v .ends .from) (v .ends .to)
 
 -- r is the right answer
 abbrev pub Decodes : ℕ → List ℕ → Decoded → Type 0
-Decodes k f r = Answers zeroDecoded (DecodeCause k f) (DecodedTo k f) (decodedNumber r) (decodedValue r)
+Decodes k f r = Answers zeroDecoded (DecodeCause k f) (DecodedTo k f) (decodedRefusal r) (decodedValue r)
 
 -- ---- content: what stands beside the message of a frame, "handed back as that part of the caller's buffer"
 
@@ -75,25 +82,32 @@ Contents k frame r =
 
 -- ---- find: the search and the decoder in one
 
--- the refusal number and the values of an answer: the message of the frame that is found, and what the search finds;
--- of a refusal none, and zeros
-abbrev pub seenNumber : Seen → ℕ
-seenNumber (At start len from to e) = 0
-seenNumber (Unseen why) = refusalNumber why
+-- the values of an answer: the message of the frame that is found, and what the search finds
+pub record FoundValue : Type 0 where
+  pub message : Option Coded
+  pub hit : Hit
 
-abbrev pub zeroSeen : Option Coded × Hit
-zeroSeen = (none, zeroHit)
+-- of a refusal there is no message, and what the search finds is zeros
+abbrev pub zeroFoundMessage : FoundValue
+zeroFoundMessage = record { message = none; hit = zeroHit }
 
-abbrev pub seenValue : Seen → Option Coded × Hit
-seenValue (At start len from to e) = (some e, record { start = start; len = len; from = from; to = to })
-seenValue (Unseen why) = zeroSeen
+abbrev pub foundMessageRefusal : FoundMessage → ℕ
+foundMessageRefusal (At start len from to e) = 0
+foundMessageRefusal (NotFound why) = refusalNumber why
 
--- the right values: the places are those in the buffer
-abbrev pub FoundAs : ℕ → List ℕ → ℕ → Option Coded × Hit → Type 0
-FoundAs k s place v =
-    (e : Coded) × (v .0 ≡ some e) × (Leftmost k s place (v .1))
-    × Said k (framePart s (v .1)) e (v .1 .from - v .1 .start) (v .1 .to - v .1 .start)
+abbrev pub foundMessageValue : FoundMessage → FoundValue
+foundMessageValue (At start len from to e) =
+    record { message = some e; hit = record { start = start; len = len; from = from; to = to } }
+foundMessageValue (NotFound why) = zeroFoundMessage
 
--- r is the right answer; refused as the search is
-abbrev pub Finds : ℕ → List ℕ → ℕ → Seen → Type 0
-Finds k s place r = Answers zeroSeen (SearchCause k s place) (FoundAs k s place) (seenNumber r) (seenValue r)
+-- v has the right values; its places are those in the buffer, and `Said` speaks of places in the frame
+pub record FoundAs (k : ℕ) (s : List ℕ) (place : ℕ) (v : FoundValue) : Type 0 where
+  pub message : Coded
+  pub is : v .message ≡ some message
+  pub found : Leftmost k s place (v .hit)
+  pub said : Said k (framePart s (v .hit)) message (v .hit .from - v .hit .start) (v .hit .to - v .hit .start)
+
+-- r is the right answer; it is refused as the search is
+abbrev pub Finds : ℕ → List ℕ → ℕ → FoundMessage → Type 0
+Finds k s place r =
+    Answers zeroFoundMessage (SearchCause k s place) (FoundAs k s place) (foundMessageRefusal r) (foundMessageValue r)

@@ -1,4 +1,4 @@
--- 01, "Search, messages, commands": the content of a frame, what it says: its fields without the check values.
+-- 01, "Search, messages, commands": the content of a frame is what it says: its fields without the check values.
 -- Assumes nothing.
 use mathlib.Core.List.{List}
 use Prim.Native.Nat.{ℕ}
@@ -40,7 +40,7 @@ contentIn Homiq m = homiq (wireOf m)
 abbrev pub contentAt : {k : ℕ} {f : List ℕ} → Frame k f → Content
 contentAt r = contentIn (r .kind) (r .frame .form .fields)
 
--- the kind whose frames have such a content
+-- the kind whose frames have this content
 abbrev pub kindOf : Content → Kind
 kindOf (link p) = Nikobus
 kindOf (press d) = Nikobus

@@ -26,7 +26,7 @@ unfoldable pub fieldsFrom : ℕ → List ℕ → List ℕ
 fieldsFrom zero s = s
 fieldsFrom (suc i) s = fieldsFrom i (past s)
 
--- where that field begins and ends; where there are fewer fields nothing is left, and both are where s ends (ours)
+-- where that field begins and ends; if there are fewer fields, both are the end of s (ours)
 abbrev pub fieldEnds : ℕ → List ℕ → Ends
 fieldEnds i s =
     record {

@@ -74,16 +74,20 @@ pub record MessageWith (With : Content → Type 0) (e : Coded) : Type 0 where
 abbrev pub noneMeant : Option Coded
 noneMeant = none
 
-abbrev pub meantNumber : Meant → ℕ
-meantNumber (Is e) = 0
-meantNumber (Refused why) = refusalNumber why
+abbrev pub meantRefusal : Meant → ℕ
+meantRefusal (Is e) = 0
+meantRefusal (Refused why) = refusalNumber why
 
 abbrev pub meantValue : Meant → Option Coded
 meantValue (Is e) = some e
 meantValue (Refused why) = noneMeant
 
+-- v is that message
+pub record MeantAs (With : Content → Type 0) (v : Option Coded) : Type 0 where
+  pub coded : Coded
+  pub is : v ≡ some coded
+  pub right : MessageWith With coded
+
 -- r is the right answer
 abbrev pub Means : (Content → Type 0) → Meant → Type 0
-Means With r =
-    Answers noneMeant (MeantCause With) (λ v. (e : Coded) × (v ≡ some e) × MessageWith With e) (meantNumber r)
-    (meantValue r)
+Means With r = Answers noneMeant (MeantCause With) (MeantAs With) (meantRefusal r) (meantValue r)

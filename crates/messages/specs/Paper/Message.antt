@@ -7,7 +7,7 @@ use lib.IntN.{ℤ}
 use Rattle.digits.specs.Paper.Ascii.{ascii}
 use Rattle.layouts.specs.Paper.Made.{Wire}
 
--- The messages of the table, in its order, with their fields. (`data` is a word of the language: what the listing
+-- The messages of the table, in its order, with their fields. (`data` is a word of the language. What the listing
 -- calls so is a `payload` or a `content` here.) Homiq's messages all have the six fields from CMD to TYPE.
 pub data Message : Type 0 where
   read : (group address : ℕ) → Message
@@ -60,7 +60,7 @@ name (shutter fields) = ascii "shutter"
 name (beat fields) = ascii "beat"
 name (homiq fields) = ascii "homiq"
 
--- where they stand in the table, from the top
+-- their rows in the table, counted from the top
 abbrev pub row : Message → ℕ
 row (read group address) = 1
 row (set group address out) = 2

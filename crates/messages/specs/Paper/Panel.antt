@@ -31,9 +31,9 @@ pub record PairOf (e : Response) (v : Counts) : Type 0 where
   pub is : e ≡ Climate temperature humidity
   pub pair : ClimatePair temperature (pos humidity) (v .temperature) (v .humidity)
 
-abbrev pub pairNumber : Pair → ℕ
-pairNumber (Is v) = 0
-pairNumber (Refused why) = refusalNumber why
+abbrev pub pairRefusal : Pair → ℕ
+pairRefusal (Is v) = 0
+pairRefusal (Refused why) = refusalNumber why
 
 -- 0.0
 abbrev pub zeroCounts : Counts
@@ -44,7 +44,7 @@ pairValue (Is v) = v
 pairValue (Refused why) = zeroCounts
 
 abbrev pub ShowsPair : Response → Pair → Type 0
-ShowsPair e r = Answers zeroCounts (PairCause e) (PairOf e) (pairNumber r) (pairValue r)
+ShowsPair e r = Answers zeroCounts (PairCause e) (PairOf e) (pairRefusal r) (pairValue r)
 
 -- ---- a state's voltages
 
@@ -61,9 +61,9 @@ pub record Voltages : Type 0 where
 abbrev pub voltsIn : List ℕ → Voltages
 voltsIn p = record { vIn = vIn p; vOp = vOp p; vBat = vBat p }
 
-abbrev pub voltsNumber : Volts → ℕ
-voltsNumber (Are x y z) = 0
-voltsNumber (NoVolts why) = refusalNumber why
+abbrev pub voltsRefusal : Volts → ℕ
+voltsRefusal (Are x y z) = 0
+voltsRefusal (NoVolts why) = refusalNumber why
 
 abbrev pub zeroVolts : Voltages
 zeroVolts = record { vIn = 0; vOp = 0; vBat = 0 }
@@ -73,4 +73,4 @@ voltsValue (Are x y z) = record { vIn = x; vOp = y; vBat = z }
 voltsValue (NoVolts why) = zeroVolts
 
 abbrev pub ReadsVolts : List ℕ → Volts → Type 0
-ReadsVolts p r = Answers zeroVolts (VoltsCause p) (λ v. v ≡ voltsIn p) (voltsNumber r) (voltsValue r)
+ReadsVolts p r = Answers zeroVolts (VoltsCause p) (λ v. v ≡ voltsIn p) (voltsRefusal r) (voltsValue r)

@@ -1,4 +1,4 @@
--- What the code's enums say in the paper's words: the message that a case is, with what stands beside it.
+-- Which message of document 01 a case of the code's enums means, with the bytes that stand beside it.
 -- Assumes nothing.
 use mathlib.Core.List.{List, [], _∷_}
 use mathlib.Core.Path.{_≡_}
@@ -20,16 +20,18 @@ use Rattle.messages.specs.declared.nikobus.Nikobus.{Nikobus}
 use Rattle.messages.specs.declared.nikobus.Nikobus.the-variants.{Read, Set, Answer, Press, Tail, Link}
 use Rattle.messages.specs.declared.nest.Response.{Response}
 use Rattle.messages.specs.declared.nest.Response.the-variants.{Climate, State, Break, End, Text}
-use Rattle.messages.specs.declared.nest.Response.the-variants.{Response as Other}
+use Rattle.messages.specs.declared.nest.Response.the-variants as responseCases
 use Rattle.messages.specs.declared.nibe.Nibe.{Nibe}
-use Rattle.messages.specs.declared.nibe.Nibe.the-variants.{Ask, Reply, Put, Done, Nibe as Plain}
+use Rattle.messages.specs.declared.nibe.Nibe.the-variants.{Ask, Reply, Put, Done}
+use Rattle.messages.specs.declared.nibe.Nibe.the-variants as nibeCases
 use Rattle.messages.specs.declared.homiq.Homiq.{Homiq}
-use Rattle.messages.specs.declared.homiq.Homiq.the-variants.{Output, Input, Shutter, Beat, Homiq as Rest}
+use Rattle.messages.specs.declared.homiq.Homiq.the-variants.{Output, Input, Shutter, Beat}
+use Rattle.messages.specs.declared.homiq.Homiq.the-variants as homiqCases
 
 abbrev pub six : Six → List ℕ
 six o = o .a ∷ o .b ∷ o .c ∷ o .d ∷ o .e ∷ o .f ∷ []
 
--- a Nikobus message, where a link's payload is p
+-- a Nikobus message; p is the payload of a link, and no other message takes anything from it
 abbrev pub ofNikobus : Nikobus → List ℕ → Message
 ofNikobus (Read g a) p = read g a
 ofNikobus (Set g a out) p = set g a (six out)
@@ -38,22 +40,22 @@ ofNikobus (Press digits) p = press (six digits)
 ofNikobus Tail p = tail
 ofNikobus Link p = link p
 
--- a Nest response with the payload p
+-- a Nest response whose frame has the payload p
 abbrev pub ofResponse : Response → List ℕ → Message
 ofResponse (Climate t h) p = climate t h
 ofResponse State p = state p
 ofResponse Break p = break
 ofResponse End p = end
 ofResponse (Text i) p = text i p
-ofResponse (Other i) p = response i p
+ofResponse (responseCases.Other i) p = response i p
 
--- a Nibe message with the data d
+-- a Nibe message whose frame has the data d
 abbrev pub ofNibe : Nibe → List ℕ → Message
 ofNibe (Ask r) d = ask r
 ofNibe (Reply v) d = reply (v .register) (v .width) (v .value)
 ofNibe (Put v) d = put (v .register) (v .width) (v .value)
 ofNibe (Done ok) d = done ok
-ofNibe (Plain c) d = nibe c d
+ofNibe (nibeCases.Other c) d = nibe c d
 
 -- a Homiq message with these six fields
 abbrev pub ofHomiq : Homiq → Wire → Message
@@ -61,14 +63,21 @@ ofHomiq Output w = output w
 ofHomiq Input w = input w
 ofHomiq Shutter w = shutter w
 ofHomiq Beat w = beat w
-ofHomiq Rest w = homiq w
+ofHomiq homiqCases.Other w = homiq w
 
--- m is a Nikobus message with s beside it: a link's digits; the others take nothing from there
-pub data SaysNikobus : Nikobus → List ℕ → Message → Type 0 where
-  digits : {s p : List ℕ} {m : Message} {e : Nikobus} → e ≡ Link → Bytes p → s ≡ hexBytes p → m ≡ link p
-      → SaysNikobus e s m
-  fixed : {s : List ℕ} {m : Message} {e : Nikobus} → (e ≡ Link → ⊥) → m ≡ ofNikobus e []
-      → SaysNikobus e s m
+-- m is the link whose payload has the digits s
+pub record SaysLink (s : List ℕ) (m : Message) : Type 0 where
+  pub payload : List ℕ
+  pub bytes : Bytes payload
+  pub digits : s ≡ hexBytes payload
+  pub is : m ≡ link payload
+
+-- m is a Nikobus message with s beside it
+pub data SaysNikobus (e : Nikobus) (s : List ℕ) (m : Message) : Type 0 where
+  -- a link's digits stand beside it
+  a-link : e ≡ Link → SaysLink s m → SaysNikobus e s m
+  -- the other messages take nothing from there
+  another : (e ≡ Link → ⊥) → m ≡ ofNikobus e [] → SaysNikobus e s m
 
 -- m is a Homiq message with s beside it: CMD to TYPE
 pub record SaysHomiq (e : Homiq) (s : List ℕ) (m : Message) : Type 0 where

@@ -11,8 +11,8 @@ use lib.ListN.{length, getD}
 use Rattle.digits.specs.Paper.Ascii.{ascii}
 use Rattle.digits.specs.Paper.Bytes.{Bytes}
 use Rattle.digits.specs.Paper.Decimal.{decimal}
-use Rattle.digits.specs.Paper.LowFirst.{Held, SixteenBits, lowFirst}
-use Rattle.numbers.specs.Paper.ByteValues.{Holds, valueBytes}
+use Rattle.digits.specs.Paper.LowFirst.{Held, SixteenBits, lowByteFirst}
+use Rattle.numbers.specs.Paper.ByteValues.{HeldBy, valueBytes}
 use Rattle.layouts.specs.Paper.Chars.{all, isHex, oneOf}
 use Rattle.layouts.specs.Paper.Homiq as homiqs
 use Rattle.layouts.specs.Paper.Made.{Wire, homiqOf}
@@ -31,24 +31,24 @@ codeOf first second group = cond (eqb group 1) first second
 
 -- "Addresses and numbers are low byte first"; a value of 1, 2 or 4 bytes behind its register
 abbrev pub valued : ℕ → ℕ → ℕ → List ℕ
-valued register width value = lowFirst 2 register ++ lowFirst width value
+valued register width value = lowByteFirst 2 register ++ lowByteFirst width value
 
 -- the content of a message's frame, a line for each row
 unfoldable pub contentOf : Message → Content
-contentOf (read g a) = content.link (codeOf 0x12 0x17 g ∷ lowFirst 2 a)
-contentOf (set g a out) = content.link (codeOf 0x15 0x16 g ∷ (lowFirst 2 a ++ out ++ (0xFF ∷ [])))
-contentOf (answer a third out) = content.link (lowFirst 2 a ++ (third ∷ out))
+contentOf (read g a) = content.link (codeOf 0x12 0x17 g ∷ lowByteFirst 2 a)
+contentOf (set g a out) = content.link (codeOf 0x15 0x16 g ∷ (lowByteFirst 2 a ++ out ++ (0xFF ∷ [])))
+contentOf (answer a third out) = content.link (lowByteFirst 2 a ++ (third ∷ out))
 contentOf (press d) = content.press d
 contentOf tail = content.tail
 contentOf (link p) = content.link p
 contentOf (command i p) = content.command i p
-contentOf (climate t h) = content.response 0x0002 (valueBytes 2 t ++ lowFirst 2 h)
+contentOf (climate t h) = content.response 0x0002 (valueBytes 2 t ++ lowByteFirst 2 h)
 contentOf (state p) = content.response 0x000B p
 contentOf break = content.response 0x0001 (ascii "BRK")
 contentOf end = content.response 0x002F []
 contentOf (text i p) = content.response i p
 contentOf (response i p) = content.response i p
-contentOf (ask r) = content.nibe 0x69 (lowFirst 2 r)
+contentOf (ask r) = content.nibe 0x69 (lowByteFirst 2 r)
 contentOf (reply r w v) = content.nibe 0x6A (valued r w v)
 contentOf (put r w v) = content.nibe 0x6B (valued r w v)
 contentOf (done ok) = content.nibe 0x6C (cond ok 0x01 0x00 ∷ [])
@@ -74,8 +74,8 @@ pub record SixBytes (out : List ℕ) : Type 0 where
   pub six : length out ≡ 6
   pub bytes : Bytes out
 
--- so many bytes: a payload or data, within the limits of its layout
-pub record Sized (least most : ℕ) (p : List ℕ) : Type 0 where
+-- a payload or data of `least` to `most` bytes
+pub record BytesBetween (least most : ℕ) (p : List ℕ) : Type 0 where
   pub enough : least ≤ length p
   pub short : length p ≤ most
   pub bytes : Bytes p
@@ -88,8 +88,8 @@ leastState = 16
 abbrev pub textIds : List ℕ
 textIds = 0x0001 ∷ 0x0018 ∷ 0x0019 ∷ []
 
--- "O.0 to O.9", "I.0 to I.15": a text and behind it a number, at most so large
-pub record Numbered (mark : List ℕ) (most : ℕ) (cmd : List ℕ) : Type 0 where
+-- "O.0 to O.9", "I.0 to I.15": a mark and behind it a number, at most `most`
+pub record MarkedNumber (mark : List ℕ) (most : ℕ) (cmd : List ℕ) : Type 0 where
   pub number : ℕ
   pub few : number ≤ most
   pub is : cmd ≡ mark ++ decimal number
@@ -113,21 +113,21 @@ Limits (set g a out) = Group g × SixteenBits a × SixBytes out
 Limits (answer a third out) = SixteenBits a × (third < 256) × SixBytes out
 Limits (press d) = (length d ≡ nikobuses.pressDigits) × T (all isHex d)
 Limits tail = Unit
-Limits (link p) = Sized nikobuses.leastPayload nikobuses.mostPayload p
-Limits (command i p) = SixteenBits i × Sized nests.leastPayload nests.mostPayload p
-Limits (climate t h) = Holds 2 true t × SixteenBits h
-Limits (state p) = Sized leastState nests.mostPayload p
+Limits (link p) = BytesBetween nikobuses.leastPayload nikobuses.mostPayload p
+Limits (command i p) = SixteenBits i × BytesBetween nests.leastPayload nests.mostPayload p
+Limits (climate t h) = HeldBy 2 true t × SixteenBits h
+Limits (state p) = BytesBetween leastState nests.mostPayload p
 Limits break = Unit
 Limits end = Unit
-Limits (text i p) = T (oneOf textIds i) × Sized nests.leastPayload nests.mostPayload p
-Limits (response i p) = SixteenBits i × Sized nests.leastPayload nests.mostPayload p
+Limits (text i p) = T (oneOf textIds i) × BytesBetween nests.leastPayload nests.mostPayload p
+Limits (response i p) = SixteenBits i × BytesBetween nests.leastPayload nests.mostPayload p
 Limits (ask r) = SixteenBits r
 Limits (reply r w v) = SixteenBits r × Held w v
 Limits (put r w v) = SixteenBits r × Held w v
 Limits (done ok) = Unit
-Limits (nibe c d) = T (oneOf nibes.commands c) × Sized 0 nibes.mostData d
-Limits (output w) = Sends (Numbered (ascii "O.") 9) (Letter (ascii "01")) w
-Limits (input w) = Sends (Numbered (ascii "I.") 15) (Letter (ascii "01")) w
+Limits (nibe c d) = T (oneOf nibes.commands c) × BytesBetween 0 nibes.mostData d
+Limits (output w) = Sends (MarkedNumber (ascii "O.") 9) (Letter (ascii "01")) w
+Limits (input w) = Sends (MarkedNumber (ascii "I.") 15) (Letter (ascii "01")) w
 Limits (shutter w) = Sends (λ cmd. cmd ≡ ascii "UD") (Letter (ascii "uds")) w
 Limits (beat w) = Sends (λ cmd. cmd ≡ ascii "HB") (Letter (ascii "1")) w
 Limits (homiq w) = homiqs.Limits (homiqOf w)

@@ -4,8 +4,8 @@ use mathlib.Core.Bool.{Bool, true, false}
 use mathlib.Core.List.{List}
 use Prim.Native.Nat.{ℕ}
 use mathlib.Core.Path.{_≡_}
-use Rattle.digits.specs.declared.refusal.Refusal.the-variants.{Limits}
-use Rattle.frames.specs.Paper.Whole.{OneFrame}
+use Rattle.digits.specs.declared.refusal.Refusal.the-variants.{OutOfLimits}
+use Rattle.frames.specs.Paper.OneFrame.{OneFrame}
 use Rattle.messages.specs.Paper.Message.{Message}
 use Rattle.messages.specs.declared.Standing.{Standing}
 use Rattle.messages.specs.declared.Standing.the-variants.{Good, Refused}
@@ -21,4 +21,4 @@ Only m n = n ≡ m
 -- how a message stands whose content no message above it has, by whether its limits hold
 abbrev pub standingOf : Bool → Standing
 standingOf true = Good
-standingOf false = Refused Limits
+standingOf false = Refused OutOfLimits

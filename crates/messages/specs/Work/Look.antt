@@ -1,4 +1,5 @@
--- The message that a content is, found by tests from the top of the table. The laws show that it is the one whose content it is.
+-- The message of a content, found by tests from the top of the table. The laws show that the content is that
+-- message's.
 -- Assumes nothing.
 use mathlib.Core.Bool.{Bool, cond, _&&_, _||_}
 use mathlib.Core.List.{List}
@@ -15,7 +16,8 @@ use Rattle.layouts.specs.Paper.Made.{Wire}
 use Rattle.layouts.specs.Work.Heads.{starts}
 use Rattle.messages.specs.Paper.Content.{Content}
 use Rattle.messages.specs.Paper.Content as content
-use Rattle.messages.specs.Paper.Message.{Message, read, set, answer, press, tail, link, command, climate, state, break, end, text, response, ask, reply, put, done, nibe}
+use Rattle.messages.specs.Paper.Message.{Message, read, set, answer, press, tail, link, command, climate}
+use Rattle.messages.specs.Paper.Message.{state, break, end, text, response, ask, reply, put, done, nibe}
 use Rattle.messages.specs.Paper.Says.{ofHomiq}
 use Rattle.messages.specs.Paper.Table.{u16At, textIds}
 use Rattle.messages.specs.Work.Homiq.{whichOf}
@@ -29,7 +31,7 @@ isRead p = eqb (length p) 3 && (eqb (getD p 0 0) 0x12 || eqb (getD p 0 0) 0x17)
 unfoldable pub isSet : List ℕ → Bool
 isSet p = eqb (length p) 10 && (eqb (getD p 9 0) 0xFF && (eqb (getD p 0 0) 0x15 || eqb (getD p 0 0) 0x16))
 
--- the group of a code, where the first group has this one
+-- the group of a code; `first` is the code of group 1
 abbrev pub groupOf : ℕ → ℕ → ℕ
 groupOf first code = cond (eqb code first) 1 2
 

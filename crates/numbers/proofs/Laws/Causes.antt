@@ -9,11 +9,11 @@ use lib.Dec.{eqb}
 use lib.IntN.{ℤ}
 use lib.ListN.{length}
 use Rattle.digits.specs.Paper.LowFirst.{Width}
-use Rattle.digits.specs.Paper.Refusals.{order, First, clear, here, after}
+use Rattle.digits.specs.Paper.Refusals.{refusalOrder, First, clear, here, after}
 use Rattle.digits.proofs.Laws.Refusals.{pass-over}
 use Rattle.numbers.specs.Paper.Raw.{Raw, mostDecimals}
 use Rattle.numbers.specs.Paper.Text.{text}
-use Rattle.numbers.specs.Paper.ByteValues.{Holds}
+use Rattle.numbers.specs.Paper.ByteValues.{HeldBy}
 use Rattle.numbers.specs.Paper.Answers as A
 use Rattle.numbers.specs.Paper.Answers.{TextCause, ValueCause, BytesCause, RangeCause}
 
@@ -22,17 +22,17 @@ abbrev ours : ℕ → Bool
 ours k = eqb k 7 || eqb k 5 || eqb k 4
 
 module _ {C : ℕ → Type 0} (only : (k : ℕ) → ours k ≡ false → C k → ⊥) where
-  pub first-7 : C 7 → First C order 7
-  first-7 c = pass-over ours only order (here c)
+  pub first-7 : C 7 → First C refusalOrder 7
+  first-7 c = pass-over ours only refusalOrder (here c)
 
-  pub first-5 : (C 7 → ⊥) → C 5 → First C order 5
-  first-5 n7 c = pass-over ours only order (after n7 (here c))
+  pub first-5 : (C 7 → ⊥) → C 5 → First C refusalOrder 5
+  first-5 n7 c = pass-over ours only refusalOrder (after n7 (here c))
 
-  pub first-4 : (C 7 → ⊥) → (C 5 → ⊥) → C 4 → First C order 4
-  first-4 n7 n5 c = pass-over ours only order (after n7 (after n5 (here c)))
+  pub first-4 : (C 7 → ⊥) → (C 5 → ⊥) → C 4 → First C refusalOrder 4
+  first-4 n7 n5 c = pass-over ours only refusalOrder (after n7 (after n5 (here c)))
 
-  pub no-cause : (C 7 → ⊥) → (C 5 → ⊥) → (C 4 → ⊥) → First C order 0
-  no-cause n7 n5 n4 = pass-over ours only order (after n7 (after n5 (after n4 clear)))
+  pub no-cause : (C 7 → ⊥) → (C 5 → ⊥) → (C 4 → ⊥) → First C refusalOrder 0
+  no-cause n7 n5 n4 = pass-over ours only refusalOrder (after n7 (after n5 (after n4 clear)))
 
 -- ---- text::write
 
@@ -62,7 +62,7 @@ module _ {w : ℕ} {signed : Bool} {z : ℤ} {n : ℕ} where
   pub width-right : Width w → ValueCause w signed z n 7 → ⊥
   width-right h (A.width f) = f h
 
-  pub held-right : Holds w signed z → ValueCause w signed z n 5 → ⊥
+  pub held-right : HeldBy w signed z → ValueCause w signed z n 5 → ⊥
   held-right h (A.held f) = f h
 
   pub bytes-enough : w ≤ n → ValueCause w signed z n 4 → ⊥
@@ -90,10 +90,10 @@ range-only : {z : ℤ} (k : ℕ) → ours k ≡ false → RangeCause z k → ⊥
 range-only k e (A.range f) = true≢false e
 
 module _ (z : ℤ) where
-  pub out-of-range : (Raw z → ⊥) → First (RangeCause z) order 5
+  pub out-of-range : (Raw z → ⊥) → First (RangeCause z) refusalOrder 5
   out-of-range f = first-5 range-only (λ u. elim u [ ]) (A.range f)
 
-  pub in-range : Raw z → First (RangeCause z) order 0
+  pub in-range : Raw z → First (RangeCause z) refusalOrder 0
   in-range r = no-cause range-only (λ u. elim u [ ]) raw (λ u. elim u [ ])
     where
       raw : RangeCause z 5 → ⊥

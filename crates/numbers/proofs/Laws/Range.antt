@@ -10,7 +10,7 @@ use lib.IntN.{ℤ, pos, negsuc, natAbs}
 use borrow.Author.Tests.{not-true, not-false}
 use mir.Syntax.{w64}
 use mir.Val.{SFits}
-use Rattle.digits.specs.Paper.Read.{Tells}
+use Rattle.digits.specs.Paper.Read.{Decides}
 use Rattle.digits.proofs.Laws.Tests.{told, untold}
 use Rattle.numbers.specs.Paper.Raw.{Between, Raw}
 use Rattle.numbers.proofs.Laws.Signs.{back, said}
@@ -22,9 +22,9 @@ near-zero m least (negsuc b) (pos n) r h k = absurd (r .high .le)
 near-zero m (pos a) most (negsuc n) r h k = absurd (r .low .le)
 near-zero m (negsuc a) most (negsuc n) r h k = le-trans (suc-le-suc (leb→le n a (r .low .le))) h
 
-module _ {z : ℤ} (f : SFits w64 z) {b : Bool} (t : Tells (Raw (back z)) b) where
-  of-number : Tells (Raw z) b
-  of-number = said (λ (y : ℤ). Tells (Raw y) b) z f t
+module _ {z : ℤ} (f : SFits w64 z) {b : Bool} (t : Decides (Raw (back z)) b) where
+  of-number : Decides (Raw z) b
+  of-number = said (λ (y : ℤ). Decides (Raw y) b) z f t
 
   pub refused : not b ≡ true → Raw z → ⊥
   refused e = untold of-number (not-true b e)

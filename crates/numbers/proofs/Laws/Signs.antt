@@ -13,7 +13,7 @@ use borrow.Author.Tests.{le-ltb}
 use mir.Syntax.{w32, w64}
 use mir.Val.{Fits, SFits, toZ, ofZ}
 use mir.ValLaws.{toZ-ofZ, toZ-pos}
-use Rattle.digits.specs.Paper.Read.{Tells, holds, fails}
+use Rattle.digits.specs.Paper.Read.{Decides, holds, fails}
 use Rattle.numbers.specs.Paper.Raw.{Between, Raw}
 use Rattle.numbers.specs.Paper.Text.{belowZero}
 use Rattle.numbers.specs.Work.Text.{signed}
@@ -40,13 +40,13 @@ module _ (y z : ℤ) (f : SFits w64 y) (g : SFits w64 z) where
   pub not-less : ltZ (back y) (back z) ≡ false → z ≤ℤ y
   not-less e = ltZ-no (subst (λ (b : Bool). T (not b)) (sym (sym same ∙ e)) tt)
 
-pub too-low : {least most z : ℤ} → z <ℤ least → Tells (Between least most z) false
+pub too-low : {least most z : ℤ} → z <ℤ least → Decides (Between least most z) false
 too-low h = fails (λ b. clashℤ h (b .low))
 
-pub too-high : {least most z : ℤ} → most <ℤ z → Tells (Between least most z) false
+pub too-high : {least most z : ℤ} → most <ℤ z → Decides (Between least most z) false
 too-high h = fails (λ b. clashℤ h (b .high))
 
-pub within : {least most z : ℤ} → least ≤ℤ z → z ≤ℤ most → Tells (Between least most z) true
+pub within : {least most z : ℤ} → least ≤ℤ z → z ≤ℤ most → Decides (Between least most z) true
 within h k = holds (record { low = h; high = k })
 
 pub below : (z : ℤ) → ltZ z (pos 0) ≡ belowZero z

@@ -11,11 +11,11 @@ use borrow.Author.Tests.{leb-true, leb-false}
 use mir.Syntax.{w64}
 use mir.Val.{SFits}
 use Rattle.digits.specs.Paper.LowFirst.{Width, one, two, four}
-use Rattle.digits.specs.Paper.Read.{Tells}
+use Rattle.digits.specs.Paper.Read.{Decides}
 use Rattle.digits.proofs.Laws.LowFirst.{low-inj}
 use Rattle.numbers.specs.Paper.Raw.{Between, Raw}
 use Rattle.numbers.specs.Paper.Text.{belowZero}
-use Rattle.numbers.specs.Paper.ByteValues.{least, most, Holds, twos, valueBytes}
+use Rattle.numbers.specs.Paper.ByteValues.{least, most, HeldBy, twos, valueBytes}
 use Rattle.numbers.specs.Work.ByteValues.{fromTwos, ofTwos}
 use Rattle.numbers.proofs.Laws.Signs.{back, read-back}
 
@@ -52,7 +52,7 @@ module _ {w : ℕ} (z : Size w) where
   lowest : least w true ≡ negsuc (256 ^ w / 2 - 1)
   lowest = below-zero (256 ^ w / 2) (omega (arith, z .some))
 
-  pub held-in : (s : Bool) (y : ℤ) → Holds w s y → In w s y
+  pub held-in : (s : Bool) (y : ℤ) → HeldBy w s y → In w s y
   held-in false (pos n) h = plain {n = n} (omega (arith, leb→le n (256 ^ w - 1) (h .high .le), z .some))
   held-in false (negsuc n) h = absurd (h .low .le)
   held-in true (pos n) h = lower {n = n} (omega (arith, leb→le n (256 ^ w / 2 - 1) (h .high .le), z .some))
@@ -60,7 +60,7 @@ module _ {w : ℕ} (z : Size w) where
       let k : T (leb n (256 ^ w / 2 - 1)) = subst (λ (x : ℤ). T (leZ x (negsuc n))) lowest (h .low .le) in
       upper {n = n} (omega (arith, leb→le n (256 ^ w / 2 - 1) k, z .some))
 
-  pub in-held : {s : Bool} {y : ℤ} → In w s y → Holds w s y
+  pub in-held : {s : Bool} {y : ℤ} → In w s y → HeldBy w s y
   in-held (plain {n} h) = record { low = leZ-yes (le→leb 0 n (omega arith)); high = leZ-yes (le→leb n (256 ^ w - 1) (omega arith)) }
   in-held (lower {n} h) = record { low = subst (λ (x : ℤ). x ≤ℤ pos n) (sym lowest) (leZ-yes tt); high = leZ-yes (le→leb n (256 ^ w / 2 - 1) (omega (arith, z .even))) }
   in-held (upper {n} h) = record { low = subst (λ (x : ℤ). x ≤ℤ negsuc n) (sym lowest) (leZ-yes (le→leb n (256 ^ w / 2 - 1) (omega (arith, z .even)))); high = leZ-yes tt }
@@ -133,8 +133,8 @@ ends-fit two false = (record { sfits = lit< tt }, record { sfits = lit< tt })
 ends-fit four true = (record { sfits = lit< tt }, record { sfits = lit< tt })
 ends-fit four false = (record { sfits = lit< tt }, record { sfits = lit< tt })
 
-pub between-ends : {a b l m : ℤ} (z : ℤ) {r : Bool} → a ≡ l → b ≡ m → SFits w64 l × SFits w64 m → SFits w64 z → Tells (Between (back a) (back b) (back z)) r → Tells (Between l m z) r
+pub between-ends : {a b l m : ℤ} (z : ℤ) {r : Bool} → a ≡ l → b ≡ m → SFits w64 l × SFits w64 m → SFits w64 z → Decides (Between (back a) (back b) (back z)) r → Decides (Between l m z) r
 between-ends {a} {b} {l} {m} z {r} e f g h t =
-    subst (λ (x : ℤ). Tells (Between x m z) r) (ap back e ∙ read-back l (g .0))
-    (subst (λ (x : ℤ). Tells (Between (back a) x z) r) (ap back f ∙ read-back m (g .1))
-    (subst (λ (x : ℤ). Tells (Between (back a) (back b) x) r) (read-back z h) t))
+    subst (λ (x : ℤ). Decides (Between x m z) r) (ap back e ∙ read-back l (g .0))
+    (subst (λ (x : ℤ). Decides (Between (back a) x z) r) (ap back f ∙ read-back m (g .1))
+    (subst (λ (x : ℤ). Decides (Between (back a) (back b) x) r) (read-back z h) t))

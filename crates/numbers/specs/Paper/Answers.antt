@@ -1,4 +1,4 @@
--- What the code's answers say, in the paper's numbers; the causes of each refusal; and the promises.
+-- What the code's answers say in the numbers of document 01; the causes of each refusal; and the promises.
 -- Assumes nothing.
 use mathlib.Core.Path.{_≡_}
 use Prim.Native.Nat.{ℕ, _<_}
@@ -12,7 +12,7 @@ use Rattle.digits.specs.Paper.Read.{Reads}
 use Rattle.digits.specs.Paper.Refusals.{refusalNumber, Answers}
 use Rattle.numbers.specs.Paper.Raw.{Raw, mostDecimals}
 use Rattle.numbers.specs.Paper.Text.{text, Number, InLimits}
-use Rattle.numbers.specs.Paper.ByteValues.{Holds, valueBytes}
+use Rattle.numbers.specs.Paper.ByteValues.{HeldBy, valueBytes}
 use Rattle.numbers.specs.Paper.Single.{fitsSingle}
 use Rattle.numbers.specs.Paper.Panel.{Panel}
 use Rattle.numbers.specs.declared.text.Reading.{Reading}
@@ -57,7 +57,7 @@ ReadsText t r = Reads zeroNumber InLimits (λ n. text (n .raw) (n .decimals)) 7 
 -- 7 "width .. not as above"; 5 "a raw number .. not held by its width and sign"; 4 "lent room too short for the answer"
 pub data ValueCause (w : ℕ) (signed : Bool) (z : ℤ) (n : ℕ) : ℕ → Type 0 where
   width : (Width w → ⊥) → ValueCause w signed z n 7
-  held : (Holds w signed z → ⊥) → ValueCause w signed z n 5
+  held : (HeldBy w signed z → ⊥) → ValueCause w signed z n 5
   room : n < w → ValueCause w signed z n 4
 
 -- ---- byte_values::read: why s is not read as w bytes
@@ -78,7 +78,7 @@ valueOf (NoValue why) = pos 0
 -- the number that w bytes hold and that is written s
 pub record ValueIn (w : ℕ) (signed : Bool) (s : List ℕ) (z : ℤ) : Type 0 where
   pub known : Width w
-  pub held : Holds w signed z
+  pub held : HeldBy w signed z
   pub bytes : valueBytes w z ≡ s
 
 abbrev pub AnswersValue : ℕ → Bool → List ℕ → Value → Type 0

@@ -5,7 +5,7 @@ use Prim.Native.Nat.{ℕ, suc, _-_, _/_, _^_}
 use mathlib.Core.Bool.{Bool, true, false}
 use mathlib.Core.List.{List}
 use lib.IntN.{ℤ, pos, negsuc, negℤ}
-use Rattle.digits.specs.Paper.LowFirst.{lowFirst}
+use Rattle.digits.specs.Paper.LowFirst.{lowByteFirst}
 use Rattle.numbers.specs.Paper.Raw.{Between}
 
 -- what w bytes hold, signed or not: from the least to the most
@@ -17,8 +17,8 @@ abbrev pub most : ℕ → Bool → ℤ
 most w true = pos (256 ^ w / 2 - 1)
 most w false = pos (256 ^ w - 1)
 
-abbrev pub Holds : ℕ → Bool → ℤ → Type 0
-Holds w signed z = Between (least w signed) (most w signed) z
+abbrev pub HeldBy : ℕ → Bool → ℤ → Type 0
+HeldBy w signed z = Between (least w signed) (most w signed) z
 
 -- "two's complement": the number of w bytes that stands for z. (`negsuc n` is −(n + 1).)
 abbrev pub twos : ℕ → ℤ → ℕ
@@ -27,4 +27,4 @@ twos w (negsuc n) = 256 ^ w - suc n
 
 -- z in w bytes
 abbrev pub valueBytes : ℕ → ℤ → List ℕ
-valueBytes w z = lowFirst w (twos w z)
+valueBytes w z = lowByteFirst w (twos w z)

@@ -23,13 +23,13 @@ worthBehind n (c ∷ s) = worthBehind (n * 10 + (c - 48)) s
 abbrev pub worth : List ℕ → ℕ
 worth s = worthBehind 0 s
 
--- digits with a point before them, and no point where there are none
+-- digits with a point before them, and no point if there are none
 abbrev pub pointed : List ℕ → List ℕ
 pointed [] = []
 pointed (c ∷ s) = ascii "." ++ (c ∷ s)
 
--- t is z / 10 ^ d, and nothing is lost: a minus where z is below zero, then digits with a point before the last d;
--- all of them, without the point, are worth the magnitude of z
+-- t is z / 10 ^ d, and nothing is lost. It has a minus if z is below zero, and then digits with a point before the
+-- last d. Without the point, they are worth the magnitude of z.
 pub record Exact (z : ℤ) (d : ℕ) (t : List ℕ) : Type 0 where
   pub whole : List ℕ
   pub behind : List ℕ

@@ -9,7 +9,7 @@ use Rattle.numbers.specs.Paper.Single.{fitsSingle, Exactly}
 use Rattle.numbers.specs.declared.panel.Value.{Value}
 use Rattle.numbers.specs.declared.panel.Value.the-variants.{Single, Double}
 
--- the raw number, cast to a single float where it fits, and to a double otherwise
+-- the raw number, cast to a single float if it fits, and to a double otherwise
 abbrev pub panelOf : ℤ → Value
 panelOf z = cond (fitsSingle z) (Single (ofInt binary32 z)) (Double (ofInt binary64 z))
 

@@ -8,8 +8,8 @@ use native.Mathlib.Omega.{arith}
 use lib.Dec.{eqb, lit<}
 use lib.ListN.{length, take, drop}
 use lib.Seq.{take-append-seam, drop-append-seam}
-use Rattle.digits.specs.Paper.Refusals.{order, First, clear, here, after}
-use Rattle.digits.specs.declared.refusal.Refusal.the-variants.{Limits}
+use Rattle.digits.specs.Paper.Refusals.{refusalOrder, First, clear, here, after}
+use Rattle.digits.specs.declared.refusal.Refusal.the-variants.{OutOfLimits}
 use Rattle.digits.proofs.Laws.Refusals.{one-first, pass-over}
 use Rattle.puts.specs.Paper.Wrote as puts
 use Rattle.puts.specs.Paper.Wrote.{Wrote, RoomCause, Writes}
@@ -25,14 +25,14 @@ abbrev pub ours : ℕ → Bool
 ours k = eqb k 5 || eqb k 4
 
 module _ {Cause : ℕ → Type 0} (only : (k : ℕ) → ours k ≡ false → Cause k → ⊥) where
-  pub first-5 : Cause 5 → First Cause order 5
-  first-5 c = pass-over ours only order (here c)
+  pub first-5 : Cause 5 → First Cause refusalOrder 5
+  first-5 c = pass-over ours only refusalOrder (here c)
 
-  pub first-4 : (Cause 5 → ⊥) → Cause 4 → First Cause order 4
-  first-4 n5 c = pass-over ours only order (after n5 (here c))
+  pub first-4 : (Cause 5 → ⊥) → Cause 4 → First Cause refusalOrder 4
+  first-4 n5 c = pass-over ours only refusalOrder (after n5 (here c))
 
-  pub no-cause : (Cause 5 → ⊥) → (Cause 4 → ⊥) → First Cause order 0
-  no-cause n5 n4 = pass-over ours only order (after n5 (after n4 clear))
+  pub no-cause : (Cause 5 → ⊥) → (Cause 4 → ⊥) → First Cause refusalOrder 0
+  no-cause n5 n4 = pass-over ours only refusalOrder (after n5 (after n4 clear))
 
 -- ---- one outcome
 
@@ -52,7 +52,7 @@ module _ {Cause : ℕ → Type 0} {Right : List ℕ → Type 0} {room : List ℕ
 
 module _ {Cause : ℕ → Type 0} {Right : List ℕ → Type 0} {room : List ℕ} where
   -- the first cause that applies is the answer's
-  pub first-of : {number n : ℕ} {later : List ℕ} → WroteRight Cause Right room number n later → First Cause order number
+  pub first-of : {number n : ℕ} {later : List ℕ} → WroteRight Cause Right room number n later → First Cause refusalOrder number
   first-of (wrote f x) = f
   first-of (refused p f) = f
 
@@ -75,16 +75,16 @@ module _ {Cause : ℕ → Type 0} {Right : List ℕ → Type 0} {room : List ℕ
   as-right x (puts.refused p f) = refused p f
 
   -- the same for other causes, of which the first is the same, and where what was right still is
-  pub recast : {Other : ℕ → Type 0} {Still : List ℕ → Type 0} {later : List ℕ} {k n : ℕ} → ((no : ℕ) → First Cause order no → First Other order no)
+  pub recast : {Other : ℕ → Type 0} {Still : List ℕ → Type 0} {later : List ℕ} {k n : ℕ} → ((no : ℕ) → First Cause refusalOrder no → First Other refusalOrder no)
       → ((bs : List ℕ) → Right bs → Still bs) → WroteRight Cause Right room k n later → WroteRight Other Still room k n later
   recast first still (wrote {bs = bs} f x) = wrote (first 0 f) (still bs x)
   recast first still (refused {no = k} p f) = refused p (first k f)
 
   -- a call that has passed its own tests, and then writes all of what is right or nothing
-  pub fronted-right : {bs later : List ℕ} (r : Written) → Right bs → (length bs ≤ length room → First Cause order 0)
-      → (length room < length bs → First Cause order 4) → Writes (RoomCause (length room) (length bs)) bs room r later → WritesRight Cause Right room r later
+  pub fronted-right : {bs later : List ℕ} (r : Written) → Right bs → (length bs ≤ length room → First Cause refusalOrder 0)
+      → (length room < length bs → First Cause refusalOrder 4) → Writes (RoomCause (length room) (length bs)) bs room r later → WritesRight Cause Right room r later
   fronted-right r x enough less w = as-right x (after-tests enough less w)
 
   -- and one that has not
-  pub refused-5 : First Cause order 5 → WritesRight Cause Right room (Refused Limits) room
+  pub refused-5 : First Cause refusalOrder 5 → WritesRight Cause Right room (Refused OutOfLimits) room
   refused-5 f = refused (lit< tt) f

@@ -10,7 +10,7 @@ use lib.Seq.{sets, take-suc}
 use Rattle.digits.specs.Paper.Hex.{hexByte, hexBytes}
 use Rattle.digits.proofs.Laws.Hex.{length-hex, hex-append}
 use Rattle.digits.proofs.Laws.Parts.{next}
-use Rattle.puts.specs.Paper.Put.{Put, last}
+use Rattle.puts.specs.Paper.Put.{Put, largestPlace}
 use Rattle.puts.proofs.Laws.Puts.{_then_, puts-as}
 
 -- what is spelt of bytes with one more behind them
@@ -21,8 +21,8 @@ hex-last s b = hex-append s (b ∷ [])
 -- a loop's turn over the bytes of s, each of which is spelt by f and all of them by g
 pub turn : {r t u : List ℕ} {a b c : ℕ} (f : ℕ → List ℕ) (g : List ℕ → List ℕ) → ((s : List ℕ) (b : ℕ) → g (s ++ (b ∷ [])) ≡ g s ++ f b)
     → (s : List ℕ) (i : ℕ) → i < length s → Put r t a b (g (take i s)) → Put t u b c (f (getD s i 0)) → Put r u a c (g (take (i + 1) s))
-turn f g last s i h p q =
-    puts-as (sym (ap (λ (j : ℕ). g (take j s)) (add-one i) ∙ ap g (take-suc s i 0 h) ∙ last (take i s) (getD s i 0))) (p then q)
+turn f g largestPlace s i h p q =
+    puts-as (sym (ap (λ (j : ℕ). g (take j s)) (add-one i) ∙ ap g (take-suc s i 0 h) ∙ largestPlace (take i s) (getD s i 0))) (p then q)
 
 -- a loop's turn that stores the two digits of a byte of s, where what is left makes the whole
 pub two-stored : (s room two : List ℕ) (a i : ℕ) {whole : List ℕ} → i < length s → two ≡ hexByte (getD s i 0) → sets room (a + 2 * i) (hexBytes (drop i s)) ≡ whole
@@ -41,5 +41,5 @@ two-stored s room two a i h e w =
     ∙ w
 
 -- the digits of bytes, in a room that has a place for them
-pub put-hex : (r s : List ℕ) (a : ℕ) → length r ≤ last → a + 2 * length s ≤ length r → Put r (sets r a (hexBytes s)) a (a + 2 * length s) (hexBytes s)
-put-hex r s a l h = record { slice = l; holds = refl; behind = omega (arith, length-hex s) }
+pub put-hex : (r s : List ℕ) (a : ℕ) → length r ≤ largestPlace → a + 2 * length s ≤ length r → Put r (sets r a (hexBytes s)) a (a + 2 * length s) (hexBytes s)
+put-hex r s a l h = record { slice = l; room-is = refl; behind = omega (arith, length-hex s) }

@@ -9,8 +9,8 @@ use lib.Dec.{leb, eqb, lit<}
 use lib.ListN.{length}
 use borrow.Author.Tests.{leb-true, leb-false}
 use Rattle.digits.specs.Paper.Bytes.{part}
-use Rattle.digits.specs.Paper.Refusals.{order, First, clear, here, after}
-use Rattle.digits.specs.declared.refusal.Refusal.the-variants.{Room}
+use Rattle.digits.specs.Paper.Refusals.{refusalOrder, First, clear, here, after}
+use Rattle.digits.specs.declared.refusal.Refusal.the-variants.{NoRoom}
 use Rattle.digits.proofs.Laws.Parts.{part-all}
 use Rattle.digits.proofs.Laws.Refusals.{one-first, pass-over}
 use Rattle.puts.specs.Paper.Put.{Put}
@@ -26,7 +26,7 @@ module _ {Cause : ℕ → Type 0} {bs room : List ℕ} where
   one-outcome (refused p f) (refused q g) = (one-first f g, refl, refl)
 
   -- a writer's bytes from the front of a room that has room for them
-  pub wrote-by : {later : List ℕ} {n : ℕ} → First Cause order 0 → Put room later 0 n bs → length bs ≤ length room → Wrote Cause bs room 0 n later
+  pub wrote-by : {later : List ℕ} {n : ℕ} → First Cause refusalOrder 0 → Put room later 0 n bs → length bs ≤ length room → Wrote Cause bs room 0 n later
   wrote-by {later} {n} f p l = rw (front-count p l, front-room p l) (wrote f)
 
 -- ---- all or none
@@ -34,11 +34,11 @@ module _ {Cause : ℕ → Type 0} {bs room : List ℕ} where
 only-4 : {r b : ℕ} (k : ℕ) → eqb k 4 ≡ false → RoomCause r b k → ⊥
 only-4 k e (short h) = true≢false e
 
-pub too-short : {r b : ℕ} → r < b → First (RoomCause r b) order 4
-too-short h = pass-over (λ k. eqb k 4) only-4 order (here (short h))
+pub too-short : {r b : ℕ} → r < b → First (RoomCause r b) refusalOrder 4
+too-short h = pass-over (λ k. eqb k 4) only-4 refusalOrder (here (short h))
 
-pub room-for : {r b : ℕ} → b ≤ r → First (RoomCause r b) order 0
-room-for {r} {b} h = pass-over (λ k. eqb k 4) only-4 order (after none clear)
+pub room-for : {r b : ℕ} → b ≤ r → First (RoomCause r b) refusalOrder 0
+room-for {r} {b} h = pass-over (λ k. eqb k 4) only-4 refusalOrder (after none clear)
   where
     none : RoomCause r b 4 → ⊥
     none (short k) = omega arith
@@ -65,11 +65,11 @@ module _ (s room : List ℕ) {n : ℕ} (e : n ≡ cond (leb (length s) (length r
         subst (λ (m : ℕ). Wrote (RoomCause (length room) (length s)) s room 0 m later) (front-count q g ∙ sym f) (wrote-by (room-for g) q g))
         (λ g f. absurd (omega arith))
 
-    pub none-written : n < length s → Writes (RoomCause (length room) (length s)) s room (Refused Room) later
+    pub none-written : n < length s → Writes (RoomCause (length room) (length s)) s room (Refused NoRoom) later
     none-written h =
         all-or-none (λ g f. absurd (omega arith))
         (λ g f.
-        let same : room ≡ later = sym (puts-as {vs = []} (ap (λ (m : ℕ). part 0 m s) f) p .holds) in
+        let same : room ≡ later = sym (puts-as {vs = []} (ap (λ (m : ℕ). part 0 m s) f) p .room-is) in
         subst (Wrote (RoomCause (length room) (length s)) s room 4 0) same (refused (lit< tt) (too-short g)))
 
 -- what the first cause says of the room
@@ -81,14 +81,14 @@ module _ {r b : ℕ} where
       go true e = f (leb-true b r e)
       go false e = g (leb-false b r e)
 
-  pub has-room : First (RoomCause r b) order 0 → b ≤ r
+  pub has-room : First (RoomCause r b) refusalOrder 0 → b ≤ r
   has-room a = by-size (λ h. h) (λ h. let e = one-first a (too-short h) in absurd (omega arith))
 
-  has-none : {no : ℕ} → 0 < no → First (RoomCause r b) order no → (4 ≡ no) × (r < b)
+  has-none : {no : ℕ} → 0 < no → First (RoomCause r b) refusalOrder no → (4 ≡ no) × (r < b)
   has-none p a = by-size (λ h. let e = one-first a (room-for h) in absurd (omega arith)) (λ h. (one-first (too-short h) a, h))
 
 -- a call that has passed its own tests, and then writes all or nothing
-pub after-tests : {Cause : ℕ → Type 0} {bs room later : List ℕ} {k n : ℕ} → (length bs ≤ length room → First Cause order 0) → (length room < length bs → First Cause order 4)
+pub after-tests : {Cause : ℕ → Type 0} {bs room later : List ℕ} {k n : ℕ} → (length bs ≤ length room → First Cause refusalOrder 0) → (length room < length bs → First Cause refusalOrder 4)
     → Wrote (RoomCause (length room) (length bs)) bs room k n later → Wrote Cause bs room k n later
 after-tests f g (wrote a) = wrote (f (has-room a))
 after-tests {Cause} {bs} {room} f g (refused p a) =

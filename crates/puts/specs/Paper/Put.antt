@@ -1,4 +1,5 @@
--- What a writer does: it puts bytes at a place of the room, as far as the room goes, and answers the place behind them.
+-- What a writer does: it puts bytes at a place of a lent room, as far as the room goes, and answers the place behind
+-- them. What would stand behind the room's end is left out, and is counted all the same.
 -- Assumes nothing.
 use mathlib.Core.Path.{_≡_}
 use Prim.Native.Nat.{ℕ, _+_, _≤_, min}
@@ -7,12 +8,14 @@ use lib.ListN.{length}
 use lib.Seq.{sets}
 
 -- the largest place that there is: a `usize` holds no larger number
-abbrev pub last : ℕ
-last = 18446744073709551615
+abbrev pub largestPlace : ℕ
+largestPlace = 18446744073709551615
 
--- `sets room at bs` is the room with the bytes bs from the place `at` on; what would stand behind its end is left
--- out. A place behind the largest is the largest. (A room is a slice, so its length is a `usize`'s.)
+-- bs is put at the place `at` of the room, which is `later` afterwards, and the answer is `next`
 pub record Put (room later : List ℕ) (at next : ℕ) (bs : List ℕ) : Type 0 where
-  pub slice : length room ≤ last
-  pub holds : later ≡ sets room at bs
-  pub behind : next ≡ min (at + length bs) last
+  -- a room is a slice, so a `usize` holds its length
+  pub slice : length room ≤ largestPlace
+  -- `sets room at bs` is the room with the bytes bs from the place `at` on, as far as the room goes
+  pub room-is : later ≡ sets room at bs
+  -- the place behind bs; if no `usize` holds it, the largest place
+  pub behind : next ≡ min (at + length bs) largestPlace

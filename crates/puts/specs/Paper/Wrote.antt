@@ -4,16 +4,16 @@
 use Prim.Native.Nat.{ℕ, _<_}
 use mathlib.Core.List.{List, _++_}
 use lib.ListN.{length, drop}
-use Rattle.digits.specs.Paper.Refusals.{refusalNumber, order, First}
+use Rattle.digits.specs.Paper.Refusals.{refusalNumber, refusalOrder, First}
 use Rattle.puts.specs.declared.Written.{Written}
 use Rattle.puts.specs.declared.Written.the-variants.{Bytes, Refused}
 
--- The right outcome of a call that writes bs from the front of a lent room, as a refusal number, a count of bytes and
--- the room afterwards: where no cause applies, 0, the bytes' count, and the bytes with the rest of the room behind
--- them; else the number of the first cause that does, 0, and the room as it was.
+-- The right outcome of a call that writes bs from the front of a lent room: a refusal number, a count of bytes, and
+-- the room afterwards. If no cause applies: 0, the count of bs, and bs with the rest of the room behind it.
+-- Otherwise: the number of the first cause that applies, 0, and the room as it was.
 pub data Wrote (Cause : ℕ → Type 0) (bs room : List ℕ) : ℕ → ℕ → List ℕ → Type 0 where
-  wrote : First Cause order 0 → Wrote Cause bs room 0 (length bs) (bs ++ drop (length bs) room)
-  refused : {no : ℕ} → 0 < no → First Cause order no → Wrote Cause bs room no 0 room
+  wrote : First Cause refusalOrder 0 → Wrote Cause bs room 0 (length bs) (bs ++ drop (length bs) room)
+  refused : {no : ℕ} → 0 < no → First Cause refusalOrder no → Wrote Cause bs room no 0 room
 
 -- what a writer answers, as a refusal number and a count
 abbrev pub writtenRefusal : Written → ℕ

@@ -1,4 +1,4 @@
--- How long the bytes are that are right, and whether a room has room for them.
+-- How long the right bytes are, and whether a room has room for them.
 -- Assumes nothing.
 use mathlib.Core.Bool.{Bool}
 use mathlib.Core.List.{List}
@@ -7,13 +7,13 @@ use Prim.Native.Nat.{ℕ}
 use lib.Dec.{leb}
 use lib.ListN.{length}
 
--- bytes of which `Right` holds are n
+-- the bytes of which `Right` holds are n bytes
 pub record SizedRight (Right : List ℕ → Type 0) (n : ℕ) : Type 0 where
   pub text : List ℕ
   pub right : Right text
   pub size : n ≡ length text
 
--- r tells whether a room of n bytes has room for them
+-- r is whether a room of n bytes has room for them
 pub record FitsRight (Right : List ℕ → Type 0) (n : ℕ) (r : Bool) : Type 0 where
   pub text : List ℕ
   pub right : Right text

@@ -1,4 +1,4 @@
-//! Arguments of requests: numbers at the limits of their types and of the paper's rules, kinds, places, texts.
+//! Arguments of requests: numbers at the limits of their types and of document 01's rules, kinds, places, texts.
 
 use crate::frames;
 use crate::random::Random;
@@ -11,7 +11,7 @@ pub fn hex(bytes: &[u8]) -> String {
     String::from_utf8(frames::digits_of(bytes)).unwrap()
 }
 
-/// A number of so many bits: near 0, near the largest, or any.
+/// A number of this many bits: near 0, near the largest, or any.
 pub fn unsigned(bits: u32, random: &mut Random) -> u64 {
     let largest = u64::MAX >> (64 - bits);
     match random.below(4) {
@@ -43,7 +43,7 @@ pub fn kind(right: u8, random: &mut Random) -> String {
     kind.to_string()
 }
 
-/// A place in so many bytes: at the front, inside, at the end, beyond it, or near 2^64.
+/// A place in this many bytes: at the front, inside, at the end, beyond it, or near 2^64.
 pub fn place(length: usize, random: &mut Random) -> String {
     let end = length as u64;
     let place = match random.below(10) {
@@ -57,7 +57,7 @@ pub fn place(length: usize, random: &mut Random) -> String {
     place.to_string()
 }
 
-/// The number of an entry of so many, or of none.
+/// The number of one of this many entries, or of none.
 pub fn entry(count: usize, random: &mut Random) -> String {
     let number = match random.below(8) {
         0 => count as u64,

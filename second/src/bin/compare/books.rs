@@ -92,7 +92,7 @@ pub fn many(count: usize) -> Vec<Entry> {
         .collect()
 }
 
-/// Entries whose book has just so many bytes, which are at least 2,100.
+/// Entries whose book has just this many bytes, which are at least 2,100.
 pub fn of_size(bytes: usize, random: &mut Random) -> Vec<Entry> {
     let mut sizes = Vec::new();
     let mut rest = bytes - ENDING;
@@ -104,7 +104,7 @@ pub fn of_size(bytes: usize, random: &mut Random) -> Vec<Entry> {
     sizes.iter().map(|size| nest_entry(*size, random)).collect()
 }
 
-/// An entry that takes so many bytes of its book.
+/// An entry that takes this many bytes of its book.
 fn nest_entry(size: usize, random: &mut Random) -> Entry {
     let frame = frames::nest(
         2,

@@ -12,7 +12,7 @@ const LONGEST_ROOM: usize = 2_097_202;
 /// How many requests of the tests that are of no function.
 const UNKNOWN: usize = 60;
 const LONGEST: usize = 40;
-/// How many times as many requests are made where a rare sort of answer is looked for.
+/// How many times as many requests are made if a rare sort of answer is looked for.
 const MORE: usize = 50;
 
 pub fn compare(sides: &Sides, seed: u64, count: usize) -> Totals {
@@ -56,7 +56,7 @@ fn test(function: &Function, seed: u64, count: usize) -> Test {
     })
 }
 
-/// A test of so many requests, and of more where a sort of answer is not among those that the second decoder gives.
+/// A test of this many requests, and of more if a sort of answer is not among those that the second decoder gives.
 fn of_requests(
     name: &str,
     seed: u64,
@@ -163,7 +163,7 @@ fn generous(words: &[String]) -> usize {
     (40 * bytes + 400).min(LONGEST_ROOM)
 }
 
-/// How many bytes a request writes: the last number before the room of its answer; none where it is refused.
+/// How many bytes a request writes: the last number before the room of its answer; none if it is refused.
 fn written(words: &[String]) -> Option<usize> {
     let answer = String::from_utf8(sides::second_answer(words.join(" ").as_bytes())).ok()?;
     let (values, _) = answer.strip_prefix("ok ")?.split_once(" room ")?;
@@ -185,7 +185,7 @@ fn room_for(length: Option<usize>, random: &mut Random) -> usize {
     room.min(LONGEST_ROOM)
 }
 
-/// A room, and where in it so many bytes are put: at its front, up to its end, over it, behind it, and near 2^64.
+/// A room, and where in it this many bytes are put: at its front, up to its end, over it, behind it, and near 2^64.
 fn room_and_place(length: usize, random: &mut Random) -> (usize, u64) {
     let before = random.below(10);
     let (room, at) = match random.below(9) {

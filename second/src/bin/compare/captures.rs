@@ -169,7 +169,7 @@ fn among_good_frames(kind: u8, piece: Piece, most: usize, random: &mut Random) -
     capture
 }
 
-/// Just so many bytes: good frames, anything, or one sort of stretch. The last one is cut off, or padded.
+/// Just this many bytes: good frames, anything, or one sort of stretch. The last one is cut off, or padded.
 pub fn filled(kind: u8, length: usize, random: &mut Random) -> Vec<u8> {
     let piece = random.pick(&[
         contents::frame as Piece,

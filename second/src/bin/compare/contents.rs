@@ -173,7 +173,7 @@ pub fn nibe_data(command: u8, random: &mut Random) -> Vec<u8> {
     }
 }
 
-/// A value of so many bytes, often one that a single float just holds or just does not.
+/// A value of this many bytes, often one that a single float just holds or just does not.
 pub fn value_bytes(width: usize, random: &mut Random) -> Vec<u8> {
     if width < 4 || random.one_in(2) {
         return random.bytes(width);

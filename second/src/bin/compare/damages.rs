@@ -46,7 +46,7 @@ pub fn false_start(kind: u8, random: &mut Random) -> Vec<u8> {
     bytes
 }
 
-/// A frame's first bytes, which claim so many that follow, or a few more, or other lengths.
+/// A frame's first bytes, which claim as many bytes as follow, or a few more, or other lengths.
 fn head(kind: u8, follow: usize, random: &mut Random) -> Vec<u8> {
     let claimed = follow + random.below(8);
     match kind {
@@ -87,7 +87,7 @@ fn some_of(mut bytes: Vec<u8>, random: &mut Random) -> Vec<u8> {
     bytes
 }
 
-/// A frame of the kind around the good one, with a right or a wrong check; where a kind's payload holds no frame, a start before it.
+/// A frame of the kind around the good one, with a right or a wrong check; if a kind's payload holds no frame, a start before it.
 fn around(kind: u8, good: &[u8], random: &mut Random) -> Vec<u8> {
     let payload = [random.bytes(2), good.to_vec(), random.bytes(1)].concat();
     let mut frame = match kind {

@@ -44,7 +44,7 @@ impl Reducer<'_> {
             .position(|answers| answers.differ())
     }
 
-    /// Bytes with as many units (of so many bytes) dropped as can be, `whole` being the case that they are a part of.
+    /// Bytes with as many units (of `unit` bytes) dropped as can be, `whole` being the case that they are a part of.
     fn dropped(&mut self, bytes: &[u8], unit: usize, whole: &dyn Fn(&[u8]) -> Vec<u8>) -> Vec<u8> {
         let mut kept = bytes.to_vec();
         let mut size = unit * (kept.len() / unit).max(1).next_power_of_two();

@@ -62,7 +62,7 @@ fn with_id(kind: u8, id: u16, random: &mut Random) -> Vec<u8> {
     bytes
 }
 
-/// Frames of every command with so much data; where it is a byte, also what it is for `done`.
+/// Frames of every command with this much data; if it is a byte, also what it is for `done`.
 fn commanded(length: usize, random: &mut Random) -> Vec<u8> {
     let mut bytes: Vec<u8> = COMMANDS
         .iter()

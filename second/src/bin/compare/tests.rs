@@ -24,10 +24,10 @@ pub struct Test {
 
 pub type Counts = BTreeMap<String, usize>;
 
-/// Counts whose names begin so are told for all tests together, and not for each.
+/// Counts whose names begin so are printed for all tests together, and not for each.
 pub const DETAIL: char = '`';
 
-/// An answer is counted under this name where it is of a sort that should not come.
+/// An answer is counted under this name if it is of a sort that should not come.
 pub const UNLISTED: &str = "NOT LISTED";
 
 #[derive(Default)]

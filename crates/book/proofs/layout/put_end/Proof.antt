@@ -2,7 +2,7 @@
 -- Assumes nothing.
 use mathlib.Core.List.{List, _++_}
 use mathlib.Core.Path.{ap, ap₂, _∙_}
-use Rattle.digits.specs.Paper.LowFirst.{lowFirst}
+use Rattle.digits.specs.Paper.LowFirst.{lowByteFirst}
 use Rattle.puts.proofs.Laws.Puts.{_then_, puts-as}
 use Prim.Native.Nat.{ℕ}
 use borrow.Author.Needs.{needs}
@@ -46,7 +46,7 @@ returns c =
     let f = c2 .before .before .before in
     let t = f .before in
     let o = t .before in
-    puts-as (ap₂ (λ (x y : List ℕ). x ++ y) (o .two .ensures) (f .four .ensures ∙ ap (lowFirst 4) (t .trailer-size .ensures)))
+    puts-as (ap₂ (λ (x y : List ℕ). x ++ y) (o .two .ensures) (f .four .ensures ∙ ap (lowByteFirst 4) (t .trailer-size .ensures)))
     (c2 .bytes .ensures then c1 .bytes2 .ensures)
 
 pub put-end-spec : {M : Type 1} → statement M

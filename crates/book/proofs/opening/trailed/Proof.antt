@@ -7,8 +7,8 @@ use native.Mathlib.Omega.{arith}
 use denote.Ref.{now}
 use lib.ListN.{length}
 use Rattle.digits.specs.Paper.Bytes.{part}
-use Rattle.digits.specs.Paper.LowFirst.{lowFirst}
-use Rattle.digits.specs.Paper.Read.{Tells, fails}
+use Rattle.digits.specs.Paper.LowFirst.{lowByteFirst}
+use Rattle.digits.specs.Paper.Read.{Decides, fails}
 use Rattle.book.proofs.Laws.Opening.{the-count, trailed-is}
 use borrow.Author.Needs.{needs}
 use Rattle.book.proofs.opening.trailed.Statement.{statement}
@@ -68,8 +68,8 @@ returns-5 c =
     let small = c .before .before .before .before .before .before .before .before .if2 .left in
     let few = c .before .before .before .before .before .before .if3 .left in
     let room : 4 * n .result + 6 ≤ length s = omega (arith, size .ensures, c .before .before .before .before .if4 .left) in
-    let back = c .before .before .before .four .ensures ∙ ap (lowFirst 4) (size .ensures) in
-    trailed-is small few room (n .ensures .1) (subst (λ (t : List ℕ). Tells (part (length s - 4) (length s) s ≡ t) (c .same .result)) back (c .same .ensures))
+    let back = c .before .before .before .four .ensures ∙ ap (lowByteFirst 4) (size .ensures) in
+    trailed-is small few room (n .ensures .1) (subst (λ (t : List ℕ). Decides (part (length s - 4) (length s) s ≡ t) (c .same .result)) back (c .same .ensures))
 
 pub trailed-spec : {M : Type 1} → statement M
 trailed-spec =

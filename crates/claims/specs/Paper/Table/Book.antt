@@ -7,9 +7,9 @@ use denote.Ref.{RefT, now}
 use lib.ListN.{length}
 use Rattle.puts.specs.declared.Written.{Written}
 use Rattle.book.specs.Paper.Answers.{AddCause, Adds, BookLines, Counts, EntryCause, EntryLine, EntryLineCause}
-use Rattle.book.specs.Paper.Answers.{EntryOf, ListCause, OpenCause, Told, keptNumber, keptTold, openedCount}
-use Rattle.book.specs.Paper.Answers.{openedNumber, toldEnds, zeroTold}
-use Rattle.book.specs.declared.Kept.{Kept}
+use Rattle.book.specs.Paper.Answers.{EntryOf, ListCause, OpenCause, Location, locatedRefusal, locatedValue, openedCount}
+use Rattle.book.specs.Paper.Answers.{openedRefusal, locationEnds, zeroLocation}
+use Rattle.book.specs.declared.Located.{Located}
 use Rattle.book.specs.declared.Opened.{Opened}
 use Rattle.claims.specs.Paper.Claim.{fronts, Claim, refuses, hands}
 
@@ -24,7 +24,13 @@ opening =
       Args = OpeningArgs;
       refusals = 8 ∷ [];
       Cause = λ a. OpenCause (a .book);
-      form = refuses openedNumber openedCount 0 (λ a. Counts (a .book));
+      form = refuses
+          (record {
+            refusal = openedRefusal;
+            value = openedCount;
+            zeros = 0;
+            Right = λ a. Counts (a .book);
+          });
     }
 
 -- The entry of a number, counted from 0.
@@ -32,14 +38,20 @@ pub record EntryArgs : Type 0 where
   pub book : List ℕ
   pub number : ℕ
 
-abbrev pub entry : Claim Kept
+abbrev pub entry : Claim Located
 entry =
     record {
       name = "book::entry";
       Args = EntryArgs;
       refusals = 8 ∷ 3 ∷ [];
       Cause = λ a. EntryCause (a .book) (a .number);
-      form = refuses keptNumber keptTold zeroTold (λ a. EntryOf (a .book) (a .number));
+      form = refuses
+          (record {
+            refusal = locatedRefusal;
+            value = locatedValue;
+            zeros = zeroLocation;
+            Right = λ a. EntryOf (a .book) (a .number);
+          });
     }
 
 -- That entry's frame, as a part of the book; empty for a refusal.
@@ -55,7 +67,7 @@ frame =
       refusals = 8 ∷ 3 ∷ [];
       Cause = λ a. EntryCause (now (a .book)) (a .number);
       form = hands (λ a. a .book)
-          (λ a e. (v : Told) × (EntryOf (now (a .book)) (a .number) v) × (e ≡ toldEnds v));
+          (λ a e. (v : Location) × (EntryOf (now (a .book)) (a .number) v) × (e ≡ locationEnds v));
     }
 
 -- Writes that entry's line from the front of the room, `at` being the entry's offset.

@@ -5,15 +5,15 @@ use mathlib.Core.Bool.{Bool}
 use mathlib.Core.Path.{_≡_}
 use Prim.Native.Nat.{ℕ, _<_, _^_, _%_}
 use lib.ListN.{length}
-use Rattle.digits.specs.Paper.Answers.{AtEnd, byteRefusal, byteValue, numberRefusal, numberValue, wholeRefusal}
-use Rattle.digits.specs.Paper.Answers.{wholeValue, wordRefusal, wordValue}
+use Rattle.digits.specs.Paper.Answers.{AtEnd, byteRefusal, byteValue, numberRefusal, numberValue, naturalRefusal}
+use Rattle.digits.specs.Paper.Answers.{naturalValue, wordRefusal, wordValue}
 use Rattle.digits.specs.Paper.Decimal.{decimal}
 use Rattle.digits.specs.Paper.Hex.{hexByte, hexDigit, hexWord}
-use Rattle.digits.specs.Paper.LowFirst.{Held, lowFirst}
-use Rattle.digits.specs.Paper.Read.{Tells}
+use Rattle.digits.specs.Paper.LowFirst.{Held, lowByteFirst}
+use Rattle.digits.specs.Paper.Read.{Decides}
 use Rattle.digits.specs.Paper.Refusals.{refusalNumber}
 use Rattle.digits.specs.declared.decimal.Decimal.{Decimal}
-use Rattle.digits.specs.declared.decimal.Whole.{Whole}
+use Rattle.digits.specs.declared.decimal.Natural.{Natural}
 use Rattle.digits.specs.declared.hex.Byte.{Byte}
 use Rattle.digits.specs.declared.hex.Word.{Word}
 use Rattle.digits.specs.declared.low_first.Number.{Number}
@@ -33,10 +33,18 @@ decimal-digits =
 pub record DecimalNumberOfArgs : Type 0 where
   pub s : List ℕ
 
-abbrev pub decimal-number-of : Claim Whole
+abbrev pub decimal-number-of : Claim Natural
 decimal-number-of =
-    reading {Args = DecimalNumberOfArgs} "digits::decimal::number_of" 7 wholeRefusal wholeValue 0
-    (λ a n. n < 2 ^ 32) (λ a. decimal) (λ a. a .s)
+    reading {Args = DecimalNumberOfArgs} "digits::decimal::number_of"
+    (record {
+      refuses-with = 7;
+      refusal = naturalRefusal;
+      value = naturalValue;
+      zeros = 0;
+      Limits = λ a n. n < 2 ^ 32;
+      write = λ a. decimal;
+      text = λ a. a .s;
+    })
 
 -- The digit of the low four bits of v.
 pub record HexDigitArgs : Type 0 where
@@ -52,8 +60,16 @@ pub record HexValueArgs : Type 0 where
 
 abbrev pub hex-value : Claim Byte
 hex-value =
-    reading {Args = HexValueArgs} "digits::hex::value" 5 byteRefusal byteValue 0 (λ a v. v < 16)
-    (λ a v. hexDigit v ∷ []) (λ a. a .c ∷ [])
+    reading {Args = HexValueArgs} "digits::hex::value"
+    (record {
+      refuses-with = 5;
+      refusal = byteRefusal;
+      value = byteValue;
+      zeros = 0;
+      Limits = λ a v. v < 16;
+      write = λ a v. hexDigit v ∷ [];
+      text = λ a. a .c ∷ [];
+    })
 
 -- A byte as two digits, the high one first.
 pub record HexTwoDigitsArgs : Type 0 where
@@ -70,8 +86,16 @@ pub record HexByteOfArgs : Type 0 where
 
 abbrev pub hex-byte-of : Claim Byte
 hex-byte-of =
-    reading {Args = HexByteOfArgs} "digits::hex::byte_of" 5 byteRefusal byteValue 0 (λ a v. v < 256) (λ a. hexByte)
-    (λ a. a .high ∷ a .low ∷ [])
+    reading {Args = HexByteOfArgs} "digits::hex::byte_of"
+    (record {
+      refuses-with = 5;
+      refusal = byteRefusal;
+      value = byteValue;
+      zeros = 0;
+      Limits = λ a v. v < 256;
+      write = λ a. hexByte;
+      text = λ a. a .high ∷ a .low ∷ [];
+    })
 
 -- A number of 16 bits as four digits.
 pub record HexFourDigitsArgs : Type 0 where
@@ -87,8 +111,16 @@ pub record HexWordOfArgs : Type 0 where
 
 abbrev pub hex-word-of : Claim Word
 hex-word-of =
-    reading {Args = HexWordOfArgs} "digits::hex::word_of" 5 wordRefusal wordValue 0 (λ a v. v < 65536)
-    (λ a. hexWord) (λ a. a .d)
+    reading {Args = HexWordOfArgs} "digits::hex::word_of"
+    (record {
+      refuses-with = 5;
+      refusal = wordRefusal;
+      value = wordValue;
+      zeros = 0;
+      Limits = λ a v. v < 65536;
+      write = λ a. hexWord;
+      text = λ a. a .d;
+    })
 
 --
 pub record LowFirstOneArgs : Type 0 where
@@ -96,7 +128,7 @@ pub record LowFirstOneArgs : Type 0 where
 
 abbrev pub low-first-one : Claim (List ℕ)
 low-first-one =
-    answering {Args = LowFirstOneArgs} "digits::low_first::one" (λ a r. r ≡ lowFirst 1 (a .n))
+    answering {Args = LowFirstOneArgs} "digits::low_first::one" (λ a r. r ≡ lowByteFirst 1 (a .n))
 
 --
 pub record LowFirstTwoArgs : Type 0 where
@@ -104,7 +136,7 @@ pub record LowFirstTwoArgs : Type 0 where
 
 abbrev pub low-first-two : Claim (List ℕ)
 low-first-two =
-    answering {Args = LowFirstTwoArgs} "digits::low_first::two" (λ a r. r ≡ lowFirst 2 (a .n))
+    answering {Args = LowFirstTwoArgs} "digits::low_first::two" (λ a r. r ≡ lowByteFirst 2 (a .n))
 
 --
 pub record LowFirstFourArgs : Type 0 where
@@ -112,7 +144,7 @@ pub record LowFirstFourArgs : Type 0 where
 
 abbrev pub low-first-four : Claim (List ℕ)
 low-first-four =
-    answering {Args = LowFirstFourArgs} "digits::low_first::four" (λ a r. r ≡ lowFirst 4 (a .n))
+    answering {Args = LowFirstFourArgs} "digits::low_first::four" (λ a r. r ≡ lowByteFirst 4 (a .n))
 
 -- The number that the bytes of s are.
 pub record LowFirstNumberOfArgs : Type 0 where
@@ -120,10 +152,18 @@ pub record LowFirstNumberOfArgs : Type 0 where
 
 abbrev pub low-first-number-of : Claim Number
 low-first-number-of =
-    reading {Args = LowFirstNumberOfArgs} "digits::low_first::number_of" 7 numberRefusal numberValue 0
-    (λ a. Held (length (a .s))) (λ a. lowFirst (length (a .s))) (λ a. a .s)
+    reading {Args = LowFirstNumberOfArgs} "digits::low_first::number_of"
+    (record {
+      refuses-with = 7;
+      refusal = numberRefusal;
+      value = numberValue;
+      zeros = 0;
+      Limits = λ a. Held (length (a .s));
+      write = λ a. lowByteFirst (length (a .s));
+      text = λ a. a .s;
+    })
 
--- The paper's number.
+-- The number that document 01 gives a refusal.
 pub record RefusalNumberArgs : Type 0 where
   pub why : Refusal
 
@@ -138,4 +178,4 @@ pub record SlicesSameArgs : Type 0 where
 
 abbrev pub slices-same : Claim Bool
 slices-same =
-    answering {Args = SlicesSameArgs} "digits::slices::same" (λ a r. Tells (a .a ≡ a .b) r)
+    answering {Args = SlicesSameArgs} "digits::slices::same" (λ a r. Decides (a .a ≡ a .b) r)

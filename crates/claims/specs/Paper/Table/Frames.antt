@@ -7,12 +7,12 @@ use Prim.Native.Nat.{ℕ}
 use denote.Ref.{RefT, now}
 use Rattle.digits.specs.Paper.Part.{zeroEnds}
 use Rattle.frames.specs.Paper.Kinds as paper
-use Rattle.frames.specs.Paper.Kinds.{KindCause, numberOf, resolvedNumber, resolvedValue}
-use Rattle.frames.specs.Paper.Search.{Hit, Leftmost, SearchCause, foundHit, foundNumber, frameEnds, payloadEnds}
+use Rattle.frames.specs.Paper.Kinds.{KindCause, numberOf, resolvedRefusal, resolvedValue}
+use Rattle.frames.specs.Paper.Search.{Hit, Leftmost, SearchCause, foundHit, foundRefusal, frameEnds, payloadEnds}
 use Rattle.frames.specs.Paper.Search.{zeroHit}
-use Rattle.frames.specs.Paper.Whole.{OneFrame, WholeCause, wholeEnds, wholeNumber}
+use Rattle.frames.specs.Paper.OneFrame.{OneFrame, OneFrameCause, framePayloadEnds, framePayloadRefusal}
 use Rattle.frames.specs.declared.Found.{Found}
-use Rattle.frames.specs.declared.Whole.{Whole}
+use Rattle.frames.specs.declared.FramePayload.{FramePayload}
 use Rattle.frames.specs.declared.kinds.Kind.{Kind}
 use Rattle.frames.specs.declared.kinds.Resolved.{Resolved}
 use Rattle.claims.specs.Paper.Claim.{Claim, answering, refuses, hands}
@@ -30,7 +30,13 @@ search =
       Args = SearchArgs;
       refusals = 2 ∷ 3 ∷ 1 ∷ [];
       Cause = λ a. SearchCause (a .kind) (a .buffer) (a .place);
-      form = refuses foundNumber foundHit zeroHit (λ a. Leftmost (a .kind) (a .buffer) (a .place));
+      form = refuses
+          (record {
+            refusal = foundRefusal;
+            value = foundHit;
+            zeros = zeroHit;
+            Right = λ a. Leftmost (a .kind) (a .buffer) (a .place);
+          });
     }
 
 -- That frame, as a part of the buffer; empty for a refusal.
@@ -72,14 +78,20 @@ pub record OneFrameArgs : Type 0 where
   pub kind : ℕ
   pub s : List ℕ
 
-abbrev pub one-frame : Claim Whole
+abbrev pub one-frame : Claim FramePayload
 one-frame =
     record {
       name = "frames::one_frame";
       Args = OneFrameArgs;
       refusals = 2 ∷ 5 ∷ [];
-      Cause = λ a. WholeCause (a .kind) (a .s);
-      form = refuses wholeNumber wholeEnds zeroEnds (λ a. OneFrame (a .kind) (a .s));
+      Cause = λ a. OneFrameCause (a .kind) (a .s);
+      form = refuses
+          (record {
+            refusal = framePayloadRefusal;
+            value = framePayloadEnds;
+            zeros = zeroEnds;
+            Right = λ a. OneFrame (a .kind) (a .s);
+          });
     }
 
 -- The kind of a number.
@@ -93,7 +105,13 @@ kinds-of =
       Args = KindsOfArgs;
       refusals = 2 ∷ [];
       Cause = λ a. KindCause (a .number);
-      form = refuses resolvedNumber resolvedValue 0 (λ a v. v ≡ a .number);
+      form = refuses
+          (record {
+            refusal = resolvedRefusal;
+            value = resolvedValue;
+            zeros = 0;
+            Right = λ a v. v ≡ a .number;
+          });
     }
 
 -- The number of a kind.

@@ -15,10 +15,10 @@ use Rattle.numbers.specs.Paper.ByteValues.{valueBytes}
 use Rattle.numbers.specs.Paper.Single.{fitsSingle}
 use Rattle.numbers.specs.Paper.Text.{InLimits, text}
 use Rattle.frames.specs.Paper.Search.{Leftmost, SearchCause, zeroHit}
-use Rattle.frames.specs.Paper.Whole.{OneFrame, WholeCause}
+use Rattle.frames.specs.Paper.OneFrame.{OneFrame, OneFrameCause}
 use Rattle.commands.specs.Paper.Acknowledge.{AcknowledgeCause, AcknowledgementOf}
 use Rattle.lines.specs.Paper.Answers.{LineCause, LineOf, NextCause, NextLine, zeroPlaced}
-use Rattle.book.specs.Paper.Answers.{OpenCause, Counts, EntryCause, EntryOf, zeroTold, EntryLineCause, EntryLine}
+use Rattle.book.specs.Paper.Answers.{OpenCause, Counts, EntryCause, EntryOf, zeroLocation, EntryLineCause, EntryLine}
 use Rattle.book.specs.Paper.Answers.{ListCause, BookLines, AddCause, Adds}
 use Rattle.list.specs.Paper.Listing.{Listing}
 use Rattle.puts.specs.Paper.Wrote.{writtenRefusal, writtenCount}
@@ -26,7 +26,7 @@ use Rattle.puts.specs.declared.Written.{Written}
 use Rattle.host.specs.Paper.Answers.{hitIn, endsIn, numberIn, flag}
 use Rattle.host.specs.Paper.Kind.{KindByte}
 use Rattle.host_lines.specs.Paper.Answers.{placedIn}
-use Rattle.host_book.specs.Paper.Answers.{toldIn}
+use Rattle.host_book.specs.Paper.Answers.{locationIn}
 use Rattle.host.specs.Paper.Panel.{zeroShown, ShownOf, shownIn, zeroClimate, ClimateCause, ClimateOf, climateIn}
 use Rattle.host.specs.Paper.Version as host
 use Rattle.host.specs.declared.answers.Climate.{Climate}
@@ -47,14 +47,22 @@ use Rattle.claims.specs.Paper.Claim.{Form, Claim, answering, reading, re
 abbrev pub counts : {Args : Type 0} (room : Args → List ℕ) (Right : Args → List ℕ → Type 0)
     → Form Args Count
 counts room Right =
-    writes (λ (r : Count). r .refusal) (λ (r : Count). r .length) 0 room (λ a. Fronted (Right a) (room a))
+    writes
+    (record {
+      refusal = λ (r : Count). r .refusal;
+      value = λ (r : Count). r .length;
+      zeros = 0;
+      room = room;
+      Right = λ a. Fronted (Right a) (room a);
+    })
 
 -- A refusal's number, as an answer has it.
-pub record NumberedArgs : Type 0 where
+pub record RefusalNumberArgs : Type 0 where
   pub why : Refusal
 
-abbrev pub numbered : Claim ℕ
-numbered = answering {Args = NumberedArgs} "host::answers::numbered" (λ a r. r ≡ refusalNumber (a .why))
+abbrev pub refusal-number : Claim ℕ
+refusal-number =
+    answering {Args = RefusalNumberArgs} "host::answers::refusal_number" (λ a r. r ≡ refusalNumber (a .why))
 
 -- What was written, as an answer.
 pub record CountedArgs : Type 0 where
@@ -89,7 +97,13 @@ search =
       Args = SearchArgs;
       refusals = 2 ∷ 3 ∷ 1 ∷ [];
       Cause = λ a. SearchCause (a .kind) (a .buffer) (a .place);
-      form = refuses (λ (r : Found). r .refusal) hitIn zeroHit (λ a. Leftmost (a .kind) (a .buffer) (a .place));
+      form = refuses
+          (record {
+            refusal = λ (r : Found). r .refusal;
+            value = hitIn;
+            zeros = zeroHit;
+            Right = λ a. Leftmost (a .kind) (a .buffer) (a .place);
+          });
     }
 
 -- Whether bytes are one frame and no byte more.
@@ -103,8 +117,14 @@ one-frame =
       name = "host::frame_calls::bolsterweft_one_frame";
       Args = OneFrameArgs;
       refusals = 2 ∷ 5 ∷ [];
-      Cause = λ a. WholeCause (a .kind) (a .frame);
-      form = refuses (λ (r : Payload). r .refusal) endsIn zeroEnds (λ a. OneFrame (a .kind) (a .frame));
+      Cause = λ a. OneFrameCause (a .kind) (a .frame);
+      form = refuses
+          (record {
+            refusal = λ (r : Payload). r .refusal;
+            value = endsIn;
+            zeros = zeroEnds;
+            Right = λ a. OneFrame (a .kind) (a .frame);
+          });
     }
 
 -- Writes the text of a raw number from the front of the room.
@@ -129,10 +149,18 @@ pub record NumberOfArgs : Type 0 where
 
 abbrev pub number-of : Claim Reading
 number-of =
-    reading {Args = NumberOfArgs} "host::number_calls::bolsterweft_number" 7 (λ (r : Reading). r .refusal)
-    numberIn zeroNumber (λ a. InLimits) (λ a n. text (n .raw) (n .decimals)) (λ a. a .text)
+    reading {Args = NumberOfArgs} "host::number_calls::bolsterweft_number"
+    (record {
+      refuses-with = 7;
+      refusal = λ (r : Reading). r .refusal;
+      value = numberIn;
+      zeros = zeroNumber;
+      Limits = λ a. InLimits;
+      write = λ a n. text (n .raw) (n .decimals);
+      text = λ a. a .text;
+    })
 
--- Writes a number as so many bytes from the front of the room, signed unless `is_signed` is 0.
+-- Writes a number as `width` bytes from the front of the room, signed unless `is_signed` is 0.
 pub record ValueArgs : Type 0 where
   pub raw : ℤ
   pub width : ℕ
@@ -149,7 +177,7 @@ value =
       form = counts (λ a. a .room) (λ a bs. bs ≡ valueBytes (a .width) (a .raw));
     }
 
--- The number that so many bytes are.
+-- The number that `width` bytes are.
 pub record ValueReadArgs : Type 0 where
   pub bytes : List ℕ
   pub width : ℕ
@@ -162,8 +190,13 @@ value-read =
       Args = ValueReadArgs;
       refusals = 7 ∷ 5 ∷ [];
       Cause = λ a. BytesCause (a .width) (a .bytes);
-      form = refuses (λ (r : Raw). r .refusal) (λ (r : Raw). r .raw) (pos 0)
-          (λ a. ValueIn (a .width) (not (eqb (a .«is_signed») 0)) (a .bytes));
+      form = refuses
+          (record {
+            refusal = λ (r : Raw). r .refusal;
+            value = λ (r : Raw). r .raw;
+            zeros = pos 0;
+            Right = λ a. ValueIn (a .width) (not (eqb (a .«is_signed») 0)) (a .bytes);
+          });
     }
 
 -- Whether a single float holds the raw number: 1 or 0.
@@ -177,7 +210,13 @@ fits =
       Args = FitsArgs;
       refusals = 5 ∷ [];
       Cause = λ a. RangeCause (a .raw);
-      form = refuses (λ (r : Fit). r .refusal) (λ (r : Fit). r .fits) 0 (λ a n. n ≡ flag (fitsSingle (a .raw)));
+      form = refuses
+          (record {
+            refusal = λ (r : Fit). r .refusal;
+            value = λ (r : Fit). r .fits;
+            zeros = 0;
+            Right = λ a n. n ≡ flag (fitsSingle (a .raw));
+          });
     }
 
 -- The raw number for the panel.
@@ -191,7 +230,13 @@ panel =
       Args = PanelArgs;
       refusals = 5 ∷ [];
       Cause = λ a. RangeCause (a .raw);
-      form = refuses (λ (r : PanelValue). r .refusal) shownIn zeroShown (λ a. ShownOf (a .raw));
+      form = refuses
+          (record {
+            refusal = λ (r : PanelValue). r .refusal;
+            value = shownIn;
+            zeros = zeroShown;
+            Right = λ a. ShownOf (a .raw);
+          });
     }
 
 -- A climate message's counts for the panel.
@@ -206,8 +251,13 @@ climate =
       Args = ClimateArgs;
       refusals = 5 ∷ [];
       Cause = λ a. ClimateCause (a .temperature) (pos (a .humidity));
-      form = refuses (λ (r : Climate). r .refusal) climateIn zeroClimate
-          (λ a. ClimateOf (a .temperature) (pos (a .humidity)));
+      form = refuses
+          (record {
+            refusal = λ (r : Climate). r .refusal;
+            value = climateIn;
+            zeros = zeroClimate;
+            Right = λ a. ClimateOf (a .temperature) (pos (a .humidity));
+          });
     }
 
 -- Writes the line of one frame, which stands at a place of a capture, from the front of the room.
@@ -241,8 +291,14 @@ line-next =
       Args = LineNextArgs;
       refusals = 2 ∷ 3 ∷ 4 ∷ 1 ∷ [];
       Cause = λ a. NextCause (a .kind) (a .capture) (a .place) (length (a .room));
-      form = writes (λ (r : Listed). r .refusal) placedIn zeroPlaced (λ a. a .room)
-          (λ a. NextLine (a .kind) (a .capture) (a .place) (a .room) 0);
+      form = writes
+          (record {
+            refusal = λ (r : Listed). r .refusal;
+            value = placedIn;
+            zeros = zeroPlaced;
+            room = λ a. a .room;
+            Right = λ a. NextLine (a .kind) (a .capture) (a .place) (a .room) 0;
+          });
     }
 
 -- Writes the listing of an input from the front of the room.
@@ -286,7 +342,13 @@ book-open =
       Args = BookOpenArgs;
       refusals = 8 ∷ [];
       Cause = λ a. OpenCause (a .book);
-      form = refuses (λ (r : Entries). r .refusal) (λ (r : Entries). r .count) 0 (λ a. Counts (a .book));
+      form = refuses
+          (record {
+            refusal = λ (r : Entries). r .refusal;
+            value = λ (r : Entries). r .count;
+            zeros = 0;
+            Right = λ a. Counts (a .book);
+          });
     }
 
 -- The entry of a number, counted from 0.
@@ -301,7 +363,13 @@ book-entry =
       Args = BookEntryArgs;
       refusals = 8 ∷ 3 ∷ [];
       Cause = λ a. EntryCause (a .book) (a .number);
-      form = refuses (λ (r : Entry). r .refusal) toldIn zeroTold (λ a. EntryOf (a .book) (a .number));
+      form = refuses
+          (record {
+            refusal = λ (r : Entry). r .refusal;
+            value = locationIn;
+            zeros = zeroLocation;
+            Right = λ a. EntryOf (a .book) (a .number);
+          });
     }
 
 -- Writes that entry's line from the front of the room.

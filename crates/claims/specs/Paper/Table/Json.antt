@@ -17,7 +17,12 @@ pub record HexArgs : Type 0 where
 
 abbrev pub hex : Claim ℕ
 hex =
-    putting {Args = HexArgs} "json::hex" (λ a. a .room) (λ a. a .at) (λ a. paper.hex (a .s))
+    putting {Args = HexArgs} "json::hex"
+    (record {
+      room = λ a. a .room;
+      place = λ a. a .at;
+      bytes = λ a. paper.hex (a .s);
+    })
 
 -- Puts a string, one character a byte.
 pub record CharsArgs : Type 0 where
@@ -27,7 +32,12 @@ pub record CharsArgs : Type 0 where
 
 abbrev pub chars : Claim ℕ
 chars =
-    putting {Args = CharsArgs} "json::chars" (λ a. a .room) (λ a. a .at) (λ a. paper.chars (a .s))
+    putting {Args = CharsArgs} "json::chars"
+    (record {
+      room = λ a. a .room;
+      place = λ a. a .at;
+      bytes = λ a. paper.chars (a .s);
+    })
 
 -- Puts `true` or `false`.
 pub record TruthArgs : Type 0 where
@@ -37,7 +47,12 @@ pub record TruthArgs : Type 0 where
 
 abbrev pub truth : Claim ℕ
 truth =
-    putting {Args = TruthArgs} "json::truth" (λ a. a .room) (λ a. a .at) (λ a. paper.truth (a .b))
+    putting {Args = TruthArgs} "json::truth"
+    (record {
+      room = λ a. a .room;
+      place = λ a. a .at;
+      bytes = λ a. paper.truth (a .b);
+    })
 
 -- Puts the reading of a raw number, with a sign or without.
 pub record SignedArgs : Type 0 where
@@ -48,8 +63,12 @@ pub record SignedArgs : Type 0 where
 
 abbrev pub signed : Claim ℕ
 signed =
-    putting {Args = SignedArgs} "json::signed" (λ a. a .room) (λ a. a .at)
-    (λ a. paper.reading (a .raw) (decimalsOf (a .decimals)))
+    putting {Args = SignedArgs} "json::signed"
+    (record {
+      room = λ a. a .room;
+      place = λ a. a .at;
+      bytes = λ a. paper.reading (a .raw) (decimalsOf (a .decimals));
+    })
 
 --
 pub record UnsignedArgs : Type 0 where
@@ -60,5 +79,9 @@ pub record UnsignedArgs : Type 0 where
 
 abbrev pub unsigned : Claim ℕ
 unsigned =
-    putting {Args = UnsignedArgs} "json::unsigned" (λ a. a .room) (λ a. a .at)
-    (λ a. paper.reading (pos (a .raw)) (decimalsOf (a .decimals)))
+    putting {Args = UnsignedArgs} "json::unsigned"
+    (record {
+      room = λ a. a .room;
+      place = λ a. a .at;
+      bytes = λ a. paper.reading (pos (a .raw)) (decimalsOf (a .decimals));
+    })

@@ -4,18 +4,18 @@ use mathlib.Core.List.{List}
 use mathlib.Core.Bool.{Bool}
 use mathlib.Core.Path.{_≡_}
 use Prim.Native.Nat.{ℕ}
-use Rattle.digits.specs.Paper.Read.{Tells}
+use Rattle.digits.specs.Paper.Read.{Decides}
 use Rattle.checks.specs.Paper.Buses.{homiqCrc}
 use Rattle.checks.specs.Paper.Check.{check}
 use Rattle.layouts.specs.Paper.Chars.{all, isHex, oneOf}
-use Rattle.layouts.specs.Paper.Homiq.{homiq, kept}
+use Rattle.layouts.specs.Paper.Homiq.{homiq, withoutSeparators}
 use Rattle.layouts.specs.Paper.Layout.{Leads}
 use Rattle.layouts.specs.Paper.Made.{Payload, Wire}
 use Rattle.layouts.specs.Paper.Nest.{nest}
 use Rattle.layouts.specs.Paper.Nibe.{commands, nibe}
 use Rattle.layouts.specs.Paper.Nikobus.{nikobus}
 use Rattle.layouts.specs.Paper.Starts.{homiqStarts, nestStarts, nibeStarts, nikobusStarts}
-use Rattle.layouts.specs.declared.Spot.{Spot}
+use Rattle.layouts.specs.declared.AtHead.{AtHead}
 use Rattle.layouts.specs.declared.nest.Direction.{Direction}
 use Rattle.claims.specs.Paper.Claim.{Claim, answering}
 
@@ -23,7 +23,7 @@ use Rattle.claims.specs.Paper.Claim.{Claim, answering}
 pub record HomiqFrameArgs : Type 0 where
   pub s : List ℕ
 
-abbrev pub homiq-frame : Claim Spot
+abbrev pub homiq-frame : Claim AtHead
 homiq-frame =
     answering {Args = HomiqFrameArgs} "layouts::homiq::frame" (λ a r. Leads homiq (a .s) (r .len) (r .from) (r .to))
 
@@ -33,7 +33,7 @@ pub record HomiqCrcArgs : Type 0 where
 
 abbrev pub homiq-crc : Claim ℕ
 homiq-crc =
-    answering {Args = HomiqCrcArgs} "layouts::homiq::crc" (λ a r. r ≡ check homiqCrc (kept (a .s)))
+    answering {Args = HomiqCrcArgs} "layouts::homiq::crc" (λ a r. r ≡ check homiqCrc (withoutSeparators (a .s)))
 
 -- Whether a frame can begin with the first three bytes of s: `<;`.
 pub record HomiqMayStartArgs : Type 0 where
@@ -51,14 +51,14 @@ pub record HomiqIsPayloadArgs : Type 0 where
 abbrev pub homiq-is-payload : Claim Bool
 homiq-is-payload =
     answering {Args = HomiqIsPayloadArgs} "layouts::homiq::is_payload"
-    (λ a r. Tells ((w : Wire) × Payload (a .p) w) r)
+    (λ a r. Decides ((w : Wire) × Payload (a .p) w) r)
 
 -- The frame at the head of s.
 pub record NestFrameArgs : Type 0 where
   pub direction : Direction
   pub s : List ℕ
 
-abbrev pub nest-frame : Claim Spot
+abbrev pub nest-frame : Claim AtHead
 nest-frame =
     answering {Args = NestFrameArgs} "layouts::nest::frame"
     (λ a r. Leads (nest (a .direction)) (a .s) (r .len) (r .from) (r .to))
@@ -76,7 +76,7 @@ nest-may-start =
 pub record NibeFrameArgs : Type 0 where
   pub s : List ℕ
 
-abbrev pub nibe-frame : Claim Spot
+abbrev pub nibe-frame : Claim AtHead
 nibe-frame =
     answering {Args = NibeFrameArgs} "layouts::nibe::frame" (λ a r. Leads nibe (a .s) (r .len) (r .from) (r .to))
 
@@ -100,7 +100,7 @@ nibe-is-command =
 pub record NikobusFrameArgs : Type 0 where
   pub s : List ℕ
 
-abbrev pub nikobus-frame : Claim Spot
+abbrev pub nikobus-frame : Claim AtHead
 nikobus-frame =
     answering {Args = NikobusFrameArgs} "layouts::nikobus::frame"
     (λ a r. Leads nikobus (a .s) (r .len) (r .from) (r .to))

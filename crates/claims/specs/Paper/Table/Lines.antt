@@ -11,8 +11,8 @@ use Rattle.messages.specs.Paper.Says.{Says}
 use Rattle.messages.specs.declared.Message.{Message}
 use Rattle.messages.specs.declared.Tag.{Tag}
 use Rattle.lines.specs.Paper.Answers.{LineCause, LineOf, NextCause, NextLine, NextSize, PutContent, PutSaid}
-use Rattle.lines.specs.Paper.Answers.{SaidCause, endedNumber, endedPlace, listedNumber, listedPlaced, measuredNumber, measuredSize}
-use Rattle.lines.specs.Paper.Answers.{zeroPlaced, zeroSize}
+use Rattle.lines.specs.Paper.Answers.{SaidCause, endedPlace, endedRefusal, listedPlaced, listedRefusal}
+use Rattle.lines.specs.Paper.Answers.{measuredRefusal, measuredSize, zeroPlaced, zeroSize}
 use Rattle.lines.specs.declared.Ended.{Ended}
 use Rattle.lines.specs.declared.Listed.{Listed}
 use Rattle.lines.specs.declared.Measured.{Measured}
@@ -35,8 +35,8 @@ write =
       form = fronts (λ a. a .room) (λ a. LineOf (a .kind) (a .frame) (a .at));
     }
 
--- Puts the line of the frame with the smallest start at or after a place of the capture, at a place of the room: all
--- of it, or none where too little of the room is left behind that place.
+-- Finds the frame with the smallest start at or after a place of the capture, and puts its line at a place of the
+-- room: all of it, or none if too little of the room is left there.
 pub record NextArgs : Type 0 where
   pub kind : ℕ
   pub capture : List ℕ
@@ -51,8 +51,14 @@ next =
       Args = NextArgs;
       refusals = 2 ∷ 3 ∷ 4 ∷ 1 ∷ [];
       Cause = λ a. NextCause (a .kind) (a .capture) (a .place) (length (a .room) - a .to);
-      form = writes listedNumber listedPlaced zeroPlaced (λ a. a .room)
-          (λ a. NextLine (a .kind) (a .capture) (a .place) (a .room) (a .to));
+      form = writes
+          (record {
+            refusal = listedRefusal;
+            value = listedPlaced;
+            zeros = zeroPlaced;
+            room = λ a. a .room;
+            Right = λ a. NextLine (a .kind) (a .capture) (a .place) (a .room) (a .to);
+          });
     }
 
 -- How long the line is that `next` puts, with the start and the length of its frame.
@@ -68,11 +74,17 @@ measure =
       Args = MeasureArgs;
       refusals = 2 ∷ 3 ∷ 1 ∷ [];
       Cause = λ a. SearchCause (a .kind) (a .capture) (a .place);
-      form = refuses measuredNumber measuredSize zeroSize (λ a. NextSize (a .kind) (a .capture) (a .place));
+      form = refuses
+          (record {
+            refusal = measuredRefusal;
+            value = measuredSize;
+            zeros = zeroSize;
+            Right = λ a. NextSize (a .kind) (a .capture) (a .place);
+          });
     }
 
--- Puts the line of a message, with its content beside it, at a place of the room: all of it, or none where too little
--- of the room is left behind that place.
+-- Puts the line of a message, with its content beside it, at a place of the room: all of it, or none if too little of
+-- the room is left behind that place.
 pub record OfArgs : Type 0 where
   pub message : Message
   pub content : List ℕ
@@ -88,8 +100,14 @@ of =
       Args = OfArgs;
       refusals = 5 ∷ 4 ∷ [];
       Cause = λ a. SaidCause (Says (a .message) (a .content)) (a .at) (a .len) (length (a .room) - a .to);
-      form = writes writtenRefusal writtenCount 0 (λ a. a .room)
-          (λ a. PutSaid (Says (a .message) (a .content)) (a .at) (a .len) (a .room) (a .to));
+      form = writes
+          (record {
+            refusal = writtenRefusal;
+            value = writtenCount;
+            zeros = 0;
+            room = λ a. a .room;
+            Right = λ a. PutSaid (Says (a .message) (a .content)) (a .at) (a .len) (a .room) (a .to);
+          });
     }
 
 -- Puts the line of a content at a place of the room, as far as the room goes, and answers the place behind it.
@@ -108,6 +126,12 @@ put-content =
       Args = PutContentArgs;
       refusals = 5 ∷ [];
       Cause = λ a. MeantCause (ContentWith (a .tag) (a .payload));
-      form = writes endedNumber endedPlace 0 (λ a. a .room)
-          (λ a. PutContent (a .tag) (a .payload) (a .at) (a .len) (a .room) (a .to));
+      form = writes
+          (record {
+            refusal = endedRefusal;
+            value = endedPlace;
+            zeros = 0;
+            room = λ a. a .room;
+            Right = λ a. PutContent (a .tag) (a .payload) (a .at) (a .len) (a .room) (a .to);
+          });
     }

@@ -1,24 +1,24 @@
 -- The public functions of `messages`.
 -- Assumes nothing.
 use mathlib.Core.List.{List, [], _∷_}
-use mathlib.Core.Option.{some}
 use mathlib.Core.Path.{_≡_}
 use Prim.Native.Nat.{ℕ}
 use denote.Ref.{RefT, now}
 use Rattle.frames.specs.Paper.Search.{SearchCause}
-use Rattle.messages.specs.Paper.Allowed.{InTheTable, StandingCause, standingNumber, standingValue}
-use Rattle.messages.specs.Paper.Answers.{DecodeCause, DecodedTo, FoundAs, Stands, contentEnds, decodedNumber}
-use Rattle.messages.specs.Paper.Answers.{decodedValue, seenNumber, seenValue, zeroDecoded, zeroSeen}
+use Rattle.messages.specs.Paper.Allowed.{InTheTable, StandingCause, standingRefusal, standingValue}
+use Rattle.messages.specs.Paper.Answers.{DecodeCause, DecodedTo, Stands, contentEnds, decodedRefusal, decodedValue}
+use Rattle.messages.specs.Paper.Answers.{zeroDecoded, FoundAs, foundMessageRefusal, foundMessageValue}
+use Rattle.messages.specs.Paper.Answers.{zeroFoundMessage}
 use Rattle.messages.specs.Paper.Homiq.{fieldEnds}
 use Rattle.messages.specs.Paper.Message as paper
-use Rattle.messages.specs.Paper.Meant.{ContentWith, MeantCause, MessageWith, meantNumber, meantValue, noneMeant}
-use Rattle.messages.specs.Paper.Panel.{PairCause, PairOf, VoltsCause, pairNumber, pairValue, voltsIn, voltsNumber}
+use Rattle.messages.specs.Paper.Meant.{ContentWith, MeantAs, MeantCause, meantRefusal, meantValue, noneMeant}
+use Rattle.messages.specs.Paper.Panel.{PairCause, PairOf, VoltsCause, pairRefusal, pairValue, voltsIn, voltsRefusal}
 use Rattle.messages.specs.Paper.Panel.{voltsValue, zeroCounts, zeroVolts}
 use Rattle.messages.specs.Paper.Says.{Says}
 use Rattle.messages.specs.declared.Decoded.{Decoded}
 use Rattle.messages.specs.declared.Meant.{Meant}
 use Rattle.messages.specs.declared.Message.{Message}
-use Rattle.messages.specs.declared.Seen.{Seen}
+use Rattle.messages.specs.declared.FoundMessage.{FoundMessage}
 use Rattle.messages.specs.declared.Standing.{Standing}
 use Rattle.messages.specs.declared.Tag.{Tag}
 use Rattle.messages.specs.declared.nest.Pair.{Pair}
@@ -38,7 +38,13 @@ decode =
       Args = DecodeArgs;
       refusals = 2 ∷ 5 ∷ [];
       Cause = λ a. DecodeCause (a .kind) (a .frame);
-      form = refuses decodedNumber decodedValue zeroDecoded (λ a. DecodedTo (a .kind) (a .frame));
+      form = refuses
+          (record {
+            refusal = decodedRefusal;
+            value = decodedValue;
+            zeros = zeroDecoded;
+            Right = λ a. DecodedTo (a .kind) (a .frame);
+          });
     }
 
 -- The frame with the smallest start at or after the place, and its message.
@@ -47,14 +53,20 @@ pub record FindArgs : Type 0 where
   pub buffer : List ℕ
   pub place : ℕ
 
-abbrev pub find : Claim Seen
+abbrev pub find : Claim FoundMessage
 find =
     record {
       name = "messages::find";
       Args = FindArgs;
       refusals = 2 ∷ 3 ∷ 1 ∷ [];
       Cause = λ a. SearchCause (a .kind) (a .buffer) (a .place);
-      form = refuses seenNumber seenValue zeroSeen (λ a. FoundAs (a .kind) (a .buffer) (a .place));
+      form = refuses
+          (record {
+            refusal = foundMessageRefusal;
+            value = foundMessageValue;
+            zeros = zeroFoundMessage;
+            Right = λ a. FoundAs (a .kind) (a .buffer) (a .place);
+          });
     }
 
 -- What stands beside the message of one frame, as a part of it; empty for a refusal.
@@ -85,8 +97,13 @@ of =
       Args = OfArgs;
       refusals = 5 ∷ [];
       Cause = λ a. MeantCause (ContentWith (a .tag) (a .payload));
-      form = refuses meantNumber meantValue noneMeant
-          (λ a v. (e : Message) × (v ≡ some e) × MessageWith (ContentWith (a .tag) (a .payload)) e);
+      form = refuses
+          (record {
+            refusal = meantRefusal;
+            value = meantValue;
+            zeros = noneMeant;
+            Right = λ a. MeantAs (ContentWith (a .tag) (a .payload));
+          });
     }
 
 -- Whether a message, with what stands beside it, is one of the table.
@@ -101,10 +118,16 @@ allowed =
       Args = AllowedArgs;
       refusals = 5 ∷ 6 ∷ [];
       Cause = λ a. StandingCause (Says (a .message) (a .content));
-      form = refuses standingNumber standingValue (tt {0}) (λ a. InTheTable (Says (a .message) (a .content)));
+      form = refuses
+          (record {
+            refusal = standingRefusal;
+            value = standingValue;
+            zeros = tt {0};
+            Right = λ a. InTheTable (Says (a .message) (a .content));
+          });
     }
 
--- A field of CMD to TYPE, by its number from 0, as a part of them; where there is none, the empty part at their end.
+-- A field of CMD to TYPE, by its number from 0, as a part of them; if there is none, the empty part at their end.
 pub record HomiqFieldArgs : Type 0 where
   pub content : RefT (List ℕ)
   pub number : ℕ
@@ -130,7 +153,13 @@ nest-for-panel =
       Args = NestForPanelArgs;
       refusals = 5 ∷ [];
       Cause = λ a. PairCause (a .message);
-      form = refuses pairNumber pairValue zeroCounts (λ a. PairOf (a .message));
+      form = refuses
+          (record {
+            refusal = pairRefusal;
+            value = pairValue;
+            zeros = zeroCounts;
+            Right = λ a. PairOf (a .message);
+          });
     }
 
 -- The voltages in a state's payload.
@@ -144,5 +173,11 @@ nest-voltages =
       Args = NestVoltagesArgs;
       refusals = 5 ∷ [];
       Cause = λ a. VoltsCause (a .payload);
-      form = refuses voltsNumber voltsValue zeroVolts (λ a v. v ≡ voltsIn (a .payload));
+      form = refuses
+          (record {
+            refusal = voltsRefusal;
+            value = voltsValue;
+            zeros = zeroVolts;
+            Right = λ a v. v ≡ voltsIn (a .payload);
+          });
     }

@@ -21,7 +21,7 @@ use Rattle.numbers.specs.declared.single.Fit.{Fit}
 use Rattle.numbers.specs.declared.text.Reading.{Reading}
 use Rattle.claims.specs.Paper.Claim.{fronts, Claim, answering, reading, refuses}
 
--- Writes a number as so many bytes from the front of the room.
+-- Writes a number as `width` bytes from the front of the room.
 pub record ByteValuesWriteArgs : Type 0 where
   pub raw : ℤ
   pub width : ℕ
@@ -38,7 +38,7 @@ byte-values-write =
       form = fronts (λ a. a .room) (λ a bs. bs ≡ valueBytes (a .width) (a .raw));
     }
 
--- The number that so many bytes are.
+-- The number that `width` bytes are.
 pub record ByteValuesReadArgs : Type 0 where
   pub s : List ℕ
   pub width : ℕ
@@ -51,7 +51,13 @@ byte-values-read =
       Args = ByteValuesReadArgs;
       refusals = 7 ∷ 5 ∷ [];
       Cause = λ a. BytesCause (a .width) (a .s);
-      form = refuses valueRefusal valueOf (pos 0) (λ a. ValueIn (a .width) (a .signed) (a .s));
+      form = refuses
+          (record {
+            refusal = valueRefusal;
+            value = valueOf;
+            zeros = pos 0;
+            Right = λ a. ValueIn (a .width) (a .signed) (a .s);
+          });
     }
 
 -- The raw number for the panel.
@@ -65,7 +71,13 @@ panel-of =
       Args = PanelOfArgs;
       refusals = 5 ∷ [];
       Cause = λ a. RangeCause (a .raw);
-      form = refuses shownRefusal shownValue zeroFloat (λ a. Panel (a .raw));
+      form = refuses
+          (record {
+            refusal = shownRefusal;
+            value = shownValue;
+            zeros = zeroFloat;
+            Right = λ a. Panel (a .raw);
+          });
     }
 
 -- A climate message's counts for the panel.
@@ -89,7 +101,13 @@ single-fits =
       Args = SingleFitsArgs;
       refusals = 5 ∷ [];
       Cause = λ a. RangeCause (a .raw);
-      form = refuses fitsRefusal fitsValue false (λ a b. b ≡ fitsSingle (a .raw));
+      form = refuses
+          (record {
+            refusal = fitsRefusal;
+            value = fitsValue;
+            zeros = false;
+            Right = λ a b. b ≡ fitsSingle (a .raw);
+          });
     }
 
 -- Writes the text of a raw number from the front of the room.
@@ -114,5 +132,13 @@ pub record TextReadArgs : Type 0 where
 
 abbrev pub text-read : Claim Reading
 text-read =
-    reading {Args = TextReadArgs} "numbers::text::read" 7 readingRefusal readingValue zeroNumber (λ a. InLimits)
-    (λ a n. text (n .raw) (n .decimals)) (λ a. a .t)
+    reading {Args = TextReadArgs} "numbers::text::read"
+    (record {
+      refuses-with = 7;
+      refusal = readingRefusal;
+      value = readingValue;
+      zeros = zeroNumber;
+      Limits = λ a. InLimits;
+      write = λ a n. text (n .raw) (n .decimals);
+      text = λ a. a .t;
+    })

@@ -10,7 +10,7 @@ use Rattle.puts.specs.Paper.Wrote.{RoomCause}
 use Rattle.puts.specs.declared.Written.{Written}
 use Rattle.claims.specs.Paper.Claim.{fronts, Claim, putting}
 
--- Writes the bytes of s from the front of the room: all of them, or none where the room is too short.
+-- Writes the bytes of s from the front of the room: all of them, or none if the room is too short.
 pub record FrontArgs : Type 0 where
   pub s : List ℕ
   pub room : List ℕ
@@ -33,7 +33,12 @@ pub record ByteArgs : Type 0 where
 
 abbrev pub byte : Claim ℕ
 byte =
-    putting {Args = ByteArgs} "puts::byte" (λ a. a .room) (λ a. a .at) (λ a. a .b ∷ [])
+    putting {Args = ByteArgs} "puts::byte"
+    (record {
+      room = λ a. a .room;
+      place = λ a. a .at;
+      bytes = λ a. a .b ∷ [];
+    })
 
 -- Puts the bytes of s.
 pub record BytesArgs : Type 0 where
@@ -43,7 +48,12 @@ pub record BytesArgs : Type 0 where
 
 abbrev pub bytes : Claim ℕ
 bytes =
-    putting {Args = BytesArgs} "puts::bytes" (λ a. a .room) (λ a. a .at) (λ a. a .s)
+    putting {Args = BytesArgs} "puts::bytes"
+    (record {
+      room = λ a. a .room;
+      place = λ a. a .at;
+      bytes = λ a. a .s;
+    })
 
 -- Puts the decimal digits of n.
 pub record WholeArgs : Type 0 where
@@ -53,7 +63,12 @@ pub record WholeArgs : Type 0 where
 
 abbrev pub whole : Claim ℕ
 whole =
-    putting {Args = WholeArgs} "puts::whole" (λ a. a .room) (λ a. a .at) (λ a. decimal (a .n))
+    putting {Args = WholeArgs} "puts::whole"
+    (record {
+      room = λ a. a .room;
+      place = λ a. a .at;
+      bytes = λ a. decimal (a .n);
+    })
 
 -- Puts two hex digits for each byte of s.
 pub record HexArgs : Type 0 where
@@ -63,4 +78,9 @@ pub record HexArgs : Type 0 where
 
 abbrev pub hex : Claim ℕ
 hex =
-    putting {Args = HexArgs} "puts::hex" (λ a. a .room) (λ a. a .at) (λ a. hexBytes (a .s))
+    putting {Args = HexArgs} "puts::hex"
+    (record {
+      room = λ a. a .room;
+      place = λ a. a .at;
+      bytes = λ a. hexBytes (a .s);
+    })

@@ -2,7 +2,7 @@
 -- Assumes nothing.
 use mathlib.Core.Path.{refl}
 use borrow.Author.Needs.{needs}
-use Rattle.digits.specs.Paper.LowFirst.{lowFirst}
+use Rattle.digits.specs.Paper.LowFirst.{lowByteFirst}
 use Rattle.digits.proofs.low_first.four.Statement.{statement}
 use Rattle.digits.proofs.low_first.four.Tie as tie
 
@@ -19,7 +19,7 @@ cast-t15 : tie.Need-cast-t15
 cast-t15 c = search needs
 
 returns : tie.Need-returns
-unfolding lowFirst
+unfolding lowByteFirst
 returns c = refl
 
 pub four-spec : {M : Type 1} → statement M

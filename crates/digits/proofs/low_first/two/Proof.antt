@@ -2,7 +2,7 @@
 -- Assumes nothing.
 use mathlib.Core.Path.{refl}
 use borrow.Author.Needs.{needs}
-use Rattle.digits.specs.Paper.LowFirst.{lowFirst}
+use Rattle.digits.specs.Paper.LowFirst.{lowByteFirst}
 use Rattle.digits.proofs.low_first.two.Statement.{statement}
 use Rattle.digits.proofs.low_first.two.Tie as tie
 
@@ -13,7 +13,7 @@ cast-t6 : tie.Need-cast-t6
 cast-t6 c = search needs
 
 returns : tie.Need-returns
-unfolding lowFirst
+unfolding lowByteFirst
 returns c = refl
 
 pub two-spec : {M : Type 1} → statement M

@@ -23,7 +23,7 @@ returns-2 : tie.Need-returns-2
 returns-2 c =
     let s = c .before .before .before .before .before .before .before in
     let byte = c .before .before .before .before .before .kind-byte in
-    rw (c .numbered .ensures)
+    rw (c .refusal-number .ensures)
     (search-alike (byte .ensures) (subst (Searches (byte .result) (now (s .args .buffer)) (s .args .place)) (c .before .before .why .given .1) (c .before .before .before .before .search .ensures)))
 
 pub bolsterweft-search-spec : {M : Type 1} → statement M

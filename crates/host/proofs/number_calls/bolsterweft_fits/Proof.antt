@@ -19,7 +19,7 @@ returns c =
 returns-2 : tie.Need-returns-2
 returns-2 c =
     let s = c .before .before .before .before .before in
-    rw (c .numbered .ensures)
+    rw (c .refusal-number .ensures)
     (no-flag (c .before .before .why .given .0 .0) (said (λ (y : ℤ). AnswersFits y (NoFit (c .before .before .why .given .0 .0))) (s .args .raw) (s .fits .raw) (subst (AnswersFits (back (s .args .raw))) (c .before .before .why .given .1) (c .before .before .before .before .fits2 .ensures))))
 
 pub bolsterweft-fits-spec : {M : Type 1} → statement M

@@ -23,7 +23,7 @@ returns c =
 returns-2 : tie.Need-returns-2
 returns-2 c =
     let t = c .before .before .before .before .before .before .args .text .now in
-    rw (c .numbered .ensures) (subst (ReadsText t) (c .before .before .why .given .1) (c .before .before .before .before .read .ensures))
+    rw (c .refusal-number .ensures) (subst (ReadsText t) (c .before .before .why .given .1) (c .before .before .before .before .read .ensures))
 
 pub bolsterweft-number-spec : {M : Type 1} → statement M
 bolsterweft-number-spec =

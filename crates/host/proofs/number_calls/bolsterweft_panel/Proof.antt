@@ -34,7 +34,7 @@ unfolding ofBits
 returns-3 c =
     let s = c .before .before .before .before .before in
     let why = c .before .before .why .given .0 .0 in
-    rw (c .numbered .ensures)
+    rw (c .refusal-number .ensures)
     (not-shown why (said (λ (y : ℤ). AnswersPanel y (NotShown why)) (s .args .raw) (s .fits .raw) (subst (AnswersPanel (back (s .args .raw))) (c .before .before .why .given .1) (c .before .before .before .before .of .ensures))))
 
 pub bolsterweft-panel-spec : {M : Type 1} → statement M

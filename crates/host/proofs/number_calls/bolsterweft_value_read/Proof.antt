@@ -28,7 +28,7 @@ returns c =
 returns-2 : tie.Need-returns-2
 returns-2 c =
     let s = c .before .before .before .before .before .before in
-    rw (c .numbered .ensures)
+    rw (c .refusal-number .ensures)
     (subst (AnswersValue (s .args .width) (not (eqb (s .args .is-signed) 0)) (s .args .bytes .now)) (c .before .before .why .given .1) (c .before .before .before .before .read .ensures))
 
 pub bolsterweft-value-read-spec : {M : Type 1} → statement M

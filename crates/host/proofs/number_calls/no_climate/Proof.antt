@@ -8,7 +8,7 @@ use Rattle.host.proofs.number_calls.no_climate.Tie as tie
 
 returns : tie.Need-returns
 unfolding ofBits
-returns c = (c .numbered .ensures, refl)
+returns c = (c .refusal-number .ensures, refl)
 
 pub no-climate-spec : {M : Type 1} → statement M
 no-climate-spec = tie.close (tie.spec (λ c κs. search needs) returns)

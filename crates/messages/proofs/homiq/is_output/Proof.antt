@@ -7,10 +7,10 @@ use Rattle.messages.proofs.homiq.is_output.Statement.{statement}
 use Rattle.messages.proofs.homiq.is_output.Tie as tie
 
 returns : tie.Need-returns
-returns c = first-fails (c .before .is-numbered .ensures) (not-true _ (c .if1 .taken))
+returns c = first-fails (c .before .is-marked-number .ensures) (not-true _ (c .if1 .taken))
 
 returns-2 : tie.Need-returns-2
-returns-2 c = second-tells (c .before .before .before .is-numbered .ensures) (not-false _ (c .before .before .if1 .left)) (c .is-letter .ensures)
+returns-2 c = second-tells (c .before .before .before .is-marked-number .ensures) (not-false _ (c .before .before .if1 .left)) (c .is-letter .ensures)
 
 pub is-output-spec : {M : Type 1} → statement M
 is-output-spec =

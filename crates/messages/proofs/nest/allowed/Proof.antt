@@ -7,7 +7,7 @@ use Rattle.messages.proofs.Laws.Given.{holds-sixteen}
 use Rattle.messages.proofs.Laws.NestRows.{climate-found, break-found, end-found}
 use Rattle.messages.specs.Paper.Table.{Limits}
 use Rattle.messages.specs.declared.Standing.the-variants.{Good}
-use Rattle.messages.specs.declared.nest.Response.the-variants.{Climate, State, Break, End, Text, Response}
+use Rattle.messages.specs.declared.nest.Response.the-variants.{Climate, State, Break, End, Text, Other}
 use borrow.Author.Needs.{needs}
 use Rattle.messages.proofs.nest.allowed.Statement.{statement}
 use Rattle.messages.proofs.nest.allowed.Tie as tie
@@ -28,7 +28,7 @@ returns-5 : tie.Need-returns-5
 returns-5 c = response-as (Text _) (c .before .before .before .before .before .args .payload .now) (c .text-allowed .result) (c .before .before .message2 .given .1) (c .text-allowed .ensures)
 
 returns-6 : tie.Need-returns-6
-returns-6 c = response-as (Response _) (c .before .before .before .before .before .args .payload .now) (c .response-allowed .result) (c .before .before .message3 .given .1) (c .response-allowed .ensures)
+returns-6 c = response-as (Other _) (c .before .before .before .before .before .args .payload .now) (c .response-allowed .result) (c .before .before .message3 .given .1) (c .response-allowed .ensures)
 
 pub allowed-spec : {M : Type 1} → statement M
 allowed-spec =

@@ -2,7 +2,7 @@
 -- Assumes nothing.
 use mathlib.Core.Path.{refl}
 use borrow.Author.Needs.{needs}
-use Rattle.messages.specs.declared.nest.Response.the-variants.{State, Break, End, Text, Response as Other}
+use Rattle.messages.specs.declared.nest.Response.the-variants.{State, Break, End, Text, Other}
 use Rattle.messages.proofs.Laws.Responses.{pair-shown, pair-refused}
 use Rattle.messages.proofs.nest.for_panel.Statement.{statement}
 use Rattle.messages.proofs.nest.for_panel.Tie as tie

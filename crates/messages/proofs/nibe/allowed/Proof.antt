@@ -7,7 +7,7 @@ use Rattle.messages.proofs.Laws.Allowed.{nibe-as, only-good, only-if}
 use Rattle.messages.proofs.Laws.NibeRows.{ask-found, reply-found, put-found, done-found}
 use Rattle.messages.specs.Paper.Table.{Limits}
 use Rattle.messages.specs.declared.Standing.the-variants.{Good}
-use Rattle.messages.specs.declared.nibe.Nibe.the-variants.{Ask, Reply, Put, Done, Nibe}
+use Rattle.messages.specs.declared.nibe.Nibe.the-variants.{Ask, Reply, Put, Done, Other}
 use Rattle.messages.proofs.nibe.allowed.Statement.{statement}
 use Rattle.messages.proofs.nibe.allowed.Tie as tie
 
@@ -36,7 +36,7 @@ returns-4 : tie.Need-returns-4
 returns-4 c = let v = c .before .message4 .given .0 in nibe-as (Done (v .0)) (c .before .before .before .before .args .content .now) Good (c .before .message4 .given .1) (only-good (done (v .0)) tt (done-found (v .0)))
 
 returns-5 : tie.Need-returns-5
-returns-5 c = nibe-as (Nibe _) (c .before .before .before .before .before .args .content .now) (c .plain-allowed .result) (c .before .before .message5 .given .1) (c .plain-allowed .ensures)
+returns-5 c = nibe-as (Other _) (c .before .before .before .before .before .args .content .now) (c .plain-allowed .result) (c .before .before .message5 .given .1) (c .plain-allowed .ensures)
 
 pub allowed-spec : {M : Type 1} → statement M
 allowed-spec =

@@ -6,7 +6,7 @@ use lib.Dec.{lit<}
 use lib.ListN.{length}
 use borrow.Author.Tests.{not-true, not-false}
 use borrow.Author.Needs.{needs}
-use Rattle.digits.specs.Paper.LowFirst.{Width, Held, lowFirst}
+use Rattle.digits.specs.Paper.LowFirst.{Width, Held, lowByteFirst}
 use Rattle.digits.specs.Paper.Answers.{numberRefusal, ReadsNumber}
 use Rattle.digits.proofs.Laws.LowFirst.{never-refused}
 use Rattle.digits.proofs.Laws.Tests.{told, untold}
@@ -19,7 +19,7 @@ use Rattle.numbers.proofs.byte_values.read.Statement.{statement}
 use Rattle.numbers.proofs.byte_values.read.Tie as tie
 
 -- the number that the bytes are
-is-read : (v : tie.After-n) → Held (length (v .before .before .before .before .before .before .before .args .s .now)) (v .n .given .0 .0) × (lowFirst (length (v .before .before .before .before .before .before .before .args .s .now)) (v .n .given .0 .0) ≡ v .before .before .before .before .before .before .before .args .s .now)
+is-read : (v : tie.After-n) → Held (length (v .before .before .before .before .before .before .before .args .s .now)) (v .n .given .0 .0) × (lowByteFirst (length (v .before .before .before .before .before .before .before .args .s .now)) (v .n .given .0 .0) ≡ v .before .before .before .before .before .before .before .args .s .now)
 is-read v = answered (lit< tt) (subst (ReadsNumber (v .before .before .before .before .before .before .before .args .s .now)) (v .n .given .1) (v .before .before .number-of .ensures)) refl
 
 is-width-requires : tie.Need-is-width-requires

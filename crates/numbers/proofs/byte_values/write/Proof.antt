@@ -6,11 +6,11 @@ use lib.IntN.{ℤ}
 use lib.ListN.{length}
 use borrow.Author.Tests.{not-true, not-false}
 use borrow.Author.Needs.{needs}
-use Rattle.digits.specs.Paper.Read.{Tells}
+use Rattle.digits.specs.Paper.Read.{Decides}
 use Rattle.digits.specs.Paper.LowFirst.{Width}
 use Rattle.digits.proofs.Laws.LowFirst.{width-most, length-low}
 use Rattle.digits.proofs.Laws.Tests.{told, untold}
-use Rattle.numbers.specs.Paper.ByteValues.{twos, Holds}
+use Rattle.numbers.specs.Paper.ByteValues.{twos, HeldBy}
 use Rattle.numbers.proofs.Laws.Signs.{back, read-back, said}
 use Rattle.numbers.proofs.Laws.Values.{size, held-in, in-raw, in-size}
 use Rattle.numbers.proofs.Laws.Writing.{value-part, bad-width, not-held, value-fronted}
@@ -22,8 +22,8 @@ module _ (u : tie.Else2) where
   known : Width (u .before .before .before .before .before .args .width)
   known = told (u .before .before .before .is-width .ensures) (not-false _ (u .before .before .if1 .left))
 
-  held : Holds (u .before .before .before .before .before .args .width) (u .before .before .before .before .before .args .signed) (u .before .before .before .before .before .args .raw)
-  held = let s = u .before .before .before .before .before in said (Holds (s .args .width) (s .args .signed)) (s .args .raw) (s .fits .raw) (told (u .before .holds .ensures) (not-false _ (u .if2 .left)))
+  held : HeldBy (u .before .before .before .before .before .args .width) (u .before .before .before .before .before .args .signed) (u .before .before .before .before .before .args .raw)
+  held = let s = u .before .before .before .before .before in said (HeldBy (s .args .width) (s .args .signed)) (s .args .raw) (s .fits .raw) (told (u .before .holds .ensures) (not-false _ (u .if2 .left)))
 
 is-width-requires : tie.Need-is-width-requires
 is-width-requires c κs = search needs
@@ -40,7 +40,7 @@ returns-2 : tie.Need-returns-2
 returns-2 c =
     let s = c .before .before .before .before .before in
     not-held (s .args .width) (s .args .signed) (s .args .raw) (s .args .room .now) (told (c .before .before .before .is-width .ensures) (not-false _ (c .before .before .if1 .left)))
-    (untold (said (λ (y : ℤ). Tells (Holds (s .args .width) (s .args .signed) y) (c .before .holds .result)) (s .args .raw) (s .fits .raw) (c .before .holds .ensures)) (not-true _ (c .if2 .taken)))
+    (untold (said (λ (y : ℤ). Decides (HeldBy (s .args .width) (s .args .signed) y) (c .before .holds .result)) (s .args .raw) (s .fits .raw) (c .before .holds .ensures)) (not-true _ (c .if2 .taken)))
 
 in-twos-requires : tie.Need-in-twos-requires
 in-twos-requires c κs =

@@ -6,7 +6,7 @@ use Prim.Native.Nat.{ℕ}
 use native.Mathlib.Omega.{arith}
 use lib.IntN.{ℤ}
 use borrow.Author.Needs.{needs}
-use Rattle.digits.specs.Paper.Read.{Tells}
+use Rattle.digits.specs.Paper.Read.{Decides}
 use Rattle.numbers.specs.Paper.Text.{text}
 use Rattle.numbers.proofs.Laws.Signs.{said}
 use Rattle.numbers.proofs.text.is_text.Statement.{statement}
@@ -30,8 +30,8 @@ same-requires c κs = search needs
 returns : tie.Need-returns
 returns c =
     let s = c .before .before .before .before .before .before in
-    said (λ (z : ℤ). Tells (text z (s .args .decimals) ≡ s .args .t .now) (c .same .result)) (s .args .raw) (s .fits .raw)
-    (subst (λ (l : List ℕ). Tells (l ≡ s .args .t .now) (c .same .result)) (c .before .before .before .before .text-of .ensures .front) (c .same .ensures))
+    said (λ (z : ℤ). Decides (text z (s .args .decimals) ≡ s .args .t .now) (c .same .result)) (s .args .raw) (s .fits .raw)
+    (subst (λ (l : List ℕ). Decides (l ≡ s .args .t .now) (c .same .result)) (c .before .before .before .before .text-of .ensures .front) (c .same .ensures))
 
 pub is-text-spec : {M : Type 1} → statement M
 is-text-spec =

@@ -7,7 +7,7 @@ use lib.IntN.{ℤ}
 use borrow.Author.Needs.{needs}
 use mir.Syntax.{w64}
 use mir.Val.{SFits}
-use Rattle.digits.specs.Paper.Read.{Tells}
+use Rattle.digits.specs.Paper.Read.{Decides}
 use Rattle.digits.proofs.Laws.Tests.{told, untold}
 use Rattle.numbers.specs.Paper.Text.{text}
 use Rattle.numbers.specs.Work.Text.{minusFirst, signed}
@@ -74,7 +74,7 @@ returns-5 : tie.Need-returns-5
 returns-5 c =
     let u = c .before .before .before .before in
     no-number (u .before .before .before .before .before .before .before .args .t .now) (u .with-sign .result) _ (tried u) (c .before .before .before .before .before .before .before .before .after-point .ensures)
-    (untold (said (λ (y : ℤ). Tells (text y (c .before .before .before .before .before .before .before .before .after-point .result) ≡ u .before .before .before .before .before .before .before .args .t .now) (c .before .is-text .result)) (u .with-sign .result) (fits u) (c .before .is-text .ensures)) (c .if4 .left))
+    (untold (said (λ (y : ℤ). Decides (text y (c .before .before .before .before .before .before .before .before .after-point .result) ≡ u .before .before .before .before .before .before .before .args .t .now) (c .before .is-text .result)) (u .with-sign .result) (fits u) (c .before .is-text .ensures)) (c .if4 .left))
 
 pub read-spec : {M : Type 1} → statement M
 read-spec =

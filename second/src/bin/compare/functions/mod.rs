@@ -19,7 +19,7 @@ pub const AT: &str = "AT";
 type Make = Box<dyn Fn(&mut Random) -> Vec<String>>;
 
 pub struct Function {
-    /// The test's name: the function's, and a part of its arguments where there is a test for each.
+    /// The test's name: the function's, and a part of its arguments if there is a test for each.
     pub test: String,
     pub name: &'static str,
     /// How many requests it gets beside the others.

@@ -4,7 +4,7 @@ use Prim.Native.Nat.{_-_, _*_}
 use native.Mathlib.Omega.{arith}
 use lib.Bits.{xor-lt}
 use borrow.Author.Needs.{needs}
-use Rattle.checks.specs.Paper.Bits.{highFirst}
+use Rattle.checks.specs.Paper.Bits.{highBitFirst}
 use Rattle.checks.specs.Paper.Check.{polyBits}
 use Rattle.checks.specs.Work.Engines.{high16}
 use Rattle.checks.proofs.Laws.Feed.{Shifting, shifting-start, shifting-next, shifting-end}
@@ -23,7 +23,7 @@ mul-r c = omega arith
 
 loop-holds : tie.Need-loop-holds Inv-loop μ-loop
 loop-holds c =
-    shifting-start (xor-lt 16 (c .args .v) (c .args .b * 256) (omega arith) (omega arith)) (bits-laid highFirst 8 8 (c .args .v) (c .args .b) (omega arith))
+    shifting-start (xor-lt 16 (c .args .v) (c .args .b * 256) (omega arith) (omega arith)) (bits-laid highBitFirst 8 8 (c .args .v) (c .args .b) (omega arith))
 
 shifted-requires : tie.Need-shifted-requires Inv-loop μ-loop
 shifted-requires c κs = search needs

@@ -3,7 +3,7 @@
 use borrow.Author.Needs.{needs}
 use native.Mathlib.Omega.{arith}
 use Prim.Native.Nat.{_-_}
-use Rattle.checks.specs.Paper.Bits.{highFirst, bits}
+use Rattle.checks.specs.Paper.Bits.{highBitFirst, bits}
 use Rattle.checks.proofs.Laws.Numbers.{shift-clear, shift-set}
 use Rattle.checks.proofs.bitwise.high16.shifted.Statement.{statement}
 use Rattle.checks.proofs.bitwise.high16.shifted.Tie as tie
@@ -17,12 +17,12 @@ mul-result-2 c = search needs
 returns : tie.Need-returns
 returns c =
     let v = c .before .args .v in
-    shift-clear highFirst 15 v v (bits highFirst 16 (c .before .args .poly)) (omega arith) (omega arith)
+    shift-clear highBitFirst 15 v v (bits highBitFirst 16 (c .before .args .poly)) (omega arith) (omega arith)
 
 returns-2 : tie.Need-returns-2
 returns-2 c =
     let v = c .before .args .v in
-    shift-set highFirst 15 v (v - 0x8000) (c .before .args .poly) (omega arith) (omega arith)
+    shift-set highBitFirst 15 v (v - 0x8000) (c .before .args .poly) (omega arith) (omega arith)
 
 pub shifted-spec : {M : Type 1} → statement M
 shifted-spec = tie.close (tie.spec mul-result mul-result-2 returns returns-2)

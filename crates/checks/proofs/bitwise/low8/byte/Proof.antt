@@ -4,7 +4,7 @@ use Prim.Native.Nat.{_-_}
 use native.Mathlib.Omega.{arith}
 use lib.Bits.{xor-lt}
 use borrow.Author.Needs.{needs}
-use Rattle.checks.specs.Paper.Bits.{lowFirst}
+use Rattle.checks.specs.Paper.Bits.{lowBitFirst}
 use Rattle.checks.specs.Paper.Check.{polyBits}
 use Rattle.checks.specs.Work.Engines.{low8}
 use Rattle.checks.proofs.Laws.Feed.{Shifting, shifting-start, shifting-next, shifting-end}
@@ -20,7 +20,7 @@ abbrev μ-loop : tie.MeasureT-loop
 
 loop-holds : tie.Need-loop-holds Inv-loop μ-loop
 loop-holds c =
-    shifting-start (xor-lt 8 (c .args .v) (c .args .b) (omega arith) (omega arith)) (bits-xor lowFirst 8 (c .args .v) (c .args .b))
+    shifting-start (xor-lt 8 (c .args .v) (c .args .b) (omega arith) (omega arith)) (bits-xor lowBitFirst 8 (c .args .v) (c .args .b))
 
 shifted-requires : tie.Need-shifted-requires Inv-loop μ-loop
 shifted-requires c κs = search needs

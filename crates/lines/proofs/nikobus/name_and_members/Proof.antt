@@ -1,13 +1,13 @@
--- `lines::nikobus::rest` meets its contract, message by message.
+-- `lines::nikobus::name_and_members` meets its contract, message by message.
 -- Assumes nothing.
 use mathlib.Core.Path.{sym, ap}
 use Rattle.puts.proofs.Laws.Puts.{puts-as}
 use Rattle.lines.specs.Paper.Line.{members}
 use Rattle.messages.specs.declared.nikobus.Nikobus.{Nikobus}
-use Rattle.lines.specs.Work.Put.{commaed, named, nikobusRest}
+use Rattle.lines.specs.Work.Put.{commaed, named, nikobusNameAndMembers}
 use borrow.Author.Needs.{needs}
-use Rattle.lines.proofs.nikobus.rest.Statement.{statement}
-use Rattle.lines.proofs.nikobus.rest.Tie as tie
+use Rattle.lines.proofs.nikobus.name_and_members.Statement.{statement}
+use Rattle.lines.proofs.nikobus.name_and_members.Tie as tie
 
 enum-known-message : tie.Need-enum-known-message
 enum-known-message c = search needs
@@ -52,46 +52,46 @@ same-length : tie.Need-same-length
 same-length c = search needs
 
 returns : tie.Need-returns
-unfolding nikobusRest
-returns c = puts-as (sym (ap (λ (e : Nikobus). nikobusRest e (c .before .before .before .before .before .before .before .before .before .args .digits .now)) (c .before .before .before .before .before .message .given .1))) (c .before .before .read .ensures)
+unfolding nikobusNameAndMembers
+returns c = puts-as (sym (ap (λ (e : Nikobus). nikobusNameAndMembers e (c .before .before .before .before .before .before .before .before .before .args .digits .now)) (c .before .before .before .before .before .message .given .1))) (c .before .before .read .ensures)
 
 same-length-2 : tie.Need-same-length-2
 same-length-2 c = search needs
 
 returns-2 : tie.Need-returns-2
-unfolding nikobusRest
-returns-2 c = puts-as (sym (ap (λ (e : Nikobus). nikobusRest e (c .before .before .before .before .before .before .before .before .before .args .digits .now)) (c .before .before .before .before .before .message2 .given .1))) (c .before .before .set .ensures)
+unfolding nikobusNameAndMembers
+returns-2 c = puts-as (sym (ap (λ (e : Nikobus). nikobusNameAndMembers e (c .before .before .before .before .before .before .before .before .before .args .digits .now)) (c .before .before .before .before .before .message2 .given .1))) (c .before .before .set .ensures)
 
 same-length-3 : tie.Need-same-length-3
 same-length-3 c = search needs
 
 returns-3 : tie.Need-returns-3
-unfolding nikobusRest
-returns-3 c = puts-as (sym (ap (λ (e : Nikobus). nikobusRest e (c .before .before .before .before .before .before .before .before .before .args .digits .now)) (c .before .before .before .before .before .message3 .given .1))) (c .before .before .answer .ensures)
+unfolding nikobusNameAndMembers
+returns-3 c = puts-as (sym (ap (λ (e : Nikobus). nikobusNameAndMembers e (c .before .before .before .before .before .before .before .before .before .args .digits .now)) (c .before .before .before .before .before .message3 .given .1))) (c .before .before .answer .ensures)
 
 same-length-4 : tie.Need-same-length-4
 same-length-4 c = search needs
 
 returns-4 : tie.Need-returns-4
-unfolding nikobusRest
-returns-4 c = puts-as (sym (ap (λ (e : Nikobus). nikobusRest e (c .before .before .before .before .before .before .before .before .before .args .digits .now)) (c .before .before .before .before .before .message4 .given .1))) (c .before .before .press .ensures)
+unfolding nikobusNameAndMembers
+returns-4 c = puts-as (sym (ap (λ (e : Nikobus). nikobusNameAndMembers e (c .before .before .before .before .before .before .before .before .before .args .digits .now)) (c .before .before .before .before .before .message4 .given .1))) (c .before .before .press .ensures)
 
 same-length-5 : tie.Need-same-length-5
 same-length-5 c = search needs
 
 returns-5 : tie.Need-returns-5
-unfolding nikobusRest named members commaed
-returns-5 c = puts-as (sym (ap (λ (e : Nikobus). nikobusRest e (c .before .before .before .before .before .before .before .before .before .args .digits .now)) (c .before .before .before .before .before .enum-told .given .1))) (c .before .before .bytes .ensures)
+unfolding nikobusNameAndMembers named members commaed
+returns-5 c = puts-as (sym (ap (λ (e : Nikobus). nikobusNameAndMembers e (c .before .before .before .before .before .before .before .before .before .args .digits .now)) (c .before .before .before .before .before .enum-told .given .1))) (c .before .before .bytes .ensures)
 
 same-length-6 : tie.Need-same-length-6
 same-length-6 c = search needs
 
 returns-6 : tie.Need-returns-6
-unfolding nikobusRest
-returns-6 c = puts-as (sym (ap (λ (e : Nikobus). nikobusRest e (c .before .before .before .before .before .before .before .before .args .digits .now)) (c .before .before .before .before .enum-told2 .given .1))) (c .before .before .link .ensures)
+unfolding nikobusNameAndMembers
+returns-6 c = puts-as (sym (ap (λ (e : Nikobus). nikobusNameAndMembers e (c .before .before .before .before .before .before .before .before .args .digits .now)) (c .before .before .before .before .enum-told2 .given .1))) (c .before .before .link .ensures)
 
-pub rest-spec : {M : Type 1} → statement M
-rest-spec =
+pub name-and-members-spec : {M : Type 1} → statement M
+name-and-members-spec =
     tie.close
     (tie.spec
     enum-known-message

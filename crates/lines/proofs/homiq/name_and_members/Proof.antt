@@ -1,4 +1,4 @@
--- `lines::homiq::rest` meets its contract: each field is the first of what stands behind the one before.
+-- `lines::homiq::name_and_members` meets its contract: each field is the first of what stands behind the one before.
 -- Assumes nothing.
 use mathlib.Core.Path.{ap, _∙_}
 use mathlib.Core.List.{List, [], _∷_, _++_}
@@ -11,8 +11,8 @@ use Rattle.messages.proofs.Laws.HomiqLook.{field-bytes}
 use Rattle.puts.proofs.Laws.Puts.{_then_, puts-as, put-length}
 use Rattle.lines.specs.Work.Put.{commaed}
 use borrow.Author.Needs.{needs}
-use Rattle.lines.proofs.homiq.rest.Statement.{statement}
-use Rattle.lines.proofs.homiq.rest.Tie as tie
+use Rattle.lines.proofs.homiq.name_and_members.Statement.{statement}
+use Rattle.lines.proofs.homiq.name_and_members.Tie as tie
 
 name-requires : tie.Need-name-requires
 name-requires c κs = search needs
@@ -93,8 +93,8 @@ returns c =
 same-length : tie.Need-same-length
 same-length c = put-length (returns c)
 
-pub rest-spec : {M : Type 1} → statement M
-rest-spec =
+pub name-and-members-spec : {M : Type 1} → statement M
+name-and-members-spec =
     tie.close
     (tie.spec
     name-requires

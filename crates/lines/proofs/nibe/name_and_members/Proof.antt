@@ -1,4 +1,4 @@
--- `lines::nibe::rest` meets its contract, message by message.
+-- `lines::nibe::name_and_members` meets its contract, message by message.
 -- Assumes nothing.
 use mathlib.Core.Path.{sym, ap}
 use Rattle.puts.proofs.Laws.Puts.{_then_, puts-as}
@@ -8,8 +8,8 @@ use Rattle.messages.specs.Paper.Says.{ofNibe}
 use Rattle.messages.specs.declared.nibe.Nibe.{Nibe}
 use Rattle.lines.specs.Work.Put.{commaed, named}
 use borrow.Author.Needs.{needs}
-use Rattle.lines.proofs.nibe.rest.Statement.{statement}
-use Rattle.lines.proofs.nibe.rest.Tie as tie
+use Rattle.lines.proofs.nibe.name_and_members.Statement.{statement}
+use Rattle.lines.proofs.nibe.name_and_members.Tie as tie
 
 enum-known-message : tie.Need-enum-known-message
 enum-known-message c = search needs
@@ -132,8 +132,8 @@ returns-5 c =
     (c2 .number2 .ensures
     then last-put (c1 .hex .ensures))
 
-pub rest-spec : {M : Type 1} → statement M
-rest-spec =
+pub name-and-members-spec : {M : Type 1} → statement M
+name-and-members-spec =
     tie.close
     (tie.spec
     enum-known-message

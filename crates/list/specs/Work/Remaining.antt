@@ -1,4 +1,4 @@
--- A listing in pieces: what is left of it from a place of the capture on, what is put of it, and how long it is.
+-- A listing in pieces: what remains of it from a place of the capture on, what is put of it, and how long it is.
 -- Assumes nothing.
 use mathlib.Core.Bool.{Bool, true}
 use mathlib.Core.List.{List, _++_}
@@ -8,7 +8,7 @@ use lib.ListN.{length}
 use Rattle.frames.specs.Paper.Kinds.{known}
 use Rattle.frames.specs.Paper.Runs.{Run}
 use Rattle.frames.specs.Paper.Search.{Hit}
-use Rattle.puts.specs.Paper.Put.{Put, last}
+use Rattle.puts.specs.Paper.Put.{Put, largestPlace}
 use Rattle.puts.specs.Paper.Wrote.{RoomCause, Writes}
 use Rattle.puts.specs.Work.Right.{SizedRight, FitsRight}
 use Rattle.puts.specs.declared.Written.{Written}
@@ -19,16 +19,16 @@ pub record Listable (k : ℕ) (s : List ℕ) : Type 0 where
   pub is-kind : known k ≡ true
   pub short : length s ≤ mostInput
 
--- t is what is left behind `count` frames with `within` bytes: the lines of the frames that one search after the other finds from the
--- place on, and the last line of all
-pub record Rest (k : ℕ) (s : List ℕ) (place count within : ℕ) (t : List ℕ) : Type 0 where
+-- t is what remains of the listing behind `count` frames with `within` bytes: the lines of the frames that one search
+-- after the other finds from the place on, and the last line.
+pub record Remaining (k : ℕ) (s : List ℕ) (place count within : ℕ) (t : List ℕ) : Type 0 where
   pub frames : List Hit
   pub run : Run k s place frames
   pub lines : List ℕ
   pub each : Lines k s frames lines
   pub is : t ≡ lines ++ lastLine (count + length frames) (length s - (within + inside frames))
 
--- a loop's counts: so many frames with so many bytes lie before the place
+-- a loop's counts: `count` frames with `within` bytes lie before the place
 pub record Passed (s : List ℕ) (place count within : ℕ) : Type 0 where
   pub place-in : place ≤ length s
   pub few : count ≤ place
@@ -37,10 +37,10 @@ pub record Passed (s : List ℕ) (place count within : ℕ) : Type 0 where
 -- ---- how long it is
 
 -- the listing of a capture has n bytes
-abbrev pub Sized : ℕ → List ℕ → ℕ → Type 0
-Sized k s n = SizedRight (Lists k s) n
+abbrev pub SizedListing : ℕ → List ℕ → ℕ → Type 0
+SizedListing k s n = SizedRight (Lists k s) n
 
--- r tells whether a room of n bytes has room for it
+-- r is whether a room of n bytes has room for it room for it
 abbrev pub Fits : ℕ → List ℕ → ℕ → Bool → Type 0
 Fits k s n r = FitsRight (Lists k s) n r
 
@@ -48,10 +48,10 @@ Fits k s n r = FitsRight (Lists k s) n r
 pub record Roomy (k : ℕ) (s : List ℕ) (n : ℕ) : Type 0 where
   pub each : (t : List ℕ) → Lists k s t → length t ≤ n
 
--- a loop's turns so far: with whatever is left, the listing is so long
+-- a loop's turns so far: the listing is `sum` bytes longer than what remains of it
 pub record Sums (k : ℕ) (s : List ℕ) (sum place count within : ℕ) : Type 0 where
   pub passed : Passed s place count within
-  pub whole : (t : List ℕ) → Rest k s place count within t → Sized k s (sum + length t)
+  pub completes : (t : List ℕ) → Remaining k s place count within t → SizedListing k s (sum + length t)
 
 -- ---- what is put
 
@@ -61,13 +61,13 @@ pub record PutsLists (k : ℕ) (s room later : List ℕ) (next : ℕ) : Type 0 w
   pub lists : Lists k s text
   pub put : Put room later 0 next text
 
--- a loop's turns so far: the room has room for whatever is left, and that, put from here on, completes the listing
+-- a loop's turns so far: the room has room for what remains, and that, put from here on, completes the listing
 pub record Completes (k : ℕ) (s room room₀ : List ℕ) (next place count within : ℕ) : Type 0 where
   pub passed : Passed s place count within
-  pub slice : length room ≤ last
+  pub slice : length room ≤ largestPlace
   pub same : length room₀ ≡ length room
-  pub enough : (t : List ℕ) → Rest k s place count within t → next + length t ≤ length room
-  pub whole : (later : List ℕ) (behind : ℕ) (t : List ℕ) → Rest k s place count within t
+  pub enough : (t : List ℕ) → Remaining k s place count within t → next + length t ≤ length room
+  pub completes : (later : List ℕ) (behind : ℕ) (t : List ℕ) → Remaining k s place count within t
       → Put room₀ later next behind t → PutsLists k s room later behind
 
 -- r is the right answer, and `later` the right room afterwards, of a call that writes the listing of a capture

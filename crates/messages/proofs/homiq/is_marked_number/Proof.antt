@@ -1,4 +1,4 @@
--- `messages::homiq::is_numbered` meets its contract: the mark is compared, and the digits are read as the number that is written so.
+-- `messages::homiq::is_marked_number` meets its contract: the mark is compared, and the digits are read as the number that is written so.
 -- Assumes nothing.
 use mathlib.Core.Path.{refl, ap, subst}
 use native.Mathlib.Omega.{arith}
@@ -9,12 +9,12 @@ use borrow.Author.Needs.{needs}
 use denote.Ref.{now}
 use Rattle.digits.proofs.Laws.Reads.{answered, refused}
 use Rattle.digits.proofs.Laws.Tests.{told, untold}
-use Rattle.digits.specs.Paper.Answers.{wholeRefusal, ReadsDecimal}
+use Rattle.digits.specs.Paper.Answers.{naturalRefusal, ReadsDecimal}
 use Rattle.digits.specs.Paper.Bytes.{part}
 use Rattle.digits.specs.Paper.Read.{fails}
 use Rattle.messages.proofs.Laws.HomiqLook.{numbered-long, numbered-mark, numbered-digits, numbered-by}
-use Rattle.messages.proofs.homiq.is_numbered.Statement.{statement}
-use Rattle.messages.proofs.homiq.is_numbered.Tie as tie
+use Rattle.messages.proofs.homiq.is_marked_number.Statement.{statement}
+use Rattle.messages.proofs.homiq.is_marked_number.Tie as tie
 
 returns : tie.Need-returns
 returns c = fails (λ q. omega (arith, numbered-long q, c .if1 .taken))
@@ -32,10 +32,10 @@ returns-3 c =
 returns-4 : tie.Need-returns-4
 returns-4 c =
     let s = c .before .before .before .before .before .before .before .before .before .before in
-    fails (λ q. refused (lit< tt) (c .before .before .number-of .ensures) (ap wholeRefusal (c .enum-told .given .1)) (q .number) (omega (arith, q .few, s .fits .most)) (numbered-digits q))
+    fails (λ q. refused (lit< tt) (c .before .before .number-of .ensures) (ap naturalRefusal (c .enum-told .given .1)) (q .number) (omega (arith, q .few, s .fits .most)) (numbered-digits q))
 
-pub is-numbered-spec : {M : Type 1} → statement M
-is-numbered-spec =
+pub is-marked-number-spec : {M : Type 1} → statement M
+is-marked-number-spec =
     tie.close
     (tie.spec
     returns

@@ -1,4 +1,4 @@
--- `lines::nest::rest` meets its contract, message by message.
+-- `lines::nest::name_and_members` meets its contract, message by message.
 -- Assumes nothing.
 use mathlib.Core.Path.{sym, ap, _∙_}
 use lib.IntN.{ℤ}
@@ -8,10 +8,10 @@ use Rattle.puts.proofs.Laws.Puts.{puts-as}
 use Rattle.messages.specs.Paper.Message.{climate}
 use Rattle.lines.specs.Paper.Line.{members}
 use Rattle.messages.specs.declared.nest.Response.{Response}
-use Rattle.lines.specs.Work.Put.{commaed, named, responseRest}
+use Rattle.lines.specs.Work.Put.{commaed, named, responseNameAndMembers}
 use borrow.Author.Needs.{needs}
-use Rattle.lines.proofs.nest.rest.Statement.{statement}
-use Rattle.lines.proofs.nest.rest.Tie as tie
+use Rattle.lines.proofs.nest.name_and_members.Statement.{statement}
+use Rattle.lines.proofs.nest.name_and_members.Tie as tie
 
 enum-known-message : tie.Need-enum-known-message
 enum-known-message c = search needs
@@ -59,52 +59,52 @@ same-length : tie.Need-same-length
 same-length c = search needs
 
 returns : tie.Need-returns
-unfolding responseRest
+unfolding responseNameAndMembers
 returns c =
     let t = c .before .before .before .before .before .message .given .0 .0 in
     let h = c .before .before .before .before .before .message .given .0 .1 .0 in
     puts-as
     (ap (λ (z : ℤ). named (climate z h)) (toZ-ofZ w16 t (record { sfits = c .before .before .before .before .known-told .given .0 .1 }))
-    ∙ sym (ap (λ (e : Response). responseRest e (c .before .before .before .before .before .before .before .before .before .args .payload .now)) (c .before .before .before .before .before .message .given .1)))
+    ∙ sym (ap (λ (e : Response). responseNameAndMembers e (c .before .before .before .before .before .before .before .before .before .args .payload .now)) (c .before .before .before .before .before .message .given .1)))
     (c .before .before .climate .ensures)
 
 same-length-2 : tie.Need-same-length-2
 same-length-2 c = search needs
 
 returns-2 : tie.Need-returns-2
-unfolding responseRest
-returns-2 c = puts-as (sym (ap (λ (e : Response). responseRest e (c .before .before .before .before .before .before .before .before .args .payload .now)) (c .before .before .before .before .enum-told .given .1))) (c .before .before .state .ensures)
+unfolding responseNameAndMembers
+returns-2 c = puts-as (sym (ap (λ (e : Response). responseNameAndMembers e (c .before .before .before .before .before .before .before .before .args .payload .now)) (c .before .before .before .before .enum-told .given .1))) (c .before .before .state .ensures)
 
 same-length-3 : tie.Need-same-length-3
 same-length-3 c = search needs
 
 returns-3 : tie.Need-returns-3
-unfolding responseRest named members commaed
-returns-3 c = puts-as (sym (ap (λ (e : Response). responseRest e (c .before .before .before .before .before .before .before .before .before .args .payload .now)) (c .before .before .before .before .before .enum-told2 .given .1))) (c .before .before .bytes .ensures)
+unfolding responseNameAndMembers named members commaed
+returns-3 c = puts-as (sym (ap (λ (e : Response). responseNameAndMembers e (c .before .before .before .before .before .before .before .before .before .args .payload .now)) (c .before .before .before .before .before .enum-told2 .given .1))) (c .before .before .bytes .ensures)
 
 same-length-4 : tie.Need-same-length-4
 same-length-4 c = search needs
 
 returns-4 : tie.Need-returns-4
-unfolding responseRest named members commaed
-returns-4 c = puts-as (sym (ap (λ (e : Response). responseRest e (c .before .before .before .before .before .before .before .before .before .args .payload .now)) (c .before .before .before .before .before .enum-told3 .given .1))) (c .before .before .bytes2 .ensures)
+unfolding responseNameAndMembers named members commaed
+returns-4 c = puts-as (sym (ap (λ (e : Response). responseNameAndMembers e (c .before .before .before .before .before .before .before .before .before .args .payload .now)) (c .before .before .before .before .before .enum-told3 .given .1))) (c .before .before .bytes2 .ensures)
 
 same-length-5 : tie.Need-same-length-5
 same-length-5 c = search needs
 
 returns-5 : tie.Need-returns-5
-unfolding responseRest
-returns-5 c = puts-as (sym (ap (λ (e : Response). responseRest e (c .before .before .before .before .before .before .before .before .before .args .payload .now)) (c .before .before .before .before .before .message2 .given .1))) (c .before .before .text .ensures)
+unfolding responseNameAndMembers
+returns-5 c = puts-as (sym (ap (λ (e : Response). responseNameAndMembers e (c .before .before .before .before .before .before .before .before .before .args .payload .now)) (c .before .before .before .before .before .message2 .given .1))) (c .before .before .text .ensures)
 
 same-length-6 : tie.Need-same-length-6
 same-length-6 c = search needs
 
 returns-6 : tie.Need-returns-6
-unfolding responseRest
-returns-6 c = puts-as (sym (ap (λ (e : Response). responseRest e (c .before .before .before .before .before .before .before .before .before .args .payload .now)) (c .before .before .before .before .before .message3 .given .1))) (c .before .before .response .ensures)
+unfolding responseNameAndMembers
+returns-6 c = puts-as (sym (ap (λ (e : Response). responseNameAndMembers e (c .before .before .before .before .before .before .before .before .before .args .payload .now)) (c .before .before .before .before .before .message3 .given .1))) (c .before .before .response .ensures)
 
-pub rest-spec : {M : Type 1} → statement M
-rest-spec =
+pub name-and-members-spec : {M : Type 1} → statement M
+name-and-members-spec =
     tie.close
     (tie.spec
     enum-known-message

@@ -17,12 +17,12 @@ use Rattle.frames.specs.Paper.Search.{Hit, SearchCause, no-frame, no-kind, no-p
 use Rattle.frames.specs.declared.Found.the-variants.{At, Refused}
 use Rattle.lines.specs.Paper.Answers.{LineOf}
 use Rattle.list.specs.Paper.Listing.{none, line, inside, lastLine, Lists}
-use Rattle.list.specs.Work.Rest.{Rest}
+use Rattle.list.specs.Work.Remaining.{Remaining}
 
 -- ---- what is left
 
 -- all of it
-pub from-start : {k : ℕ} {s t : List ℕ} → Rest k s 0 0 0 t → Lists k s t
+pub from-start : {k : ℕ} {s t : List ℕ} → Remaining k s 0 0 0 t → Lists k s t
 from-start {k} {s} {t} r =
     let n : 0 + length (r .frames) ≡ length (r .frames) = omega arith in
     let m : length s - (0 + inside (r .frames)) ≡ length s - inside (r .frames) = omega arith in
@@ -31,7 +31,7 @@ from-start {k} {s} {t} r =
 module _ {k : ℕ} {s : List ℕ} {place : ℕ} where
   -- a found frame's line, and what is left behind it
   pub found-line : {start len from to count within : ℕ} {u t : List ℕ} → Searches k s place (At start len from to) → LineOf k (part start (start + len) s) start u
-      → Rest k s (start + len) (count + 1) (within + len) t → Rest k s place count within (u ++ t)
+      → Remaining k s (start + len) (count + 1) (within + len) t → Remaining k s place count within (u ++ t)
   unfolding inside
   found-line {start} {len} {from} {to} {count} {within} {u} {t} a l r =
       let v : Hit = record { start = start; len = len; from = from; to = to } in
@@ -48,7 +48,7 @@ module _ {k : ℕ} {s : List ℕ} {place : ℕ} where
       }
 
   -- no frame is left
-  pub last-left : {count within : ℕ} → Searches k s place (Refused NoFrame) → Rest k s place count within (lastLine count (length s - within))
+  pub last-left : {count within : ℕ} → Searches k s place (Refused NoFrame) → Remaining k s place count within (lastLine count (length s - within))
   unfolding inside
   last-left {count} {within} a =
       let n : count ≡ count + length {A = Hit} [] = omega arith in
