@@ -24,6 +24,7 @@ _Static_assert(WINDOW_BYTES > BOLSTERWEFT_FRAME_MOST, "the window must hold more
 static const char usage_text[] =
     "usage: bolsterweft list KIND < CAPTURE           a line of JSON for each frame, as the capture comes in, and a last line\n"
     "       bolsterweft frame KIND < FRAME            whether it is one frame: where its payload is, and the payload in hex\n"
+    "       bolsterweft why KIND PLACE [FILE]         the first test that a frame at that place of a capture fails\n"
     "       bolsterweft acknowledge < FRAME           the acknowledgement of a Homiq frame\n"
     "       bolsterweft text RAW DECIMALS             the text of a raw number\n"
     "       bolsterweft number TEXT                   the raw number and the decimals of a text\n"
@@ -36,7 +37,8 @@ static const char usage_text[] =
     "       bolsterweft book add FILE KIND < FRAME    a frame as the book's last entry\n"
     "       bolsterweft book list FILE                a line of JSON for each entry\n"
     "       bolsterweft version                       the versions of header and archive\n"
-    "KIND is nikobus, nest-command, nest-response, nibe or homiq, or its number 1 to 5.\n";
+    "KIND is nikobus, nest-command, nest-response, nibe or homiq, or its number 1 to 5.\n"
+    "Without FILE the capture of `why` is read from standard input. It may have 65,536 bytes.\n";
 
 static int misused(const char *what, const char *word) {
     fprintf(stderr, "bolsterweft: %s: %s\n%s", what, word, usage_text);
@@ -74,15 +76,23 @@ static int read_int64(const char *word, int64_t *value) {
     return 1;
 }
 
-/* strtoul also takes a minus, and answers a large number then. unsigned long has 64 bits, so the range is tested too. */
-static int read_uint32(const char *word, uint32_t *value) {
+/* strtoul also takes a minus, and answers a large number then. unsigned long is as wide as size_t: 64 bits. */
+static int read_size(const char *word, size_t *value) {
     char *end;
     unsigned long number;
     if (!is_digit(word[0]))
         return 0;
     errno = 0;
     number = strtoul(word, &end, 10);
-    if (errno != 0 || *end != '\0' || number > UINT32_MAX)
+    if (errno != 0 || *end != '\0')
+        return 0;
+    *value = number;
+    return 1;
+}
+
+static int read_uint32(const char *word, uint32_t *value) {
+    size_t number;
+    if (!read_size(word, &number) || number > UINT32_MAX)
         return 0;
     *value = (uint32_t)number;
     return 1;
@@ -265,9 +275,19 @@ static int read_all(FILE *file, const char *name, uint8_t *bytes, size_t most, s
     return DONE;
 }
 
-static int read_frame(uint8_t *frame, size_t *length) {
-    return read_all(stdin, "standard input", frame, BOLSTERWEFT_FRAME_MOST, length);
+static int read_file(const char *path, uint8_t *bytes, size_t most, size_t *length) {
+    int status;
+    FILE *file = fopen(path, "rb");
+    if (file == NULL)
+        return failed(path);
+    status = read_all(file, path, bytes, most, length);
+    fclose(file);
+    return status;
 }
+
+static int read_input(uint8_t *bytes, size_t most, size_t *length) { return read_all(stdin, "standard input", bytes, most, length); }
+
+static int read_frame(uint8_t *frame, size_t *length) { return read_input(frame, BOLSTERWEFT_FRAME_MOST, length); }
 
 static int show_frame(uint32_t kind) {
     uint8_t frame[BOLSTERWEFT_FRAME_MOST];
@@ -281,6 +301,24 @@ static int show_frame(uint32_t kind) {
     printf("length %lu payload at %lu length %lu ", (unsigned long)length, (unsigned long)payload.payload_start,
            (unsigned long)payload.payload_length);
     print_hex(frame + payload.payload_start, payload.payload_length);
+    putchar('\n');
+    return DONE;
+}
+
+/* The verdict on one place of a capture. The values say what is wrong if a check failed; otherwise both are 0. */
+static int print_why(uint32_t kind, size_t place, const char *path) {
+    static const char *const tests[] = {"none", "start", "length", "fields", "first check", "second check"};
+    static uint8_t capture[BOLSTERWEFT_INPUT_MOST];
+    size_t length;
+    struct bolsterweft_verdict verdict;
+    if ((path ? read_file(path, capture, sizeof capture, &length) : read_input(capture, sizeof capture, &length)) != DONE)
+        return FAILED;
+    verdict = bolsterweft_why(kind, capture, length, place);
+    if (verdict.refusal != 0)
+        return refused("why", verdict.refusal);
+    printf("%s", tests[verdict.test]);
+    if (verdict.found != verdict.expected)
+        printf(": found %u, expected %u", (unsigned)verdict.found, (unsigned)verdict.expected);
     putchar('\n');
     return DONE;
 }
@@ -410,15 +448,7 @@ static int finish_file(struct new_file *f, const uint8_t *bytes, size_t length, 
     return DONE;
 }
 
-static int read_book(const char *path, uint8_t *book, size_t *length) {
-    int status;
-    FILE *file = fopen(path, "rb");
-    if (file == NULL)
-        return failed(path);
-    status = read_all(file, path, book, BOLSTERWEFT_BOOK_MOST, length);
-    fclose(file);
-    return status;
-}
+static int read_book(const char *path, uint8_t *book, size_t *length) { return read_file(path, book, BOLSTERWEFT_BOOK_MOST, length); }
 
 static int book_new(const char *path) {
     static const uint8_t empty[] = {0, 0, 6, 0, 0, 0};
@@ -476,6 +506,14 @@ static int do_list(char **words) {
 static int do_frame(char **words) {
     uint32_t kind;
     return read_kind(words[0], &kind) ? show_frame(kind) : misused("not a kind", words[0]);
+}
+
+static int do_why(char **words) {
+    uint32_t kind;
+    size_t place;
+    if (!read_kind(words[0], &kind))
+        return misused("not a kind", words[0]);
+    return read_size(words[1], &place) ? print_why(kind, place, words[2]) : misused("not a place", words[1]);
 }
 
 static int do_acknowledge(char **words) {
@@ -556,10 +594,11 @@ static const struct command {
     int least, most; /* words behind the name */
     int (*run)(char **words);
 } commands[] = {
-    {"list", 1, 1, do_list},         {"frame", 1, 1, do_frame},     {"acknowledge", 0, 0, do_acknowledge},
-    {"text", 2, 2, do_text},         {"number", 1, 1, do_number},   {"value", 3, 3, do_value},
-    {"value-of", 3, 3, do_value_of}, {"fits", 1, 1, do_fits},       {"panel", 1, 1, do_panel},
-    {"climate", 2, 2, do_climate},   {"book", 2, 3, do_book},       {"version", 0, 0, do_version},
+    {"list", 1, 1, do_list},               {"frame", 1, 1, do_frame},       {"why", 2, 3, do_why},
+    {"acknowledge", 0, 0, do_acknowledge}, {"text", 2, 2, do_text},         {"number", 1, 1, do_number},
+    {"value", 3, 3, do_value},             {"value-of", 3, 3, do_value_of}, {"fits", 1, 1, do_fits},
+    {"panel", 1, 1, do_panel},             {"climate", 2, 2, do_climate},   {"book", 2, 3, do_book},
+    {"version", 0, 0, do_version},
 };
 
 static int run(int count, char **words) {

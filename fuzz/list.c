@@ -1,9 +1,10 @@
-/* The listing, the search, the lines and the acknowledgement against those in plain C. The input is that of the program `listing`. */
+/* The listing, the search, the verdict, the lines and the acknowledgement against those in plain C. The input is that of the program
+   `listing`. */
 #include "../tests/lines_in_c.h"
 #include "fenced.h"
 #include "mend.h"
 
-enum { LONG = 4096 };
+enum { LONG = 4096, PLACES = 512 };
 
 static u8 in_c[BOLSTERWEFT_LIST_ROOM + 64];
 
@@ -37,18 +38,34 @@ static void try_one_frame(u32 kind, const u8 *s, usize n) {
     agree(p.refusal == c.refusal && p.payload_start == c.payload_start && p.payload_length == c.payload_length, "one frame");
 }
 
-/* Bytes that may be one frame, alone behind their fence: whether they are, their line and their acknowledgement, in rooms that just suffice
-   and in rooms that do not. */
+static void try_why(u32 kind, const u8 *s, usize n, usize place) {
+    struct bolsterweft_verdict v = bolsterweft_why(kind, s, n, place), c = why_in_c(kind, s, n, place);
+    agree(v.refusal == c.refusal && v.test == c.test && v.found == c.found && v.expected == c.expected, "the verdict on a place");
+}
+
+/* Bytes that may be one frame, alone behind their fence: whether they are, the verdict on them, their line and their acknowledgement, in
+   rooms that just suffice and in rooms that do not. */
 static void try_bytes(u32 kind, const u8 *s, usize n, usize at) {
     const u8 *f = fenced_copy(2, s, n);
     usize length = line_in_c(kind, f, n, at, in_c, sizeof in_c).length, answer = acknowledge_in_c(f, n, in_c, sizeof in_c).length;
     try_one_frame(kind, f, n);
+    try_why(kind, f, n, 0);
     try_line(kind, f, n, at, length);
     try_acknowledge(f, n, answer);
     if (length)
         try_line(kind, f, n, at, length - 1);
     if (answer)
         try_acknowledge(f, n, answer - 1);
+}
+
+/* The verdict on places one behind the other; of a capture that has more of them, from a place on that the capture chooses. */
+static void try_places(u32 kind, const u8 *s, usize m) {
+    usize from = m > PLACES ? s[m / 2] * m / 256 : 0;
+    for (usize place = from; place <= m && place < from + PLACES; place++)
+        try_why(kind, s, m, place);
+    try_why(kind, s, m, m);
+    try_why(kind, s, m, m + 1);
+    try_why(kind + 256, s, m, 0);
 }
 
 /* Of a long capture some frames stand for all: those from a place on. */
@@ -83,8 +100,11 @@ int LLVMFuzzerTestOneInput(const u8 *data, usize n) {
         const u8 *input = fenced_copy(0, data, n);
         try_list(input, n, length);
         try_list(input, n, length - 1);
-        if (n >= 2 && input[0] >= '1' && input[0] <= '5')
-            try_frames((u32)(data[0] - '0'), fenced_copy(0, data + 2, n - 2), n - 2);
+        if (n >= 2 && input[0] >= '1' && input[0] <= '5') {
+            const u8 *capture = fenced_copy(0, data + 2, n - 2);
+            try_frames((u32)(data[0] - '0'), capture, n - 2);
+            try_places((u32)(data[0] - '0'), capture, n - 2);
+        }
     }
     return 0;
 }

@@ -51,7 +51,7 @@ extern "C" {
 
 /* The version that this header is of: 10000 * major + 100 * minor + patch. Compare it with `bolsterweft_version()` once, as the
  * program starts: if they differ, header and archive are not a pair, and the structs below may not be those of the archive. */
-#define BOLSTERWEFT_VERSION 10100
+#define BOLSTERWEFT_VERSION 10200
 
 /* The kinds: a bus and a direction. */
 enum bolsterweft_kind {
@@ -105,7 +105,7 @@ enum bolsterweft_size {
  *
  *     if (bolsterweft_version() != BOLSTERWEFT_VERSION)
  *         abort();
- *     printf("%u\n", (unsigned)bolsterweft_version()); // 10100
+ *     printf("%u\n", (unsigned)bolsterweft_version()); // 10200
  */
 uint32_t bolsterweft_version(void);
 
@@ -137,7 +137,7 @@ struct bolsterweft_found {
  *   3  if the place is beyond buffer_length.
  *   1  if no frame starts at or after the place, also if the place is buffer_length.
  * Cost: linear in the bytes searched. Each false start among them costs at most one frame's length more.
- * Stack: 320 bytes.
+ * Stack: 256 bytes.
  *
  * Example:
  *
@@ -164,7 +164,7 @@ struct bolsterweft_payload {
  *   2  if the kind is not 1 to 5.
  *   5  if the bytes are not one frame.
  * Cost: linear in frame_length.
- * Stack: 256 bytes.
+ * Stack: 192 bytes.
  *
  * Example:
  *
@@ -173,6 +173,47 @@ struct bolsterweft_payload {
  *         printf("%zu %zu\n", p.payload_start, p.payload_length); // 3 2
  */
 struct bolsterweft_payload bolsterweft_one_frame(uint32_t kind, const uint8_t *frame, size_t frame_length);
+
+/* The tests of a frame, in their order. */
+enum bolsterweft_test {
+    BOLSTERWEFT_TEST_NONE = 0,   /* no test failed: a frame of the kind stands there */
+    BOLSTERWEFT_TEST_START = 1,  /* the whole start mark is not there */
+    BOLSTERWEFT_TEST_LENGTH = 2, /* the length is not allowed, or there are too few bytes (Homiq has no such test) */
+    BOLSTERWEFT_TEST_FIELDS = 3, /* a digit, a field, a Nibe command, CR or CR LF is not as it must be */
+    BOLSTERWEFT_TEST_FIRST = 4,  /* the first check: Nikobus' CRC16, and the only one of the other buses */
+    BOLSTERWEFT_TEST_SECOND = 5  /* the second check: Nikobus' CRC8 */
+};
+
+/* The test that failed first, of `enum bolsterweft_test`. If it is a check, `found` is the value that stands in the frame, and
+ * `expected` the one that is worked out; otherwise both are 0. */
+struct bolsterweft_verdict {
+    uint32_t refusal;
+    uint32_t test;
+    uint32_t found;
+    uint32_t expected;
+};
+
+/* Tells which test a frame of the kind that begins at the place fails first.
+ *
+ *   kind                   enum bolsterweft_kind
+ *   buffer, buffer_length  the bytes
+ *   place                  where the frame should begin
+ *
+ * Answers: the test and, if it is a check, its two values. It is BOLSTERWEFT_TEST_NONE exactly if `bolsterweft_search` from that
+ * place finds a frame at that place.
+ * Refuses, in this order:
+ *   2  if the kind is not 1 to 5.
+ *   3  if the place is beyond buffer_length.
+ * Cost: linear in the frame's length.
+ * Stack: 128 bytes.
+ *
+ * Example:
+ *
+ *     struct bolsterweft_verdict v = bolsterweft_why(BOLSTERWEFT_NIBE, capture, sizeof capture, 0);
+ *     if (v.refusal == 0)
+ *         printf("%u %u %u\n", (unsigned)v.test, (unsigned)v.found, (unsigned)v.expected); // 2 0 0
+ */
+struct bolsterweft_verdict bolsterweft_why(uint32_t kind, const uint8_t *buffer, size_t buffer_length, size_t place);
 
 /* How many bytes were written, from the front of the room on. No NUL is behind them. */
 struct bolsterweft_count {
@@ -190,7 +231,7 @@ struct bolsterweft_count {
  *   5  if the bytes are not one Homiq frame, or its type is `a`.
  *   4  if the room is too short.
  * Cost: linear in frame_length.
- * Stack: 320 bytes.
+ * Stack: 384 bytes.
  *
  * Example:
  *
@@ -272,7 +313,7 @@ struct bolsterweft_listed bolsterweft_line_next(uint32_t kind, const uint8_t *ca
  * Refuses, in this order:
  *   4  if the room is too short.
  * Cost: that of searching the capture; twice that if the room is shorter than what is always enough.
- * Stack: 704 bytes.
+ * Stack: 640 bytes.
  *
  * Example:
  *
@@ -651,6 +692,12 @@ BOLSTERWEFT_SIZE(bolsterweft_payload, 24);
 BOLSTERWEFT_AT(bolsterweft_payload, refusal, 0);
 BOLSTERWEFT_AT(bolsterweft_payload, payload_start, 8);
 BOLSTERWEFT_AT(bolsterweft_payload, payload_length, 16);
+
+BOLSTERWEFT_SIZE(bolsterweft_verdict, 16);
+BOLSTERWEFT_AT(bolsterweft_verdict, refusal, 0);
+BOLSTERWEFT_AT(bolsterweft_verdict, test, 4);
+BOLSTERWEFT_AT(bolsterweft_verdict, found, 8);
+BOLSTERWEFT_AT(bolsterweft_verdict, expected, 12);
 
 BOLSTERWEFT_SIZE(bolsterweft_count, 16);
 BOLSTERWEFT_AT(bolsterweft_count, refusal, 0);

@@ -6,6 +6,11 @@ u32 bolsterweft_version(void) { return BOLSTERWEFT_VERSION; }
 
 struct bolsterweft_found bolsterweft_search(u32 kind, const u8 *s, usize n, usize place) { return search_in_c(kind, s, n, place); }
 
+struct bolsterweft_verdict bolsterweft_why(u32 kind, const u8 *s, usize n, usize place) {
+    struct bolsterweft_verdict w = why_in_c(kind, s, n, place);
+    return w;
+}
+
 struct bolsterweft_payload bolsterweft_one_frame(u32 kind, const u8 *f, usize n) {
     struct bolsterweft_payload p = one_frame_in_c(kind, f, n);
     return p;

@@ -32,6 +32,9 @@ static void try_empty_bytes(const u8 *p) {
     for (u32 kind = 1; kind <= 5; kind++) {
         expect("a search in nothing", bolsterweft_search(kind, p, 0, 0).refusal == 1);
         expect("a search in nothing, from behind it", bolsterweft_search(kind, p, 0, 1).refusal == 3);
+        struct bolsterweft_verdict v = bolsterweft_why(kind, p, 0, 0);
+        expect("nothing has no start", !v.refusal && v.test == AT_START && !v.found && !v.expected);
+        expect("no verdict behind nothing", bolsterweft_why(kind, p, 0, 1).refusal == 3);
         expect("nothing is no frame", bolsterweft_one_frame(kind, p, 0).refusal == 5);
         expect("nothing has no line", bolsterweft_line(kind, p, 0, 0, room, 100).refusal == 5);
         expect("no line in nothing", bolsterweft_line_next(kind, p, 0, 0, room, 100).refusal == 1);
@@ -81,6 +84,8 @@ static void try_frames(void) {
             usize n = one_of_the_longest(f, kind, which);
             most = n > most ? n : most;
             expect("a longest frame", bolsterweft_search(kind, f, n, 0).length == n);
+            expect("its verdict", bolsterweft_why(kind, f, n, 0).test == NO_TEST);
+            expect("its verdict without the last byte", bolsterweft_why(kind, f, n - 1, 0).test == (kind == 5 ? AT_FIELDS : AT_LENGTH));
         }
         expect("the longest frame", most == lengths[kind] && most <= BOLSTERWEFT_FRAME_MOST);
     }

@@ -1,7 +1,8 @@
 #!/usr/bin/env python3
 """The captures of examples/, made from the bytes that the bus documents print, with the check values that document 01's rules give.
 
-tests/examples.py --write   writes examples/*.bin, their listings examples/*.json and examples/README.md
+tests/examples.py --write   writes examples/*.bin, their listings examples/*.json, what bin/why prints of them (examples/*.why) and
+                            examples/README.md
 tests/examples.py --check   whether these files are what this script writes
 """
 import os
@@ -9,6 +10,7 @@ import sys
 
 sys.dont_write_bytecode = True  # or Python leaves a folder beside those that are imported
 
+import faults
 import lines
 import paper
 import table
@@ -139,6 +141,17 @@ HOMIQ = [
     (paper.homiq(b"O.3;1;0;0H;512;s"), "no frame: ID 512", "ours"),
     (paper.homiq(b"O.3;0;0;0H;12;s").replace(b"\r\n", b"\n"), "no frame: no CR", "ours"),
 ]
+# Nikobus, with one fault of each sort: what is said of a piece that is no frame begins with the test that it fails first
+FAULTS = [
+    (printed("$10110000B8CF9D"), "link: the handshake", "000, 4, worked example"),
+    (printed("10110000B8CF9D"), "start: `$` is lost, so `bin/why` has no line for it", "ours, from the worked example"),
+    (printed("$11110000B8CF9D"), "length: LL is odd", "ours, from the worked example"),
+    (printed("$10110000b8cf9d"), "fields: lower case", "ours, from the worked example"),
+    (printed("$10110000B8CE9D"), "first: CRC16 wrong", "ours, from the worked example"),
+    (printed("$10110000B8CF9C"), "second: CRC8 wrong", "ours, from the worked example"),
+    (printed("#N4ECB1A"), "press: a button", "000, 5.2, example 1"),
+    (b"$1E150747FF", "length: cut off", "000, 5.1, example 1, its beginning"),
+]
 # by kind: the file's name, how a reader knows the bus, and what stands there
 CAPTURES = [
     ("nikobus", "Nikobus", NIKOBUS),
@@ -171,7 +184,9 @@ def readme():
     yield "# Captures to try the listing on"
     yield ""
     yield "One for each bus and direction. `bin/list nibe examples/nibe.bin` lists one; what it prints is in the file of the same name with"
-    yield "`.json`. The bytes are those that the bus documents print. If a document's check value is wrong by its own rule, the right one stands"
+    yield "`.json`. What `bin/why nibe examples/nibe.bin` prints is in the one with `.why`."
+    yield ""
+    yield "The bytes are those that the bus documents print. If a document's check value is wrong by its own rule, the right one stands"
     yield "here. Some of the wrong ones stand here too, and noise, and the listing passes over them. `tests/examples.py --write` makes these"
     yield "files, this one too."
     for kind, (name, bus, pieces) in enumerate(CAPTURES, 1):
@@ -179,6 +194,12 @@ def readme():
         yield "## %s.bin: %s (kind %d)" % (name, bus, kind)
         yield ""
         yield from rows_of(kind, pieces)
+    yield ""
+    yield "## faults.bin: Nikobus (kind 1), one fault of each sort"
+    yield ""
+    yield "`bin/why nikobus examples/faults.bin` says what is wrong, and prints what is in faults.why."
+    yield ""
+    yield from rows_of(1, FAULTS)
 
 
 def files():
@@ -187,6 +208,10 @@ def files():
         capture = b"".join(data for data, _, _ in pieces)
         yield name + ".bin", capture
         yield name + ".json", lines.listing(b"%d\n" % kind + capture)
+        yield name + ".why", faults.through(kind, capture)
+    capture = b"".join(data for data, _, _ in FAULTS)
+    yield "faults.bin", capture
+    yield "faults.why", faults.through(1, capture)
     yield "README.md", "".join(line + "\n" for line in readme()).encode()
 
 
@@ -201,6 +226,11 @@ def as_said():
             yield "%s at %d: %s" % (name, at, what), what.split(":")[0] == said
             at += len(data)
         yield "%s: frames that are no piece" % name, not found
+    at, capture = 0, b"".join(data for data, _, _ in FAULTS)
+    for data, what, _ in FAULTS:
+        test = paper.why(1, capture, at)[0]
+        yield "faults at %d: %s" % (at, what), what.split(":")[0] == (table.decode(1, data)[0] if test == "none" else test)
+        at += len(data)
 
 
 def stored(name):

@@ -219,6 +219,16 @@ static void search(void) {
     answer(f.refusal, 4, (int64_t)f.start, (int64_t)f.length, (int64_t)f.payload_start, (int64_t)f.payload_length);
 }
 
+static void why(void) {
+    uint32_t kind = u32();
+    read_bytes(&first);
+    size_t place = size();
+    if (!complete())
+        return;
+    struct bolsterweft_verdict v = bolsterweft_why(kind, first.at, first.length, place);
+    answer(v.refusal, 3, v.test, v.found, v.expected, 0);
+}
+
 static void one_frame(void) {
     uint32_t kind = u32();
     read_bytes(&first);
@@ -366,10 +376,10 @@ static const struct {
     const char *name;
     void (*run)(void);
 } calls[] = {
-    {"search", search},         {"one_frame", one_frame}, {"acknowledge", acknowledge}, {"line", write_line},       {"line_next", line_next},
-    {"list", list},             {"text", text},           {"number", number},           {"value", value},           {"value_read", value_read},
-    {"fits", fits},             {"panel", panel},         {"climate", climate},         {"book_open", book_open},   {"book_entry", book_entry},
-    {"book_line", book_line},   {"book_list", book_list}, {"book_add", book_add},
+    {"search", search},         {"why", why},             {"one_frame", one_frame}, {"acknowledge", acknowledge}, {"line", write_line},
+    {"line_next", line_next},   {"list", list},           {"text", text},           {"number", number},           {"value", value},
+    {"value_read", value_read}, {"fits", fits},           {"panel", panel},         {"climate", climate},         {"book_open", book_open},
+    {"book_entry", book_entry}, {"book_line", book_line}, {"book_list", book_list}, {"book_add", book_add},
 };
 
 static void run(void) {

@@ -540,9 +540,8 @@ def write(path, data):
         f.write(data)
 
 
-def run(cases):
-    """What the program writes, for each case; on Arm under the kit's emulator. What it says on standard error comes behind that."""
-    asked = program()
+def run(cases, asked):
+    """What a program writes, for each case; on Arm under the kit's emulator. What it says on standard error comes behind that."""
     os.makedirs(os.path.join(ROOT, "target"), exist_ok=True)
     with tempfile.TemporaryDirectory(dir=os.path.join(ROOT, "target"), prefix="listing-") as folder:
         for i, case in enumerate(cases):
@@ -610,7 +609,7 @@ def compare(cases, answers, listings):
 def one(path):
     """A single input."""
     case = Case(path, read(path))
-    written, expected = run([case])[0], lines.listing(case.given)
+    written, expected = run([case], program())[0], lines.listing(case.given)
     print(first_difference(expected, written))
     tests, wrong = compare([case], [written], [expected])
     print("%d passed, %d failed" % (len(tests) - len(wrong), len(wrong)))
@@ -628,7 +627,7 @@ def main(arguments):
     cases = [*fixed_cases(), *(case for seed in seeds for case in random_cases(seed))]
     expected = [lines.listing(case.given) for case in cases]
     print("seeds %s, %d inputs, %d lines" % (" ".join(map(str, seeds)), len(cases), sum(text.count(b"\n") for text in expected)))
-    tests, wrong = compare(cases, run(cases), expected)
+    tests, wrong = compare(cases, run(cases, program()), expected)
     mine = list(own(expected))
     unheld = [what for what, is_so in mine if not is_so]
     for what in unheld:

@@ -1,4 +1,5 @@
-"""Digits, numbers, check values and frames of document 01, from the documents alone: nothing here is taken from the Rattle code.
+"""Digits, numbers, check values and frames of document 01, and the verdicts of document 02 (K1), from the documents alone: nothing here is
+taken from the Rattle code.
 
 What a public function is asked is answered here with what it answers, a tuple of values or the bytes that it writes, or with the
 refusal's number. Whether a lent room is long enough is not looked at here.
@@ -149,15 +150,25 @@ COMMANDS = bytes.fromhex("606268696a6b6c")
 PREAMBLES = {2: bytes.fromhex("d5aa96"), 3: bytes.fromhex("d5d5aa96")}
 
 
+def link_values(found):
+    """Of a match of LINK: CRC16's value that stands there and the one worked out, then CRC8's."""
+    _, digits, crc16, crc8 = found.groups()
+    yield int(crc16, 16), value("nikobus crc16", bytes.fromhex(digits.decode()))
+    yield int(crc8, 16), value("nikobus crc8", found.string[found.start() : found.start(4)])
+
+
+def homiq_values(found):
+    """Of a match of HOMIQ: the CRC that stands there, and the one worked out."""
+    return int(found.group(8)), value("homiq crc", b"".join(found.group(*range(2, 8))))
+
+
 def nikobus_at(s, at):
     """A frame's end and its payload's span; LL is compared with the length that the form has."""
     found = LINK.match(s, at)
     if found:
-        ll, digits, crc16, crc8 = found.groups()
         length = found.end() - at
-        right = int(ll, 16) == length and 0x0C <= length <= 0xFE
-        right = right and int(crc16, 16) == value("nikobus crc16", bytes.fromhex(digits.decode()))
-        right = right and int(crc8, 16) == value("nikobus crc8", s[at : found.start(4)])
+        right = int(found.group(1), 16) == length and 0x0C <= length <= 0xFE
+        right = right and all(stands == worked_out for stands, worked_out in link_values(found))
         return (found.end(), *found.span(2)) if right else None
     found = PRESS.match(s, at) or TAIL.match(s, at)
     return (found.end(), *found.span(1)) if found else None
@@ -189,8 +200,8 @@ def homiq_at(s, at):
     found = HOMIQ.match(s, at)
     if not found or int(found.group(6)) > 511:
         return None
-    crc = value("homiq crc", b"".join(found.group(*range(2, 8))))
-    return (found.end(), *found.span(1)) if int(found.group(8)) == crc else None
+    stands, right = homiq_values(found)
+    return (found.end(), *found.span(1)) if stands == right else None
 
 
 def frame_at(kind, s, at):
@@ -227,6 +238,72 @@ def search(kind, s, place):
     start = min(starts)
     end, first, last = frame_at(kind, s, start)
     return start, end - start, first, last
+
+
+# ---- verdicts
+
+MARKS = {1: (b"$", b"#N", b"#E1"), 2: PREAMBLES[2], 3: PREAMBLES[3], 4: b"\xc0", 5: b"<;"}
+# the verdicts that a place can have: Nest has no field that can be wrong, Homiq no length, and Nikobus alone two checks
+VERDICTS = {
+    1: ("none", "start", "length", "fields", "first", "second"),
+    2: ("none", "start", "length", "first"),
+    3: ("none", "start", "length", "first"),
+    4: ("none", "start", "length", "fields", "first"),
+    5: ("none", "start", "fields", "first"),
+}
+
+
+def claimed(kind, s):
+    """How many bytes a frame with this mark must have; none if its length is missing or not allowed. Homiq's ends where its fields end."""
+    if kind == 1 and s[:1] == b"#":
+        return 9 if s[1:2] == b"N" else 4
+    if kind == 1:
+        ll = hex_value(s[1:3]) if len(s) > 2 else None
+        return ll if ll in range(0x0C, 0x100, 2) else None
+    if kind in (2, 3):
+        before = len(PREAMBLES[kind]) + 4
+        length = int.from_bytes(s[before - 2 : before], "little")
+        return before + length + 2 if len(s) >= before and length <= 1024 else None
+    if kind == 4:
+        return 4 + s[2] if len(s) > 2 else None
+    return 0
+
+
+def check_values(kind, s, size):
+    """For each check the value that stands in a frame of this size, and the one worked out; none if a field is not as it must be."""
+    if kind == 1:
+        found = LINK.fullmatch(s, 0, size)
+        if found:
+            return list(link_values(found))
+        return [] if PRESS.fullmatch(s, 0, size) or TAIL.fullmatch(s, 0, size) else None
+    if kind in (2, 3):
+        covered = s[len(PREAMBLES[kind]) : size - 2]
+        return [(int.from_bytes(s[size - 2 : size], "little"), value("nest crc", covered))]
+    if kind == 4:
+        return [(s[size - 1], value("nibe xor", s[2 : size - 1]))] if s[1] in COMMANDS else None
+    found = HOMIQ.match(s)
+    return [homiq_values(found)] if found and int(found.group(6)) <= 511 and int(found.group(8)) <= 255 else None
+
+
+def verdict(kind, s):
+    """The first test that a frame at the front fails, the check value found and the one expected: both 0 without a failed check."""
+    if not s.startswith(MARKS[kind]):
+        return "start", 0, 0
+    size = claimed(kind, s)
+    if size is None or len(s) < size:
+        return "length", 0, 0
+    values = check_values(kind, s, size)
+    if values is None:
+        return "fields", 0, 0
+    wrong = ((test, *pair) for test, pair in zip(("first", "second"), values) if pair[0] != pair[1])
+    return next(wrong, ("none", 0, 0))
+
+
+def why(kind, s, place):
+    """The verdict on a place."""
+    if kind not in KINDS:
+        return 2
+    return verdict(kind, s[place:]) if place <= len(s) else 3
 
 
 def one_frame(kind, s):

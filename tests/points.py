@@ -185,8 +185,13 @@ def check_cases():
 # ---- frames
 
 
+def why_case(kind, place, s):
+    """The verdict on a place."""
+    return request("frames::why", kind, s, place), answer(paper.why(kind, s, place))
+
+
 def search_cases(kind, place, s):
-    """The search, and the two parts of the bytes that it hands back: none if it is refused."""
+    """The search, and the two parts of the bytes that it hands back: none if it is refused. And the verdict on the place."""
     found = paper.search(kind, s, place)
     payload, frame = b"", b""
     if isinstance(found, tuple):
@@ -195,6 +200,7 @@ def search_cases(kind, place, s):
     yield request("frames::search", kind, s, place), answer(found)
     yield request("frames::payload", kind, s, place), answer((payload,))
     yield request("frames::frame", kind, s, place), answer((frame,))
+    yield why_case(kind, place, s)
 
 
 def one_case(kind, s):
@@ -336,6 +342,87 @@ def place_cases():
         yield from search_cases(kind, 1, b"")
 
 
+# ---- verdicts
+
+# document 02's tests, by example
+VERDICTS = [
+    (1, LINK_A, "none 0 0"),
+    (1, b"$10110000B8CE9D\r", "first 47310 47311"),
+    (1, b"$10110000B8CF9C\r", "second 156 157"),
+    (1, b"$10110000000000\r", "first 0 47311"),
+    (1, b"$10110000B8CF9D\n", "fields 0 0"),
+    (1, b"$12110000B8CF9D\r", "length 0 0"),
+    (1, b"#N4ECB1A", "length 0 0"),
+    (1, b"#E", "start 0 0"),
+    (2, COMMAND_D[:-2] + b"\xb2\x08", "first 2226 45576"),
+    (4, b"\xc0\x06\x00\x01", "fields 0 0"),
+    (5, b"<;I.3;1;0H;0;42;s;143;>\r", "fields 0 0"),
+    # where the document leaves it open: the place at the length; a press and a tail cut short; Nibe's command and too few bytes; how a check
+    # value is spelt; both checks wrong
+    (1, b"", "start 0 0"),
+    (1, b"#E1", "length 0 0"),
+    (1, b"#Nxyz", "length 0 0"),
+    (4, b"\xc0\x06", "length 0 0"),
+    (4, b"\xc0\x06\x01\x00", "length 0 0"),
+    (5, homiq(b"I.3;1;0H;0;42;s", b"007"), "fields 0 0"),
+    (5, homiq(b"I.3;1;0H;0;42;s", b"256"), "fields 0 0"),
+    (1, link(b"110000", crc16=b"b8cf"), "fields 0 0"),
+    (1, link(b"110000", crc16=b"B8CE", crc8=b"00"), "first 47310 47311"),
+    (1, b"$1c0747FF0102030405FE", "length 0 0"),
+]
+
+
+def verdict_cases():
+    """The examples; their answers stand there."""
+    for kind, s, verdict in VERDICTS:
+        assert calls.answer(paper.why(kind, s, 0)) == "ok " + verdict
+        yield request("frames::why", kind, s, 0), "ok " + verdict
+
+
+def off_by_a_bit(kind):
+    """Frames that are laid out well, each bit of each check value changed. Those that are bytes are changed among the other bytes."""
+    crc16 = paper.value("nikobus crc16", b"\x11\x00\x00")
+    for bit in range(16 if kind == 1 else 0):
+        wrong = b"%04X" % (crc16 ^ 1 << bit)
+        yield link(b"110000", crc16=wrong)
+        yield link(b"110000", crc16=wrong, crc8=LINK_A[-3:-1])
+        yield link(b"110000", crc8=b"%02X" % (int(LINK_A[-3:-1], 16) ^ 1 << bit % 8))
+    for bit in range(8 if kind == 5 else 0):
+        yield homiq(b"I.3;1;0H;0;42;s", b"%d" % (134 ^ 1 << bit))
+
+
+def by_bytes(s):
+    """Each byte changed, lost, and cut off with all behind it; a byte inserted before it."""
+    for at, byte in enumerate(s):
+        yield from (s[:at] + bytes([byte ^ 1 << bit]) + s[at + 1 :] for bit in range(8))
+        yield from (s[:at] + bytes([other]) + s[at + 1 :] for other in b"0;\n")
+        yield s[:at] + s[at + 1 :]
+        yield s[:at]
+        yield from (s[:at] + bytes([more]) + s[at:] for more in (s[0], 0x30))
+
+
+def head_case(kind, s):
+    """What stands at the front: a frame's length and its payload's places, or zeros; then the verdict."""
+    asked = {2: "nest::frame command", 3: "nest::frame response"}.get(kind) or BUSES[kind] + "::frame"
+    return request("layouts::" + asked, s), answer((*(paper.frame_at(kind, s, 0) or (0, 0, 0)), *paper.verdict(kind, s)))
+
+
+def damage_cases():
+    """A good frame of each form, damaged in each place: every verdict that a kind can have comes. Then all its places, and some beyond."""
+    frames = {1: (LINK_A, PRESSED, TAILED), 2: (RESET, COMMAND_D), 3: (REPLY,), 4: (nibe(0x60, b""), ASK), 5: (HOMIQ_G,)}
+    for kind, good in frames.items():
+        damaged = dict.fromkeys(s for frame in good for s in (frame, *by_bytes(frame))) | dict.fromkeys(off_by_a_bit(kind))
+        assert {paper.verdict(kind, s)[0] for s in damaged} == set(paper.VERDICTS[kind])
+        for s in damaged:
+            yield why_case(kind, 0, s)
+            yield head_case(kind, s)
+        for frame in good:
+            yield from (why_case(kind, place, frame) for place in (*range(len(frame) + 3), 2**32, 2**64 - 1))
+    for kind in range(256):
+        yield why_case(kind, 0, ASK)
+        yield why_case(kind, 7, ASK)
+
+
 # ---- kinds, and what is asked of bytes alone
 
 BUSES = {1: "nikobus", 4: "nibe", 5: "homiq"}
@@ -449,6 +536,8 @@ NO_REQUESTS = [
     "digits::hex::value 65 65",
     "digits::hex::byte_of 65",
     "frames::search 4 C06902640066",
+    "frames::why 4 C06902640066",
+    "frames::why 4 C06902640066 0 0",
     "digits::hex::value  65",
     " digits::hex::value 65",
     "digits::hex::value 65 ",
@@ -465,6 +554,8 @@ NO_REQUESTS = [
     "numbers::panel::pair -32769 0",
     "frames::search 256 C06902640066 0",
     "frames::search 4 C06902640066 18446744073709551616",
+    "frames::why 256 C06902640066 0",
+    "frames::why 4 C06902640066 18446744073709551616",
     # a number otherwise written
     "digits::hex::value 065",
     "digits::hex::value 00",
@@ -545,6 +636,8 @@ SUBJECTS = [
     homiq_cases,
     start_cases,
     place_cases,
+    verdict_cases,
+    damage_cases,
     kind_cases,
     begin_cases,
     test_cases,

@@ -35,6 +35,7 @@ static volatile u32 refusals;
 
 static void version(void) { refusals += bolsterweft_version(); }
 static void search(void) { refusals += bolsterweft_search(kind, bytes, length, 0).refusal; }
+static void why(void) { refusals += bolsterweft_why(kind, bytes, length, 2).test; }
 static void one_frame(void) { refusals += bolsterweft_one_frame(kind, piece.frame, piece.length).refusal; }
 static void acknowledge(void) { refusals += bolsterweft_acknowledge(piece.frame, piece.length, room, room_length).refusal; }
 static void line(void) { refusals += bolsterweft_line(kind, piece.frame, piece.length, ~(usize)0, room, room_length).refusal; }
@@ -57,10 +58,10 @@ static const struct {
     const char *name;
     void (*run)(void);
 } calls[] = {
-    {"version", version},       {"search", search},         {"one_frame", one_frame},   {"acknowledge", acknowledge}, {"line", line},
-    {"line_next", line_next},   {"list", list},             {"text", text},             {"number", number},           {"value", value},
-    {"value_read", value_read}, {"fits", fits},             {"panel", panel},           {"climate", climate},         {"book_open", book_open},
-    {"book_entry", book_entry}, {"book_line", book_line},   {"book_list", book_list},   {"book_add", book_add},
+    {"version", version},     {"search", search},         {"why", why},             {"one_frame", one_frame}, {"acknowledge", acknowledge},
+    {"line", line},           {"line_next", line_next},   {"list", list},           {"text", text},           {"number", number},
+    {"value", value},         {"value_read", value_read}, {"fits", fits},           {"panel", panel},         {"climate", climate},
+    {"book_open", book_open}, {"book_entry", book_entry}, {"book_line", book_line}, {"book_list", book_list}, {"book_add", book_add},
 };
 
 enum { CALLS = sizeof calls / sizeof *calls, TRIALS = 200 };

@@ -4,7 +4,7 @@ use crate::acknowledge;
 use crate::book;
 use crate::checks::{self, Check};
 use crate::digits;
-use crate::frames::{self, build, starts, Head};
+use crate::frames::{self, build, starts, Compared, Failed, Head};
 use crate::lines::{self, Value};
 use crate::list;
 use crate::messages::{self, Message};
@@ -139,10 +139,34 @@ fn part(bytes: Result<&[u8], Refusal>) -> Option<Answer> {
     says(shown(bytes.unwrap_or_default()))
 }
 
-fn head_text(head: Option<Head>) -> String {
-    match head {
-        Some(head) => format!("{} {} {}", head.length, head.begins, head.ends),
-        None => "0 0 0".to_string(),
+/// A frame's length and its payload's places, zeros if there is none; then the test that failed.
+fn head_text(judged: Result<Head, Failed>) -> String {
+    let test = test_text(judged.err());
+    match judged {
+        Ok(head) => format!("{} {} {} {test}", head.length, head.begins, head.ends),
+        Err(_) => format!("0 0 0 {test}"),
+    }
+}
+
+/// The test that failed first, the check value found and the one expected; both are 0 without a failed check.
+fn test_text(failed: Option<Failed>) -> String {
+    let (name, _, Compared { found, expected }) = test_of(failed);
+    format!("{name} {found} {expected}")
+}
+
+/// The test's name, its number for C, and the values.
+fn test_of(failed: Option<Failed>) -> (&'static str, u32, Compared) {
+    let no_values = Compared {
+        found: 0,
+        expected: 0,
+    };
+    match failed {
+        None => ("none", 0, no_values),
+        Some(Failed::Start) => ("start", 1, no_values),
+        Some(Failed::Length) => ("length", 2, no_values),
+        Some(Failed::Fields) => ("fields", 3, no_values),
+        Some(Failed::First(values)) => ("first", 4, values),
+        Some(Failed::Second(values)) => ("second", 5, values),
     }
 }
 
@@ -395,8 +419,10 @@ fn in_bytes(function: &str, words: &mut Words) -> Option<Answer> {
     if function == "one_frame" {
         return tries(frames::one_frame(kind, &bytes).map(places));
     }
-    let found = frames::search(kind, &bytes, words.number()?);
+    let place = words.number()?;
+    let found = frames::search(kind, &bytes, place);
     match function {
+        "why" => tries(frames::why(kind, &bytes, place).map(test_text)),
         "search" => tries(found.map(|found| {
             let frames::Found {
                 start,
@@ -585,6 +611,7 @@ mod tests {
             "json::chars",
             "json::signed",
             "frames::search",
+            "frames::why",
             "frames::payload",
             "messages::decode",
             "messages::find",

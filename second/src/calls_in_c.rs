@@ -1,7 +1,7 @@
 //! Requests to the calls for C: the functions of docs/CALLS.md under their names in C, with C's types. A kind, a width, decimals, a sign and
 //! an entry's number are `u32`, and one that is too large is unknown, not cut; a payload and a frame are given by start and length.
 
-use super::{float_text, pair_text, says, tries, writes, Answer};
+use super::{float_text, pair_text, says, test_of, tries, writes, Answer};
 use crate::acknowledge;
 use crate::book;
 use crate::frames;
@@ -16,7 +16,7 @@ pub fn called(request: &[u8]) -> Option<Answer> {
     let mut words = Words::of(request)?;
     let name = std::str::from_utf8(words.word()?).ok()?;
     let answer = match name.strip_prefix("bolsterweft_")? {
-        "search" | "one_frame" => in_frames(name, &mut words),
+        "search" | "why" | "one_frame" => in_frames(name, &mut words),
         "line" | "line_next" | "list" | "acknowledge" => in_lines(name, &mut words),
         function if function.starts_with("book_") => in_book(name, &mut words),
         _ => in_numbers(name, &mut words),
@@ -50,7 +50,14 @@ fn in_frames(name: &str, words: &mut Words) -> Option<Answer> {
         let head = frames::one_frame(kind, &bytes);
         return tries(head.map(|head| format!("{} {}", head.begins, head.ends - head.begins)));
     }
-    let found = frames::search(kind, &bytes, words.number()?);
+    let place = words.number()?;
+    if name == "bolsterweft_why" {
+        return tries(frames::why(kind, &bytes, place).map(|failed| {
+            let (_, test, values) = test_of(failed);
+            format!("{test} {} {}", values.found, values.expected)
+        }));
+    }
+    let found = frames::search(kind, &bytes, place);
     tries(found.map(|found| {
         let length = found.ends - found.begins;
         format!("{} {} {} {length}", found.start, found.length, found.begins)
@@ -156,6 +163,12 @@ mod tests {
         answers("bolsterweft_search 4 C069C06902640066 0", "ok 2 6 5 2");
         answers("bolsterweft_search 260 C069C06902640066 0", "refused 2");
         answers("bolsterweft_search 4294967300 - 0", "request?");
+        answers("bolsterweft_why 4 C069C06902640066 0", "ok 2 0 0");
+        answers("bolsterweft_why 4 C069C06902640066 2", "ok 0 0 0");
+        answers("bolsterweft_why 4 C069C06902640067 2", "ok 4 103 102");
+        answers("bolsterweft_why 4 C069C06902640066 8", "ok 1 0 0");
+        answers("bolsterweft_why 4 C069C06902640066 9", "refused 3");
+        answers("bolsterweft_why 260 C069C06902640066 2", "refused 2");
         answers("bolsterweft_one_frame 4 C06902640066", "ok 3 2");
         answers("bolsterweft_number 2D31322E35", "ok 1 -125");
         answers("bolsterweft_value -2 2 65536 2", "ok 2 room FEFF+0");

@@ -61,20 +61,69 @@ pub struct Found {
     pub ends: usize,
 }
 
-/// The frame of that kind at the bytes' head, if there is one.
-pub fn head(kind: u8, bytes: &[u8]) -> Option<Head> {
+/// The values of a check: the one that stands in the frame, and the one that is worked out.
+#[derive(Clone, Copy, Debug, PartialEq, Eq)]
+pub struct Compared {
+    pub found: u16,
+    pub expected: u16,
+}
+
+/// The test that bytes fail first, in the order in which document 02 lists the tests (K1).
+#[derive(Clone, Copy, Debug, PartialEq, Eq)]
+pub enum Failed {
+    /// The whole start mark is not there.
+    Start,
+    /// The length is not there or not allowed, or there are fewer bytes than it says.
+    Length,
+    /// A field is outside its limits, or what must stand around the fields does not.
+    Fields,
+    /// The only check, or Nikobus' CRC16.
+    First(Compared),
+    /// Nikobus' CRC8.
+    Second(Compared),
+}
+
+impl Compared {
+    fn of(found: impl Into<u16>, expected: u16) -> Compared {
+        let found = found.into();
+        Compared { found, expected }
+    }
+
+    /// A check passes if its two values are equal.
+    fn agree(self, failed: fn(Compared) -> Failed) -> Result<(), Failed> {
+        if self.found == self.expected {
+            Ok(())
+        } else {
+            Err(failed(self))
+        }
+    }
+}
+
+/// The frame of that kind at the bytes' head, or the first test that they fail.
+pub fn judge(kind: u8, bytes: &[u8]) -> Result<Head, Failed> {
     match kind {
         NIKOBUS => nikobus(bytes),
         NEST_COMMAND => nest(COMMAND_PREAMBLE, bytes),
         NEST_RESPONSE => nest(RESPONSE_PREAMBLE, bytes),
         NIBE => nibe(bytes),
         HOMIQ => homiq(bytes),
-        _ => None,
+        _ => Err(Failed::Start),
     }
 }
 
-/// The frame with the smallest start at or after the place: 2, 3, 1.
-pub fn search(kind: u8, bytes: &[u8], place: u64) -> Result<Found, Refusal> {
+/// The frame of that kind at the bytes' head, where there is one.
+pub fn head(kind: u8, bytes: &[u8]) -> Option<Head> {
+    judge(kind, bytes).ok()
+}
+
+/// The first test that a frame of the kind fails at just this place; none if there is a frame: 2, 3.
+pub fn why(kind: u8, bytes: &[u8], place: u64) -> Result<Option<Failed>, Refusal> {
+    let behind = from_place(kind, bytes, place)?;
+    Ok(judge(kind, behind).err())
+}
+
+/// The bytes of a known kind from the place on: 2, 3.
+fn from_place(kind: u8, bytes: &[u8], place: u64) -> Result<&[u8], Refusal> {
     if !known(kind) {
         return Err(Refusal::Kind);
     }
@@ -82,6 +131,12 @@ pub fn search(kind: u8, bytes: &[u8], place: u64) -> Result<Found, Refusal> {
     if place > bytes.len() {
         return Err(Refusal::Place);
     }
+    Ok(&bytes[place..])
+}
+
+/// The frame with the smallest start at or after the place: 2, 3, 1.
+pub fn search(kind: u8, bytes: &[u8], place: u64) -> Result<Found, Refusal> {
+    let place = bytes.len() - from_place(kind, bytes, place)?.len();
     for start in place..bytes.len() {
         if let Some(frame) = head(kind, &bytes[start..]) {
             return Ok(Found {
@@ -126,72 +181,99 @@ pub mod starts {
     }
 }
 
-/// A Nikobus frame at the head: a link, a press or a tail.
-pub fn nikobus(bytes: &[u8]) -> Option<Head> {
+/// A Nikobus frame at the head: a link, a press or a tail, by the whole mark.
+pub fn nikobus(bytes: &[u8]) -> Result<Head, Failed> {
     if bytes.starts_with(b"$") {
         nikobus_link(bytes)
     } else if bytes.starts_with(b"#N") {
         nikobus_press(bytes)
-    } else if bytes.starts_with(b"#E1\r") {
-        Some(Head {
-            length: 4,
-            begins: 4,
-            ends: 4,
-        })
+    } else if bytes.starts_with(b"#E1") {
+        nikobus_tail(bytes)
     } else {
-        None
+        Err(Failed::Start)
     }
 }
 
 /// `$`, LL, payload of LL - 10 digits, CRC16, CRC8, CR: LL bytes in all.
-fn nikobus_link(bytes: &[u8]) -> Option<Head> {
-    let length = usize::from(digits::bytes_of_hex(bytes.get(1..3)?)?[0]);
-    if !length.is_multiple_of(2) || !(0x0C..=0xFE).contains(&length) {
-        return None;
-    }
-    let frame = bytes.get(..length)?;
+fn nikobus_link(bytes: &[u8]) -> Result<Head, Failed> {
+    let length = link_length(bytes).ok_or(Failed::Length)?;
+    let frame = bytes.get(..length).ok_or(Failed::Length)?;
     let (begins, ends) = (3, length - 7);
-    let payload = digits::bytes_of_hex(&frame[begins..ends])?;
-    let crc16 = digits::bytes_of_hex(&frame[ends..ends + 4])?;
-    let crc8 = digits::bytes_of_hex(&frame[ends + 4..ends + 6])?;
-    let right = crc16 == checks::NIKOBUS_CRC16.of(&payload).to_be_bytes()
-        && u16::from(crc8[0]) == checks::NIKOBUS_CRC8.of(&frame[..ends + 4])
-        && frame[ends + 6] == b'\r';
-    right.then_some(Head {
+    let payload = hex_field(&frame[begins..ends])?;
+    let crc16 = hex_field(&frame[ends..ends + 4])?;
+    let crc8 = hex_field(&frame[ends + 4..ends + 6])?;
+    if frame[ends + 6] != b'\r' {
+        return Err(Failed::Fields);
+    }
+    let found = digits::word(crc16[1], crc16[0]);
+    let crc16 = Compared::of(found, checks::NIKOBUS_CRC16.of(&payload));
+    let crc8 = Compared::of(crc8[0], checks::NIKOBUS_CRC8.of(&frame[..ends + 4]));
+    crc16.agree(Failed::First)?;
+    crc8.agree(Failed::Second)?;
+    Ok(Head {
         length,
         begins,
         ends,
     })
 }
 
+/// LL, if it is two digits and allowed.
+fn link_length(bytes: &[u8]) -> Option<usize> {
+    let length = usize::from(digits::bytes_of_hex(bytes.get(1..3)?)?[0]);
+    if !length.is_multiple_of(2) || !(0x0C..=0xFE).contains(&length) {
+        return None;
+    }
+    Some(length)
+}
+
+/// The bytes that a field's digits are.
+fn hex_field(characters: &[u8]) -> Result<Vec<u8>, Failed> {
+    digits::bytes_of_hex(characters).ok_or(Failed::Fields)
+}
+
 /// `#N`, six digits, CR.
-fn nikobus_press(bytes: &[u8]) -> Option<Head> {
-    let frame = bytes.get(..9)?;
-    digits::bytes_of_hex(&frame[2..8])?;
-    (frame[8] == b'\r').then_some(Head {
+fn nikobus_press(bytes: &[u8]) -> Result<Head, Failed> {
+    let frame = bytes.get(..9).ok_or(Failed::Length)?;
+    if !digits::all_hex(&frame[2..8]) || frame[8] != b'\r' {
+        return Err(Failed::Fields);
+    }
+    Ok(Head {
         length: 9,
         begins: 2,
         ends: 8,
     })
 }
 
-/// Preamble, id, length, payload, CRC.
-pub fn nest(preamble: &[u8], bytes: &[u8]) -> Option<Head> {
+/// `#E1`, CR.
+fn nikobus_tail(bytes: &[u8]) -> Result<Head, Failed> {
+    let frame = bytes.get(..4).ok_or(Failed::Length)?;
+    if frame[3] != b'\r' {
+        return Err(Failed::Fields);
+    }
+    Ok(Head {
+        length: 4,
+        begins: 4,
+        ends: 4,
+    })
+}
+
+/// Preamble, id, length, payload, CRC. Every id and every payload is allowed, so that no field fails.
+pub fn nest(preamble: &[u8], bytes: &[u8]) -> Result<Head, Failed> {
     if !bytes.starts_with(preamble) {
-        return None;
+        return Err(Failed::Start);
     }
     let checked = &bytes[preamble.len()..];
-    let words = checked.get(..4)?;
+    let words = checked.get(..4).ok_or(Failed::Length)?;
     let payload = usize::from(digits::word(words[2], words[3]));
     if payload > MOST_NEST_PAYLOAD {
-        return None;
+        return Err(Failed::Length);
     }
-    let crc = checked.get(4 + payload..4 + payload + 2)?;
-    if digits::word(crc[0], crc[1]) != checks::NEST_CRC.of(&checked[..4 + payload]) {
-        return None;
-    }
+    let crc = checked.get(4 + payload..4 + payload + 2);
+    let crc = crc.ok_or(Failed::Length)?;
+    let expected = checks::NEST_CRC.of(&checked[..4 + payload]);
+    Compared::of(digits::word(crc[0], crc[1]), expected).agree(Failed::First)?;
     let begins = preamble.len() + 4;
-    Some(Head {
+    Ok(Head {
         length: begins + payload + 2,
         begins,
         ends: begins + payload,
@@ -199,38 +281,53 @@ pub fn nest(preamble: &[u8], bytes: &[u8]) -> Option<Head> {
 }
 
 /// C0, command, length, data, check.
-pub fn nibe(bytes: &[u8]) -> Option<Head> {
-    let start = bytes.get(..3)?;
-    if start[0] != 0xC0 || !NIBE_COMMANDS.contains(&start[1]) {
-        return None;
+pub fn nibe(bytes: &[u8]) -> Result<Head, Failed> {
+    if bytes.first() != Some(&0xC0) {
+        return Err(Failed::Start);
     }
-    let ends = 3 + usize::from(start[2]);
-    let check = *bytes.get(ends)?;
+    let data = *bytes.get(2).ok_or(Failed::Length)?;
+    let ends = 3 + usize::from(data);
+    let check = *bytes.get(ends).ok_or(Failed::Length)?;
+    if !NIBE_COMMANDS.contains(&bytes[1]) {
+        return Err(Failed::Fields);
+    }
     // The length and the data are checked, the command is not.
-    (u16::from(check) == checks::NIBE_XOR.of(&bytes[2..ends])).then_some(Head {
+    let expected = checks::NIBE_XOR.of(&bytes[2..ends]);
+    Compared::of(check, expected).agree(Failed::First)?;
+    Ok(Head {
         length: ends + 1,
         begins: 3,
         ends,
     })
 }
 
-/// `<;CMD;VAL;SRC;DST;ID;TYPE;CRC;>` CR LF.
-pub fn homiq(bytes: &[u8]) -> Option<Head> {
+/// `<;CMD;VAL;SRC;DST;ID;TYPE;CRC;>` CR LF. It has no test of the length: what is cut short fails at its fields.
+pub fn homiq(bytes: &[u8]) -> Result<Head, Failed> {
     if !bytes.starts_with(b"<;") {
-        return None;
+        return Err(Failed::Start);
     }
+    let (head, found) = homiq_laid_out(bytes).ok_or(Failed::Fields)?;
+    let expected = homiq_crc(&bytes[head.begins..head.ends]);
+    Compared::of(found, u16::from(expected)).agree(Failed::First)?;
+    Ok(head)
+}
+
+/// What is laid out behind `<;` as a frame is, its CRC right or not; and the number that stands there for the CRC.
+fn homiq_laid_out(bytes: &[u8]) -> Option<(Head, u16)> {
     let begins = 2;
     let ends = begins + homiq_six_fields(&bytes[begins..])?;
     let crc_begins = ends + 1;
     let crc_ends = crc_begins + up_to_separator(bytes.get(crc_begins..)?, 3)?;
     let crc = digits::number_of_decimal(&bytes[crc_begins..crc_ends], 255)?;
-    let right = bytes[crc_ends..].starts_with(b";>\r\n")
-        && crc == u64::from(homiq_crc(&bytes[begins..ends]));
-    right.then_some(Head {
+    if !bytes[crc_ends..].starts_with(b";>\r\n") {
+        return None;
+    }
+    let head = Head {
         length: crc_ends + 4,
         begins,
         ends,
-    })
+    };
+    Some((head, crc as u16))
 }
 
 /// How long CMD to TYPE at the head are, with `;` between and one behind.

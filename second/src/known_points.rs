@@ -518,14 +518,14 @@ fn each_function_answers() {
         ),
         (
             "layouts::nest::frame command D5AA96FF000000A34B00",
-            "ok 9 7 7",
+            "ok 9 7 7 none 0 0",
         ),
         (
             "layouts::nest::frame response D5AA96FF000000A34B",
-            "ok 0 0 0",
+            "ok 0 0 0 start 0 0",
         ),
-        ("layouts::nikobus::frame 2345310D", "ok 4 4 4"),
-        ("layouts::nibe::frame C0690264006600", "ok 6 3 5"),
+        ("layouts::nikobus::frame 2345310D", "ok 4 4 4 none 0 0"),
+        ("layouts::nibe::frame C0690264006600", "ok 6 3 5 none 0 0"),
         (
             "layouts::homiq::crc 492E333B313B30483B303B34323B73",
             "ok 134",
@@ -688,6 +688,6 @@ fn each_function_answers() {
     );
     assert_eq!(
         asked(&format!("layouts::homiq::frame {homiq}")),
-        "ok 25 2 17"
+        "ok 25 2 17 none 0 0"
     );
 }

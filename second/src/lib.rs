@@ -1,4 +1,4 @@
-//! An independent second decoder and encoder, written from document 01, the bus documents and
+//! An independent second decoder and encoder, written from documents 01 and 02, the bus documents and
 //! docs/CALLS.md. It is meant to be read beside document 01; see README.md.
 
 pub mod acknowledge;
@@ -16,6 +16,8 @@ pub mod words;
 
 #[cfg(test)]
 mod known_points;
+#[cfg(test)]
+mod known_verdicts;
 
 /// The answer line to one request line, both without LF (docs/CALLS.md).
 pub fn answer(request: &[u8]) -> Vec<u8> {

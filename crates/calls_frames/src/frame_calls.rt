@@ -6,6 +6,7 @@ use builds;
 use digits::refusal::Refusal;
 use frames::Found;
 use frames::FramePayload;
+use frames::Verdict;
 use frames::kinds;
 use frames::kinds::Kind;
 use frames::kinds::Resolved;
@@ -42,13 +43,14 @@ pub(crate) fn call(function: u64, x: u64, place: usize, s: &[u8], room: &mut [u8
         804 => found(frames::search(n, s, place)),
         805 => answer::bytes(frames::frame(n, s, place), room),
         806 => answer::bytes(frames::payload(n, s, place), room),
-        _ => frame_payload(frames::one_frame(n, s)),
+        807 => frame_payload(frames::one_frame(n, s)),
+        _ => why(frames::why(n, s, place)),
     }
 }
 
 fn resolved(r: Resolved) -> Answer {
     match r {
-        Resolved::Is(kind) => [kind_form(kind), 0, 0, 0, 0],
+        Resolved::Is(kind) => [kind_form(kind), 0, 0, 0, 0, 0, 0],
         Resolved::Unknown => answer::refused(Refusal::NoKind),
     }
 }
@@ -81,14 +83,33 @@ fn found(r: Found) -> Answer {
             len,
             from,
             to,
-        } => [6, start as u64, len as u64, from as u64, to as u64],
+        } => [6, start as u64, len as u64, from as u64, to as u64, 0, 0],
         Found::Refused(why) => answer::refused(why),
     }
 }
 
 fn frame_payload(r: FramePayload) -> Answer {
     match r {
-        FramePayload::Is { from, to } => [4, from as u64, to as u64, 0, 0],
+        FramePayload::Is { from, to } => [4, from as u64, to as u64, 0, 0, 0, 0],
         FramePayload::Refused(why) => answer::refused(why),
+    }
+}
+
+fn why(r: Verdict) -> Answer {
+    match r {
+        Verdict::Is {
+            test,
+            found,
+            expected,
+        } => [
+            92,
+            answer::test(test),
+            found as u64,
+            expected as u64,
+            0,
+            0,
+            0,
+        ],
+        Verdict::Refused(why) => answer::refused(why),
     }
 }

@@ -8,7 +8,7 @@ use layouts::nest::Direction;
 use layouts::nibe;
 use layouts::nikobus;
 
-// Functions 601 to 604 say where a frame is, 605 is the CRC, the others are tests.
+// Functions 601 to 604 say where a frame is, or which test it failed, 605 is the CRC, the others are tests.
 pub(crate) fn call(function: u64, x: u64, s: &[u8]) -> Answer {
     if function < 605 {
         return at_head(frame(function, x, s));
@@ -49,5 +49,14 @@ pub(crate) fn direction(n: u64) -> Direction {
 }
 
 fn at_head(s: AtHead) -> Answer {
-    [5, s.len as u64, s.from as u64, s.to as u64, 0]
+    let failed = s.failed;
+    [
+        93,
+        s.len as u64,
+        s.from as u64,
+        s.to as u64,
+        answer::test(failed),
+        s.found as u64,
+        s.expected as u64,
+    ]
 }

@@ -65,12 +65,19 @@ fn answered(record: &mut [u8], room: &mut [u8]) {
         part(record, split, end),
         &mut room[0..lent],
     );
+    store(r, record);
+}
+
+// Puts an answer in the request's place.
+fn store(r: Answer, record: &mut [u8]) {
     put(answer::room(r, number(record, 13)), record, 104);
     let a = put(r[0], record, 0);
     let b = put(r[1], record, a);
     let c = put(r[2], record, b);
     let d = put(r[3], record, c);
-    put(r[4], record, d);
+    let e = put(r[4], record, d);
+    let f = put(r[5], record, e);
+    put(r[6], record, f);
 }
 
 fn call(function: u64, x: u64, y: u64, first: &[u8], s: &[u8], room: &mut [u8]) -> Answer {

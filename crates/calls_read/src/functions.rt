@@ -96,7 +96,8 @@ fn of_frames(line: &[u8], words: &mut [u64; 14], store: &mut [u8]) {
         frames::search 804 u8 bytes usize\n\
         frames::frame 805 u8 bytes usize\n\
         frames::payload 806 u8 bytes usize\n\
-        frames::one_frame 807 u8 bytes\n";
+        frames::one_frame 807 u8 bytes\n\
+        frames::why 808 u8 bytes usize\n";
     request::read(rows, line, words, store)
 }
 

@@ -1,6 +1,6 @@
 // Answers as lines. An answer's form is a row of the tables below, and in it a mark stands for each value, in the order of the record:
 // `#` for a number, `~` for a signed one, as the bits of the float that it is, `?` for `true` (1) or `false`. `&` stands for the six
-// bytes that a number is, low byte first, and `%` for that many bytes of the room.
+// bytes that a number is, low byte first, `!` for a test of a frame, and `%` for that many bytes of the room.
 use super::float;
 use super::number;
 use super::part;
@@ -13,7 +13,7 @@ pub(crate) fn line(record: &[u8], room: &[u8], out: &mut [u8]) -> usize {
     if form == 0 {
         return puts::bytes(b"request?\n", out, 0);
     }
-    if 91 < form {
+    if 93 < form {
         return puts::bytes(b"request?\n", out, 0);
     }
     let said = say(form, record, room, out);
@@ -27,8 +27,8 @@ struct Spelt {
     word: usize,
 }
 
-// Forms 1 to 22 are rows of this table. Of the next 23 each is a message, of the 23 behind them a message and two numbers, and of the last
-// 23 four numbers and a message.
+// Forms 1 to 22 are rows of this table. Of the next 23 each is a message, of the 23 behind them a message and two numbers, and of the 23
+// behind those four numbers and a message. The last two are verdicts.
 fn say(form: u64, record: &[u8], room: &[u8], out: &mut [u8]) -> usize {
     let rows = b"\
         refused #;              ok;                     ok #;                   ok # #;                 \
@@ -47,7 +47,18 @@ fn say(form: u64, record: &[u8], room: &[u8], out: &mut [u8]) -> usize {
     if form < 69 {
         return message(form - 45, 2, 4, record, room, out);
     }
-    message(form - 68, 10, 0, record, room, out)
+    if form < 92 {
+        return message(form - 68, 10, 0, record, room, out);
+    }
+    verdict(form - 91, record, room, out)
+}
+
+// The test that failed and its values, alone or behind the three places of a frame.
+fn verdict(n: u64, record: &[u8], room: &[u8], out: &mut [u8]) -> usize {
+    let rows = b"\
+        ok ! # #;               ok # # # ! # #;         ";
+    let start = Spelt { at: 0, word: 1 };
+    spell(row(rows, n), record, room, out, start).at
 }
 
 // A message; `before` and `behind` say how much of what may stand before it and behind it is written. Its own values come first, and those
@@ -121,7 +132,7 @@ fn behind(c: u8, word: usize) -> usize {
         return word;
     }
     match c {
-        b'#' | b'~' | b'?' | b'&' | b'%' => word + 1,
+        b'#' | b'~' | b'?' | b'&' | b'!' | b'%' => word + 1,
         _ => word,
     }
 }
@@ -133,6 +144,7 @@ fn value(c: u8, n: u64, room: &[u8], out: &mut [u8], at: usize) -> usize {
         b'~' => float::put(n, out, at),
         b'?' => truth(n, out, at),
         b'&' => six(n, out, at),
+        b'!' => test(n, out, at),
         b'%' => bytes(part(room, 0, n as usize), out, at),
         _ => puts::byte(c, out, at),
     }
@@ -143,6 +155,18 @@ fn truth(n: u64, out: &mut [u8], at: usize) -> usize {
         return puts::bytes(b"true", out, at);
     }
     puts::bytes(b"false", out, at)
+}
+
+// The name of a test, by its place in the list of them.
+fn test(n: u64, out: &mut [u8], at: usize) -> usize {
+    match n {
+        0 => puts::bytes(b"none", out, at),
+        1 => puts::bytes(b"start", out, at),
+        2 => puts::bytes(b"length", out, at),
+        3 => puts::bytes(b"fields", out, at),
+        4 => puts::bytes(b"first", out, at),
+        _ => puts::bytes(b"second", out, at),
+    }
 }
 
 fn six(n: u64, out: &mut [u8], at: usize) -> usize {

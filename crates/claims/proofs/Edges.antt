@@ -38,10 +38,11 @@ use Rattle.layouts.specs.Paper.Nest as nests
 use Rattle.layouts.specs.Paper.Nibe as nibes
 use Rattle.layouts.specs.Paper.Nikobus as nikobuses
 use Rattle.layouts.specs.Work.Heads.{onlyIf, starts, wordLen, runLen, isByte, leading, on}
-use Rattle.layouts.specs.Work.Homiq.{fieldLen, isFigure, numberIn, numberLen, typeLen, headLen, homiqFormLen, homiqPasses}
-use Rattle.layouts.specs.Work.Nest.{bodyLen, nestFormLen, crcPasses, nestPasses}
-use Rattle.layouts.specs.Work.Nibe.{nibeFormLen, nibePasses}
-use Rattle.layouts.specs.Work.Nikobus.{bytesOf, llOf, linkHeadLen, linkFormLen, pressLen, tailLen, nikobusFormLen, passes16, passes8, nikobusPasses}
+use Rattle.layouts.specs.Work.Homiq.{fieldLen, isFigure, numberIn, numberLen, typeLen, headLen, homiqFormLen, homiqPair}
+use Rattle.layouts.specs.Work.Nest.{bodyLen, nestFormLen, crcPair}
+use Rattle.layouts.specs.Work.Nibe.{nibeFormLen, nibePair}
+use Rattle.layouts.specs.Work.Nikobus.{bytesOf, llOf, linkHeadLen, linkFormLen, pressLen, tailLen, nikobusFormLen, pair16, pair8, nikobusPairs}
+use Rattle.layouts.specs.Work.Recogniser.{agreeing}
 use Rattle.layouts.specs.declared.nest.Direction.the-variants.{Command}
 use Rattle.layouts.proofs.Laws.ByteRuns.{all-bytes, bytes-all}
 use Rattle.layouts.proofs.Laws.Made.{press-said}
@@ -362,7 +363,7 @@ join [] later a b = b
 join (e ∷ es) later a b = (a .0, join es later (a .1) b)
 
 of-frames : AllHold frameEdges
-unfolding known oneOf lenAt nikobusFormLen nikobusPasses linkFormLen linkHeadLen llOf pressLen tailLen passes16 passes8 bytesOf placeOf isHex all onlyIf starts wordLen runLen on hexDigit hexByte hexWord nestFormLen nestPasses crcPasses bodyLen isByte lowByteFirst nibeFormLen nibePasses homiqFormLen homiqPasses headLen typeLen numberLen numberIn guess isFigure fieldLen homiqs.fieldChar homiqs.withoutSeparators leading decimal decimalIn enough feed polyBits bits lows ofBits ofLows bitsOfBytes
+unfolding known oneOf lenAt nikobusFormLen nikobusPairs agreeing linkFormLen linkHeadLen llOf pressLen tailLen pair16 pair8 bytesOf placeOf isHex all onlyIf starts wordLen runLen on hexDigit hexByte hexWord nestFormLen crcPair bodyLen isByte lowByteFirst nibeFormLen nibePair homiqFormLen homiqPair headLen typeLen numberLen numberIn guess isFigure fieldLen homiqs.fieldChar homiqs.withoutSeparators leading decimal decimalIn enough feed polyBits bits lows ofBits ofLows bitsOfBytes
 of-frames = holds-all frameEdges tt
 
 of-messages : AllHold messageEdges

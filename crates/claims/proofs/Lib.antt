@@ -4,3 +4,4 @@ pub mod Known
 mod Laws
 mod Occur
 pub mod Table
+pub mod Verdicts

@@ -31,6 +31,7 @@ use Rattle.builds.specs.Paper.Builds.{BuildCause, HomiqCause}
 use Rattle.frames.specs.Paper.Kinds.{known, knownKinds, KindCause, Frame}
 use Rattle.frames.specs.Paper.Search.{SearchCause, Searches, Leftmost}
 use Rattle.frames.specs.Paper.OneFrame.{OneFrameCause}
+use Rattle.frames.specs.Paper.Why.{WhyCause}
 use Rattle.frames.specs.Work.Seek.{searched}
 use Rattle.frames.proofs.Laws.Runs.{leftmost, none-found}
 use Rattle.frames.proofs.Theorems.{an-answer, never-empty}
@@ -247,6 +248,12 @@ payload = (
 
 pub one-frame : Occur (frames.one-frame .Cause) (frames.one-frame .refusals)
 one-frame = ((record { kind = 0; s = [] }, OneFrameCause.no-kind unknown), ((record { kind = 1; s = [] }, OneFrameCause.no-frame no-frame), tt))
+
+pub why : Occur (frames.why .Cause) (frames.why .refusals)
+why = (
+  (record { kind = 0; buffer = []; place = 0 }, WhyCause.no-kind unknown),
+  ((record { kind = 1; buffer = []; place = 1 }, WhyCause.no-place (lit< tt)), tt),
+)
 
 pub kinds-of : Occur (frames.kinds-of .Cause) (frames.kinds-of .refusals)
 kinds-of = ((record { number = 0 }, KindCause.no-kind unknown), tt)
@@ -507,6 +514,9 @@ as-called c d f still = go (c .refusals)
 
 pub host-search : Occur (host.search .Cause) (host.search .refusals)
 host-search = as-called frames.search host.search (λ a. record { kind = a .kind; buffer = a .buffer; place = a .place }) (λ a n c. c) search
+
+pub host-why : Occur (host.why .Cause) (host.why .refusals)
+host-why = as-called frames.why host.why (λ a. record { kind = a .kind; buffer = a .buffer; place = a .place }) (λ a n c. c) why
 
 pub host-one-frame : Occur (host.one-frame .Cause) (host.one-frame .refusals)
 host-one-frame = as-called frames.one-frame host.one-frame (λ a. record { kind = a .kind; frame = a .s }) (λ a n c. c) one-frame

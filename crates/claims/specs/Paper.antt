@@ -7,3 +7,4 @@ pub mod Functions
 pub mod Points
 pub mod Row
 pub mod Table
+pub mod Verdicts

@@ -11,14 +11,16 @@ use Rattle.checks.specs.Paper.Bits.{highBitFirst, bitsOfBytes}
 use Rattle.checks.specs.Paper.Buses.{nikobusCrc16, nestCrc, nibeXor, homiqCrc, checks}
 use Rattle.checks.specs.Paper.Check.{Check, check}
 use Rattle.checks.specs.Paper.Stretch.{FitIn, Burst}
-use Rattle.frames.specs.Paper.Demand.{Checked, checkedIn, Carrying, stretch, bitOrder, Carries}
+use Rattle.frames.specs.Paper.Demand.{checkedIn, Carrying, stretch, bitOrder, Carries}
 use Rattle.frames.specs.Paper.Kinds.{layoutOf, Frame}
 use Rattle.frames.specs.declared.kinds.Kind.{Kind}
 use Rattle.frames.specs.declared.kinds.Kind.the-variants.{Nikobus, NestCommand, NestResponse, Nibe, Homiq}
 use Rattle.frames.proofs.Laws.Kinds.{one-kind, one-reading}
+use Rattle.layouts.proofs.Laws.Buses.{first-agrees}
 use Rattle.layouts.proofs.Laws.HomiqOne.{joined-bytes}
 use Rattle.layouts.proofs.Laws.Nest.{covered-bytes}
 use Rattle.layouts.proofs.Laws.Nibe as nibe-laws
+use Rattle.layouts.specs.Paper.Layout.{Agree, Checked}
 use Rattle.layouts.specs.Paper.Nest as nests
 use Rattle.layouts.specs.Paper.Nikobus as N
 
@@ -39,20 +41,20 @@ CarriedBy kind (some v) = Carried kind v
 abbrev third : List·Memᴰ nestCrc checks
 third = List·Memᴰ·tail (List·Memᴰ·tail (List·Memᴰ·head refl))
 
-nest-carried : (kind : Kind) (m : nests.Nest) → nests.Limits m → nests.Passes m → 16 ≡ stretch kind → highBitFirst ≡ bitOrder kind
-    → Carried kind (record { check = nestCrc; bytes = nests.covered (m .id) (m .payload); value = m .crc })
-nest-carried kind m l p w o = record { value = p; bytes = covered-bytes (m .id) (m .payload) (l .bytes); one-of = third; wide = w; ordered = o }
+nest-carried : (kind : Kind) (m : nests.Nest) → nests.Limits m → Agree (nests.compared m) → 16 ≡ stretch kind → highBitFirst ≡ bitOrder kind
+    → Carried kind (nests.checked m)
+nest-carried kind m l p w o = record { value = first-agrees p; bytes = covered-bytes (m .id) (m .payload) (l .bytes); one-of = third; wide = w; ordered = o }
 
-carried-in : (kind : Kind) (m : layoutOf kind .Fields) → layoutOf kind .Limits m → layoutOf kind .Passes m → CarriedBy kind (checkedIn kind m)
-carried-in Nikobus (N.link p crc16 crc8) (N.link-limits a b c d f) (N.link-passes g h) =
-    record { value = g; bytes = c; one-of = List·Memᴰ·head refl; wide = refl; ordered = refl }
+carried-in : (kind : Kind) (m : layoutOf kind .Fields) → layoutOf kind .Limits m → Agree (layoutOf kind .compared m) → CarriedBy kind (checkedIn kind m)
+carried-in Nikobus (N.link p crc16 crc8) (N.link-limits a b c d f) q =
+    record { value = first-agrees q; bytes = c; one-of = List·Memᴰ·head refl; wide = refl; ordered = refl }
 carried-in Nikobus (N.press d) l q = tt
 carried-in Nikobus N.tail l q = tt
 carried-in NestCommand m l q = nest-carried NestCommand m l q refl refl
 carried-in NestResponse m l q = nest-carried NestResponse m l q refl refl
 carried-in Nibe m l q =
     record {
-      value = q ∙ sym (nibe-laws.covered-xor (m .content) (l .short) (l .bytes));
+      value = first-agrees q ∙ sym (nibe-laws.covered-xor (m .content) (l .short) (l .bytes));
       bytes = nibe-laws.covered-bytes (m .content) (l .short) (l .bytes);
       one-of = List·Memᴰ·tail (List·Memᴰ·tail (List·Memᴰ·tail (List·Memᴰ·head refl)));
       wide = refl;
@@ -60,7 +62,7 @@ carried-in Nibe m l q =
     }
 carried-in Homiq m l q =
     record {
-      value = q;
+      value = first-agrees q;
       bytes = joined-bytes m l;
       one-of = List·Memᴰ·tail (List·Memᴰ·tail (List·Memᴰ·tail (List·Memᴰ·tail (List·Memᴰ·head refl))));
       wide = refl;

@@ -7,3 +7,4 @@ pub mod Loops
 pub mod OneFrame
 pub mod Hands
 pub mod Runs
+pub mod Why

@@ -11,21 +11,32 @@ use Rattle.digits.proofs.Laws.Refusals.{answered}
 use Rattle.digits.specs.Paper.Bytes.{part}
 use Rattle.digits.specs.Paper.Hex.{hexByte}
 use Rattle.digits.specs.Paper.LowFirst.{lowByteFirst}
-use Rattle.frames.specs.Paper.Kinds.{Frame}
+use Rattle.frames.specs.Paper.Kinds.{layoutOf, Frame, payloadFrom, payloadTo}
 use Rattle.frames.specs.Paper.Runs.{Run, InOrder, TakenUp}
 use Rattle.frames.specs.Paper.Search.{FrameAt, Hit, Leftmost, Searches, frameEnds, payloadEnds, Hands, framePart}
+use Rattle.frames.specs.Paper.Why.{Whys}
 use Rattle.frames.specs.Work.Seek.{searched}
 use Rattle.frames.specs.declared.Found.{Found}
+use Rattle.frames.specs.declared.Found.the-variants.{At}
+use Rattle.frames.specs.declared.Verdict.{Verdict}
+use Rattle.frames.specs.declared.Verdict.the-variants.{Is}
+use Rattle.frames.specs.declared.kinds.Kind.{Kind}
+use Rattle.layouts.specs.declared.Compared.{Compared}
+use Rattle.layouts.specs.declared.Test.{Test}
+use Rattle.layouts.specs.declared.Test.the-variants.{None, First, Second}
 use Rattle.layouts.specs.declared.nest.Direction.{Direction}
 use Rattle.layouts.specs.declared.nest.Direction.the-variants.{Command, Response}
+use Rattle.layouts.proofs.Laws.Buses as buses
 use Rattle.layouts.proofs.Laws.Nest.{nest-size}
 use Rattle.layouts.proofs.Laws.Nikobus.{link-size}
+use Rattle.layouts.specs.Paper.Judged.{Head}
 use Rattle.layouts.specs.Paper.Layout as layout
 use Rattle.layouts.specs.Paper.Nikobus as N
 use Rattle.layouts.specs.Paper.Nest as nests
 use Rattle.frames.proofs.Laws.Places as places
 use Rattle.frames.proofs.Laws.Seek as seeks
 use Rattle.frames.proofs.Laws.Runs as runs
+use Rattle.frames.proofs.Laws.Why as whys
 use Rattle.frames.proofs.Unique as unique
 
 -- 01: "At one place at most one length makes a frame."
@@ -71,6 +82,48 @@ none-between = runs.none-between
 
 pub one-run : {k : ℕ} {s : List ℕ} {place : ℕ} {xs ys : List Hit} → Run k s place xs → Run k s place ys → xs ≡ ys
 one-run = unique.run-one
+
+-- 02, K1. WHY SAYS NONE exactly if a frame stands at the place, and exactly then the search from there answers that place
+pub none-if-frame : {k : ℕ} {s : List ℕ} {place n : ℕ} → FrameAt k s place n → Whys k s place (Is None 0 0)
+none-if-frame = whys.frame-why
+
+pub frame-if-none : {k : ℕ} {s : List ℕ} {place a b : ℕ} → Whys k s place (Is None a b) → (n : ℕ) × FrameAt k s place n
+frame-if-none = whys.why-frame
+
+pub found-if-frame : {k : ℕ} {s : List ℕ} {place n : ℕ} (q : FrameAt k s place n)
+    → Searches k s place (At place n (place + payloadFrom (q .frame)) (place + payloadTo (q .frame)))
+found-if-frame = whys.frame-found
+
+pub frame-if-found : {k : ℕ} {s : List ℕ} {place n from to : ℕ} → Searches k s place (At place n from to) → FrameAt k s place n
+frame-if-found a = runs.leftmost a .stands
+
+-- EACH KIND, BUFFER AND PLACE HAS A VERDICT, and one only
+pub a-verdict : (k : ℕ) (s : List ℕ) (place : ℕ) → (r : Verdict) × Whys k s place r
+a-verdict = whys.some-verdict
+
+pub one-verdict : {k : ℕ} {s : List ℕ} {place : ℕ} (r q : Verdict) → Whys k s place r → Whys k s place q → r ≡ q
+one-verdict = unique.why-one
+
+-- WHAT IS LAID OUT SO HAS BEGUN AND IS LONG ENOUGH
+pub laid-begun : (kind : Kind) {s : List ℕ} → Head (layoutOf kind) s → (layoutOf kind .Begun s) × (layoutOf kind .Long s)
+laid-begun = whys.laid-begun
+
+-- VALUES OTHER THAN 0 ONLY WITH A FAILED CHECK, and then they differ
+module _ {k : ℕ} {s : List ℕ} {place : ℕ} where
+  pub first-differ : {a b : ℕ} → Whys k s place (Is First a b) → a ≡ b → ⊥
+  first-differ w = buses.values-differ (answered w refl .judged) buses.Compares.first
+
+  pub second-differ : {a b : ℕ} → Whys k s place (Is Second a b) → a ≡ b → ⊥
+  second-differ w = buses.values-differ (answered w refl .judged) buses.Compares.second
+
+  pub else-zeros : {t : Test} {a b : ℕ} → Whys k s place (Is t a b) → (t ≡ First → ⊥) → (t ≡ Second → ⊥) → (a ≡ 0) × (b ≡ 0)
+  else-zeros {t} {a} {b} w f g =
+      let e = buses.values-zeros (answered w refl .judged) (neither f g) in
+      (ap (λ (c : Compared). c .found) e, ap (λ (c : Compared). c .expected) e)
+    where
+      neither : {t : Test} → (t ≡ First → ⊥) → (t ≡ Second → ⊥) → buses.Compares t → ⊥
+      neither f g buses.first = f refl
+      neither f g buses.second = g refl
 
 -- 01, Nikobus: "LL is even, 0x0C to 0xFE, so the payload is 1 to 122 bytes and the frame is LL bytes long"
 pub record LinkLength (f : List ℕ) : Type 0 where

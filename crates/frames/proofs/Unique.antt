@@ -9,23 +9,32 @@ use native.Mathlib.Decide.{decLe}
 use native.Mathlib.Nat.{eq-or-lt-of-le}
 use native.Mathlib.Omega.{arith}
 use denote.Ref.{RefT, ptr, now}
+use lib.ListN.{drop}
 use Rattle.digits.proofs.Laws.Handed.{same-ends, one-part}
 use Rattle.digits.proofs.Laws.Refusals.{some-number, same-answer, one-answer}
 use Rattle.digits.specs.Paper.Bytes.{part}
 use Rattle.digits.specs.Paper.Part.{Ends}
 use Rattle.digits.specs.Paper.Refusals.{refusalNumber}
 use Rattle.digits.specs.declared.refusal.Refusal.{Refusal}
-use Rattle.frames.specs.Paper.Kinds.{Resolves}
+use Rattle.frames.specs.Paper.Kinds.{layoutOf, Resolves}
 use Rattle.frames.specs.Paper.Runs.{Run}
 use Rattle.frames.specs.Paper.Search.{FrameAt, Hit, Leftmost, foundRefusal, foundHit, Searches, Hands}
 use Rattle.frames.specs.Paper.OneFrame.{OneFrame, framePayloadRefusal, framePayloadEnds, TestsOneFrame}
+use Rattle.frames.specs.Paper.Why.{Failing, JudgedAt, verdictRefusal, verdictFailing, Whys}
 use Rattle.frames.specs.declared.Found.{Found}
+use Rattle.frames.specs.declared.Verdict.{Verdict}
+use Rattle.frames.specs.declared.Verdict.the-variants.{Is as Judge, Refused as NotJudged}
+use Rattle.frames.specs.declared.kinds.Kind.{Kind}
+use Rattle.layouts.proofs.Laws.Buses.{one-verdict}
+use Rattle.layouts.specs.Paper.Judged.{Judged}
+use Rattle.layouts.specs.declared.Compared.{Compared}
+use Rattle.layouts.specs.declared.Test.{Test}
 use Rattle.frames.specs.declared.Found.the-variants.{At, Refused}
 use Rattle.frames.specs.declared.FramePayload.{FramePayload}
 use Rattle.frames.specs.declared.FramePayload.the-variants.{Is, Refused as NotOneFrame}
 use Rattle.frames.specs.declared.kinds.Resolved.{Resolved}
 use Rattle.frames.specs.declared.kinds.Resolved.the-variants.{Is as Kinded, Unknown}
-use Rattle.frames.proofs.Laws.Kinds.{one-payload, one-kind, known-of, kind-is, kind-not}
+use Rattle.frames.proofs.Laws.Kinds.{busOf, one-payload, one-kind, known-of, kind-is, kind-not}
 use Rattle.frames.proofs.Laws.Places.{one-length}
 use Rattle.frames.proofs.Laws.Runs.{leftmost, none-found}
 use Rattle.frames.specs.Paper.Runs as R
@@ -98,6 +107,34 @@ module _ {k : ℕ} {s : List ℕ} where
 
       whole-answer : (r q : FramePayload) → framePayloadRefusal r ≡ framePayloadRefusal q → framePayloadEnds r ≡ framePayloadEnds q → r ≡ q
       whole-answer = same-answer (λ (v : Ends). Is (v .from) (v .to)) NotOneFrame framePayloadRefusal framePayloadEnds (λ v. refl) (λ why. refl) (λ v. refl) whole-cases
+
+-- ---- frames::why
+
+module _ {k : ℕ} {s : List ℕ} {place : ℕ} where
+  pub failing-one : (u v : Failing) → JudgedAt k s place u → JudgedAt k s place v → u ≡ v
+  failing-one u v a b =
+      let same : b .kind ≡ a .kind = one-kind (b .kind) (a .kind) (b .number ∙ sym (a .number)) in
+      let values : Failing → Compared = λ w. record { found = w .found; expected = w .expected } in
+      let e =
+      one-verdict (busOf (a .kind)) (a .judged)
+      (subst (λ (x : Kind). Judged (layoutOf x) (drop place s) (v .test) (values v)) same (b .judged))
+      in
+      alike (u .test) (v .test) (u .found) (v .found) (u .expected) (v .expected) (e .0)
+      (ap (λ (c : Compared). c .found) (e .1)) (ap (λ (c : Compared). c .expected) (e .1))
+    where
+      alike : (t t′ : Test) (x x′ y y′ : ℕ) → t ≡ t′ → x ≡ x′ → y ≡ y′
+          → _≡_ {A = Failing} (record { test = t; found = x; expected = y }) (record { test = t′; found = x′; expected = y′ })
+      alike t t′ x x′ y y′ p q r = rw (p, q, r)
+
+  pub why-one : (r q : Verdict) → Whys k s place r → Whys k s place q → r ≡ q
+  why-one r q a b = let e = one-answer failing-one a b in verdict-answer r q (e .0) (e .1)
+    where
+      verdict-cases : (P : Verdict → Type 0) → ((v : Failing) → P (Judge (v .test) (v .found) (v .expected))) → ((why : Refusal) → P (NotJudged why)) → (r : Verdict) → P r
+      verdict-cases P f g (Judge t x y) = f (record { test = t; found = x; expected = y })
+      verdict-cases P f g (NotJudged why) = g why
+
+      verdict-answer : (r q : Verdict) → verdictRefusal r ≡ verdictRefusal q → verdictFailing r ≡ verdictFailing q → r ≡ q
+      verdict-answer = same-answer (λ (v : Failing). Judge (v .test) (v .found) (v .expected)) NotJudged verdictRefusal verdictFailing (λ v. refl) (λ why. refl) (λ v. refl) verdict-cases
 
 -- ---- frames::kinds::of
 

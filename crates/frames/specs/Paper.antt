@@ -3,3 +3,4 @@ pub mod Search
 pub mod Runs
 pub mod OneFrame
 pub mod Demand
+pub mod Why

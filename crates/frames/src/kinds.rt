@@ -7,9 +7,10 @@ use layouts::nibe;
 use layouts::nikobus;
 ghost use mathlib.Core.Path.{_≡_};
 ghost use Prim.Native.Nat.{_+_, _≤_};
-ghost use lib.ListN.{length};
+ghost use lib.ListN.{length, drop};
+ghost use Rattle.layouts.specs.Paper.Judged.{Judged, valuesOf};
 ghost use Rattle.frames.specs.Paper.Kinds as paper;
-ghost use Rattle.frames.specs.Paper.Kinds.{Resolves, numberOf};
+ghost use Rattle.frames.specs.Paper.Kinds.{Resolves, numberOf, layoutOf};
 ghost use Rattle.frames.specs.Work.Frames.{HeadAt, mayStart};
 
 // A bus and a direction.
@@ -64,10 +65,11 @@ pub fn known(number: u8) -> bool
     }
 }
 
-// The frame at a place of a buffer.
+// What stands at a place of a buffer: the frame, or the test that it failed.
 pub(crate) fn at(kind: Kind, buffer: &[u8], place: usize) -> AtHead
     requires { ⌜ place ≤ length (now buffer) ⌝ }
     ensures { λ r. ⌜ HeadAt kind (now (buffer .entry)) place (r .len) (r .from) (r .to) ⌝ }
+    ensures { λ r. ⌜ Judged (layoutOf kind) (drop place (now (buffer .entry))) (r .failed) (valuesOf r) ⌝ }
 {
     let s = &buffer[place..];
     match kind {
@@ -76,6 +78,20 @@ pub(crate) fn at(kind: Kind, buffer: &[u8], place: usize) -> AtHead
         Kind::NestResponse => nest::frame(Direction::Response, s),
         Kind::Nibe => nibe::frame(s),
         Kind::Homiq => homiq::frame(s),
+    }
+}
+
+// What stands at the head of these bytes, as `at` says it of the place 0. The match stands here again for the compiler: a recogniser that is called
+// once would become a part of `at`, and `at` too large to become a part of each kind's search. Heads would cost the search up to a third more.
+pub(crate) fn head(kind: Kind, bytes: &[u8]) -> AtHead
+    ensures { λ r. ⌜ HeadAt kind (now (bytes .entry)) 0 (r .len) (r .from) (r .to) ⌝ }
+{
+    match kind {
+        Kind::Nikobus => nikobus::frame(bytes),
+        Kind::NestCommand => nest::frame(Direction::Command, bytes),
+        Kind::NestResponse => nest::frame(Direction::Response, bytes),
+        Kind::Nibe => nibe::frame(bytes),
+        Kind::Homiq => homiq::frame(bytes),
     }
 }
 

@@ -5,10 +5,15 @@ mod seek;
 use digits::refusal::Refusal;
 use kinds::Kind;
 use kinds::Resolved;
+use layouts::AtHead;
+use layouts::Test;
+ghost use mathlib.Core.Path.{_≡_};
 ghost use Rattle.digits.specs.Paper.Part.{zeroEnds, IsPart};
 ghost use Rattle.frames.specs.Paper.Kinds.{numberOf};
 ghost use Rattle.frames.specs.Paper.Search.{Searches, Hands, frameEnds, payloadEnds};
 ghost use Rattle.frames.specs.Paper.OneFrame.{TestsOneFrame};
+ghost use Rattle.frames.specs.Paper.Why.{Whys};
+ghost use Rattle.frames.specs.declared.Verdict.the-variants.{Is};
 
 // What a search finds: the frame's start and length, and the places where its payload begins and ends.
 pub enum Found {
@@ -24,6 +29,16 @@ pub enum Found {
 // Whether bytes are one frame: the places where its payload begins and ends.
 pub enum FramePayload {
     Is { from: usize, to: usize },
+    Refused(Refusal),
+}
+
+// Why no frame stands at a place: the test that failed first, and the values of a failed check; `None` and zeros if one stands there.
+pub enum Verdict {
+    Is {
+        test: Test,
+        found: u16,
+        expected: u16,
+    },
     Refused(Refusal),
 }
 
@@ -94,7 +109,7 @@ pub fn one_frame(kind: u8, s: &[u8]) -> FramePayload
 fn one_of_kind(kind: Kind, s: &[u8]) -> FramePayload
     ensures { λ r. ⌜ TestsOneFrame (numberOf kind) (now (s .entry)) r ⌝ }
 {
-    let head = kinds::at(kind, s, 0);
+    let head = kinds::head(kind, s);
     let len = head.len;
     if len == 0 {
         return FramePayload::Refused(Refusal::OutOfLimits);
@@ -105,5 +120,32 @@ fn one_of_kind(kind: Kind, s: &[u8]) -> FramePayload
     FramePayload::Is {
         from: head.from,
         to: head.to,
+    }
+}
+
+// The first test that a frame at the place fails. Refusals: 2 for a kind that is not known, 3 for a place beyond the buffer's length.
+pub fn why(kind: u8, buffer: &[u8], place: usize) -> Verdict
+    ensures { λ r. ⌜ Whys kind (now (buffer .entry)) place r ⌝ }
+{
+    match kinds::of(kind) {
+        Resolved::Is(known) => {
+            if buffer.len() < place {
+                return Verdict::Refused(Refusal::NoPlace);
+            }
+            judged(kinds::at(known, buffer, place))
+        }
+        Resolved::Unknown => Verdict::Refused(Refusal::NoKind),
+    }
+}
+
+// What a recogniser found, as a verdict.
+fn judged(head: AtHead) -> Verdict
+    ensures { λ r. ⌜ r ≡ Is (head .failed) (head .found) (head .expected) ⌝ }
+{
+    let test = head.failed;
+    Verdict::Is {
+        test,
+        found: head.found,
+        expected: head.expected,
     }
 }

@@ -24,6 +24,8 @@ use Rattle.numbers.proofs.Unique.{same-number, same-value}
 use Rattle.frames.specs.Paper.Search.{Hit, zeroHit, SearchCause, Leftmost}
 use Rattle.frames.specs.Paper.OneFrame.{OneFrameCause, OneFrame}
 use Rattle.frames.proofs.Unique.{leftmost-one, ends-one}
+use Rattle.frames.specs.Paper.Why.{WhyCause}
+use Rattle.host.specs.Paper.Why.{Judgement, zeroJudgement, JudgementAt, judgementIn}
 use Rattle.host.specs.Paper.Answers.{hitIn, endsIn, numberIn, flag}
 use Rattle.puts.specs.declared.Written.{Written}
 use Rattle.host.specs.Paper.Kind.{KindByte, held, beyond}
@@ -36,6 +38,8 @@ use Rattle.host.specs.declared.answers.PanelValue.{PanelValue}
 use Rattle.host.specs.declared.answers.Payload.{Payload}
 use Rattle.host.specs.declared.answers.Raw.{Raw}
 use Rattle.host.specs.declared.answers.Reading.{Reading}
+use Rattle.host.specs.declared.answers.Verdict.{Verdict}
+use Rattle.host.proofs.Laws.Why.{one-judgement}
 
 -- ---- a part by its start and its length
 
@@ -75,6 +79,15 @@ search r q a b = let e = one-answer leftmost-one a b in same-found r q (e .0) (e
 pub one-frame : {k : ℕ} {s : List ℕ} (r q : Payload) → Answers zeroEnds (OneFrameCause k s) (OneFrame k s) (r .refusal) (endsIn r)
     → Answers zeroEnds (OneFrameCause k s) (OneFrame k s) (q .refusal) (endsIn q) → r ≡ q
 one-frame r q a b = let e = one-answer ends-one a b in same-payload r q (e .0) (e .1)
+
+-- ---- bolsterweft_why
+
+pub why : {k place : ℕ} {s : List ℕ} (r q : Verdict)
+    → Answers zeroJudgement (WhyCause k s place) (JudgementAt k s place) (r .refusal) (judgementIn r)
+    → Answers zeroJudgement (WhyCause k s place) (JudgementAt k s place) (q .refusal) (judgementIn q) → r ≡ q
+why r q a b =
+    let e = one-answer one-judgement a b in
+    ap₂ (λ (i : ℕ) (v : Judgement). record { refusal = i; test = v .test; found = v .found; expected = v .expected }) (e .0) (e .1)
 
 -- ---- the calls that write from a room's front
 

@@ -29,6 +29,15 @@ pub struct Payload {
     pub payload_length: usize,
 }
 
+// The test that a frame at a place failed first, by its number, and the values of a failed check.
+#[repr(C)]
+pub struct Verdict {
+    pub refusal: u32,
+    pub test: u32,
+    pub found: u32,
+    pub expected: u32,
+}
+
 // How many bytes were written.
 #[repr(C)]
 pub struct Count {

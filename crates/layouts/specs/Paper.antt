@@ -6,3 +6,4 @@ pub mod Nibe
 pub mod Homiq
 pub mod Made
 pub mod Starts
+pub mod Judged

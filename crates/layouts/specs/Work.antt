@@ -1,4 +1,6 @@
 pub mod Heads
+pub mod Answered
+pub mod Recogniser
 pub mod Nikobus
 pub mod Nest
 pub mod Nibe

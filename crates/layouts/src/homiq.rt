@@ -1,6 +1,10 @@
 // Homiq: `<;CMD;VAL;SRC;DST;ID;TYPE;CRC;>` CR LF.
 use super::AtHead;
+use super::Compared;
+use super::Test;
+use super::differs;
 use super::nothing;
+use super::stands;
 use super::words;
 use checks::homiq::Crc;
 ghost use mathlib.Core.Path.{_≡_};
@@ -14,32 +18,35 @@ ghost use Rattle.digits.specs.Work.Decimal.{guess};
 ghost use Rattle.checks.specs.Paper.Check.{feed, check};
 ghost use Rattle.checks.specs.Paper.Buses.{homiqCrc};
 ghost use Rattle.layouts.specs.Paper.Chars.{oneOf};
-ghost use Rattle.layouts.specs.Paper.Layout.{Leads};
+ghost use Rattle.layouts.specs.Paper.Judged.{Recognises};
 ghost use Rattle.layouts.specs.Paper.Homiq.{homiq, fieldChar, withoutSeparators};
 ghost use Rattle.layouts.specs.Paper.Starts.{homiqStarts};
 ghost use Rattle.layouts.specs.Paper.Made.{Wire, Payload};
 ghost use Rattle.layouts.specs.Work.Heads.{leading, onward};
 ghost use Rattle.layouts.specs.Work.Homiq.{fieldLen, isFigure, numberIn, numberLen, typeLen, headLen, fiveLen};
 
-// The frame at the head of s; its payload is CMD to TYPE.
+// What stands at the head of s; a frame's payload is CMD to TYPE. Tested in this order: `<;`, the fields with CR LF, the CRC.
 pub fn frame(s: &[u8]) -> AtHead
-    ensures { λ r. ⌜ Leads homiq (now (s .entry)) (r .len) (r .from) (r .to) ⌝ }
+    ensures { λ r. ⌜ Recognises homiq (now (s .entry)) r ⌝ }
 {
+    if !words::starts_with(s, b"<;") {
+        return nothing(Test::Start);
+    }
     let before = head(s);
     let claimed = number_at(s, before, 0, 255);
     let behind = claimed.end;
     let n = words::word_at(s, behind, b">\r\n");
     if n == 0 {
-        return nothing();
+        return nothing(Test::Fields);
     }
-    if crc(&s[2..before]) as u16 != claimed.value {
-        return nothing();
+    let check = Compared {
+        found: claimed.value,
+        expected: crc(&s[2..before]) as u16,
+    };
+    if check.found != check.expected {
+        return differs(Test::First, check);
     }
-    AtHead {
-        len: n,
-        from: 2,
-        to: before - 1,
-    }
+    stands(n, 2, before - 1)
 }
 
 // Whether a frame can begin with the first three bytes of s: `<;`.

@@ -1,19 +1,21 @@
 // Nest: preamble; id, length, payload; CRC.
 use super::AtHead;
+use super::Compared;
+use super::Test;
+use super::differs;
 use super::nothing;
+use super::stands;
 use super::words;
 use checks::nest::Crc;
-use digits::low_first;
 ghost use mathlib.Core.Path.{_≡_};
 ghost use mathlib.Core.Bool.{_&&_};
 ghost use Prim.Native.Nat.{_≤_, _<_};
 ghost use lib.Dec.{eqb};
 ghost use lib.ListN.{length};
-ghost use Rattle.layouts.specs.Paper.Layout.{Leads};
+ghost use Rattle.layouts.specs.Paper.Judged.{Recognises};
 ghost use Rattle.layouts.specs.Paper.Nest.{nest, nestWith};
 ghost use Rattle.layouts.specs.Paper.Starts.{firstThree, nestStarts};
-ghost use Rattle.layouts.specs.Work.Heads.{onward};
-ghost use Rattle.layouts.specs.Work.Nest.{bodyLen, nestFormLen, crcPasses};
+ghost use Rattle.layouts.specs.Work.Nest.{bodyLen, crcPair};
 
 // Commands go to the backplate, responses come from it.
 pub enum Direction {
@@ -21,9 +23,9 @@ pub enum Direction {
     Response,
 }
 
-// The frame at the head of s.
+// What stands at the head of s.
 pub fn frame(direction: Direction, s: &[u8]) -> AtHead
-    ensures { λ r. ⌜ Leads (nest direction) (now (s .entry)) (r .len) (r .from) (r .to) ⌝ }
+    ensures { λ r. ⌜ Recognises (nest direction) (now (s .entry)) r ⌝ }
 {
     match direction {
         Direction::Command => framed(s, b"\xD5\xAA\x96"),
@@ -56,45 +58,29 @@ fn three(s: &[u8], first: u8, second: u8, third: u8) -> bool
     false
 }
 
-// The frame with this preamble.
+// What stands there with this preamble. Tested in this order: the preamble, the length and the count of bytes, the CRC. (Any bytes are an
+// id and a payload, so that no field fails.)
 fn framed(s: &[u8], preamble: &[u8]) -> AtHead
     requires { ⌜ 0 < length (now preamble) ⌝ }
-    ensures { λ r. ⌜ Leads (nestWith (now (preamble .entry))) (now (s .entry)) (r .len) (r .from) (r .to) ⌝ }
+    ensures { λ r. ⌜ Recognises (nestWith (now (preamble .entry))) (now (s .entry)) r ⌝ }
 {
-    let n = form(s, preamble);
-    if n == 0 {
-        return nothing();
+    if !words::starts_with(s, preamble) {
+        return nothing(Test::Start);
     }
     let before = preamble.len();
-    if !passes(&s[before..n]) {
-        return nothing();
+    let n = body(&s[before..]);
+    if n == 0 {
+        return nothing(Test::Length);
     }
-    AtHead {
-        len: n,
-        from: before + 4,
-        to: n - 2,
+    let end = before + n;
+    let check = compared(&s[before..end]);
+    if check.found != check.expected {
+        return differs(Test::First, check);
     }
+    stands(end, before + 4, end - 2)
 }
 
-// The preamble, then the length: how long a frame that begins so is, 0 for none.
-fn form(s: &[u8], preamble: &[u8]) -> usize
-    ensures { λ r. ⌜ r ≡ nestFormLen (now (preamble .entry)) (now (s .entry)) ⌝ }
-{
-    let at = words::word(s, preamble);
-    body_at(s, at)
-}
-
-// The end of id, length, payload and CRC.
-fn body_at(s: &[u8], at: usize) -> usize
-    requires { ⌜ at ≤ length (now s) ⌝ }
-    ensures { λ r. ⌜ r ≡ onward bodyLen (now (s .entry)) at ⌝ }
-{
-    if at == 0 {
-        return 0;
-    }
-    words::onto(at, body(&s[at..]))
-}
-
+// How many bytes id, length, payload and CRC are; 0 if they are not there or the length is above 1,024.
 fn body(s: &[u8]) -> usize
     ensures { λ r. ⌜ r ≡ bodyLen (now (s .entry)) ⌝ }
 {
@@ -111,13 +97,14 @@ fn body(s: &[u8]) -> usize
     n + 6
 }
 
-// Whether the last two bytes of u are the CRC of those before them, low byte first.
-fn passes(u: &[u8]) -> bool
+// The number that the last two bytes of u are, low byte first, and the CRC of those before them.
+fn compared(u: &[u8]) -> Compared
     requires { ⌜ 2 ≤ length (now u) ⌝ }
-    ensures { λ r. ⌜ r ≡ crcPasses (now (u .entry)) ⌝ }
+    ensures { λ r. ⌜ r ≡ crcPair (now (u .entry)) ⌝ }
 {
     let n = u.len() - 2;
-    let crc = Crc::of(&u[0..n]);
-    let expected = low_first::two(crc);
-    words::starts_with(&u[n..], &expected)
+    Compared {
+        found: u[n] as u16 + u[n + 1] as u16 * 256,
+        expected: Crc::of(&u[0..n]),
+    }
 }

@@ -1,32 +1,42 @@
 // Nibe: C0, command, length, data, check.
 use super::AtHead;
+use super::Compared;
+use super::Test;
+use super::differs;
 use super::nothing;
+use super::stands;
 use checks::nibe::Xor;
 ghost use mathlib.Core.Path.{_≡_};
 ghost use Prim.Native.Nat.{_≤_};
 ghost use lib.ListN.{length};
 ghost use Rattle.layouts.specs.Paper.Chars.{oneOf};
-ghost use Rattle.layouts.specs.Paper.Layout.{Leads};
+ghost use Rattle.layouts.specs.Paper.Judged.{Recognises};
 ghost use Rattle.layouts.specs.Paper.Nibe.{nibe, commands};
 ghost use Rattle.layouts.specs.Paper.Starts.{nibeStarts};
-ghost use Rattle.layouts.specs.Work.Nibe.{nibeFormLen, nibePasses};
+ghost use Rattle.layouts.specs.Work.Nibe.{claimedLen, nibePair};
 
-// The frame at the head of s; its payload is the data.
+// What stands at the head of s; a frame's payload is the data. Tested in this order: the start mark, the count of bytes, the command, the check.
 pub fn frame(s: &[u8]) -> AtHead
-    ensures { λ r. ⌜ Leads nibe (now (s .entry)) (r .len) (r .from) (r .to) ⌝ }
+    ensures { λ r. ⌜ Recognises nibe (now (s .entry)) r ⌝ }
 {
-    let n = form(s);
+    if s.len() == 0 {
+        return nothing(Test::Start);
+    }
+    if s[0] != 0xC0 {
+        return nothing(Test::Start);
+    }
+    let n = claimed(s);
     if n == 0 {
-        return nothing();
+        return nothing(Test::Length);
     }
-    if !passes(&s[0..n]) {
-        return nothing();
+    if !is_command(s[1]) {
+        return nothing(Test::Fields);
     }
-    AtHead {
-        len: n,
-        from: 3,
-        to: n - 1,
+    let check = compared(&s[0..n]);
+    if check.found != check.expected {
+        return differs(Test::First, check);
     }
+    stands(n, 3, n - 1)
 }
 
 // Whether a frame can begin with the first three bytes of s: C0, and then a command, all of which begin with 6.
@@ -42,17 +52,11 @@ pub fn may_start(s: &[u8]) -> bool
     false
 }
 
-// The start mark, then the command, then the length: how long a frame that begins so is, 0 for none.
-fn form(s: &[u8]) -> usize
-    ensures { λ r. ⌜ r ≡ nibeFormLen (now (s .entry)) ⌝ }
+// How long a frame with the length at the head of s is; 0 if the length or as many bytes are not there.
+fn claimed(s: &[u8]) -> usize
+    ensures { λ r. ⌜ r ≡ claimedLen (now (s .entry)) ⌝ }
 {
     if s.len() < 4 {
-        return 0;
-    }
-    if s[0] != 0xC0 {
-        return 0;
-    }
-    if !is_command(s[1]) {
         return 0;
     }
     let n = s[2] as usize + 4;
@@ -87,11 +91,14 @@ pub fn is_command(c: u8) -> bool
     c == 0x6C
 }
 
-// Whether the last byte of f is the XOR of the length and the data.
-fn passes(f: &[u8]) -> bool
+// The last byte of f, and the XOR of the length and the data.
+fn compared(f: &[u8]) -> Compared
     requires { ⌜ 4 ≤ length (now f) ⌝ }
-    ensures { λ r. ⌜ r ≡ nibePasses (now (f .entry)) ⌝ }
+    ensures { λ r. ⌜ r ≡ nibePair (now (f .entry)) ⌝ }
 {
     let last = f.len() - 1;
-    f[last] == Xor::of(&f[2..last])
+    Compared {
+        found: f[last] as u16,
+        expected: Xor::of(&f[2..last]) as u16,
+    }
 }

@@ -1,44 +1,48 @@
 // Nikobus: link, press and tail.
 use super::AtHead;
+use super::Compared;
+use super::Test;
+use super::differs;
 use super::nothing;
+use super::stands;
 use super::words;
 use checks::nikobus::Crc8;
 use checks::nikobus::Crc16;
 use digits::hex;
 use digits::hex::Byte;
+ghost use mathlib.Core.Bool.{true};
 ghost use mathlib.Core.Path.{_≡_};
-ghost use Prim.Native.Nat.{_-_, _≤_};
+ghost use Prim.Native.Nat.{_-_, _≤_, _<_};
 ghost use lib.Dec.{T};
-ghost use lib.ListN.{length, getD};
+ghost use lib.ListN.{length};
+ghost use Rattle.digits.specs.Paper.Ascii.{ascii};
 ghost use Rattle.digits.specs.Paper.Bytes.{part};
 ghost use Rattle.checks.specs.Paper.Check.{check};
 ghost use Rattle.checks.specs.Paper.Buses.{nikobusCrc16};
 ghost use Rattle.layouts.specs.Paper.Chars.{all, isHex};
-ghost use Rattle.layouts.specs.Paper.Layout.{Leads};
+ghost use Rattle.layouts.specs.Paper.Judged.{Recognises};
 ghost use Rattle.layouts.specs.Paper.Nikobus.{nikobus};
 ghost use Rattle.layouts.specs.Paper.Starts.{nikobusStarts};
-ghost use Rattle.layouts.specs.Work.Heads.{onward};
-ghost use Rattle.layouts.specs.Work.Nikobus as work;
-ghost use Rattle.layouts.specs.Work.Nikobus.{hexPair, bytesOf, digitsLen, llOf, linkFormLen, linkLen, pressLen, tailLen};
+ghost use Rattle.layouts.specs.Work.Heads.{starts, onward};
+ghost use Rattle.layouts.specs.Work.Nikobus.{hexPair, bytesOf, digitsLen, llOf, linkFormLen, pair16, pair8};
 
 // This many characters are tested at a time, with no branch between them: the compiler makes vector instructions of that.
 const BLOCK: usize = 32;
 
-// The frame at the head of s; its payload is a link's digits or a press's, and a tail has none.
+// What stands at the head of s, by its start mark; a frame's payload is a link's digits or a press's, and a tail has none.
 pub fn frame(s: &[u8]) -> AtHead
-    ensures { λ r. ⌜ Leads nikobus (now (s .entry)) (r .len) (r .from) (r .to) ⌝ }
+    ensures { λ r. ⌜ Recognises nikobus (now (s .entry)) r ⌝ }
 {
-    if s.len() == 0 {
-        return nothing();
+    if words::starts_with(s, b"$") {
+        return link(s);
     }
-    let mark = s[0];
-    if mark == b'$' {
-        return linked(s);
+    if words::starts_with(s, b"#N") {
+        return press(s);
     }
-    if mark == b'#' {
-        return button(s);
+    if words::starts_with(s, b"#E1") {
+        return tail(s);
     }
-    nothing()
+    nothing(Test::Start)
 }
 
 // Whether a frame can begin with the first three bytes of s: `$` or `#`, and then a digit or a letter.
@@ -57,78 +61,79 @@ pub fn may_start(s: &[u8]) -> bool
     false
 }
 
-// A link.
-fn linked(s: &[u8]) -> AtHead
-    requires { ⌜ getD (now s) 0 0 ≡ 36 ⌝ }
-    ensures { λ r. ⌜ Leads nikobus (now (s .entry)) (r .len) (r .from) (r .to) ⌝ }
-{
-    let n = link(s);
-    if n == 0 {
-        return nothing();
-    }
-    AtHead {
-        len: n,
-        from: 3,
-        to: n - 7,
-    }
-}
-
-// A press or a tail.
-fn button(s: &[u8]) -> AtHead
-    requires { ⌜ getD (now s) 0 0 ≡ 35 ⌝ }
-    ensures { λ r. ⌜ Leads nikobus (now (s .entry)) (r .len) (r .from) (r .to) ⌝ }
-{
-    let m = press(s);
-    if m != 0 {
-        return AtHead {
-            len: m,
-            from: 2,
-            to: 8,
-        };
-    }
-    let k = words::word(s, b"#E1\r");
-    AtHead {
-        len: k,
-        from: k,
-        to: k,
-    }
-}
-
-// A link's form, then CRC16, then CRC8: its length, 0 for none.
-fn link(s: &[u8]) -> usize
-    ensures { λ r. ⌜ r ≡ linkLen (now (s .entry)) ⌝ }
-{
-    let n = link_form(s);
-    if n == 0 {
-        return 0;
-    }
-    if !passes16(&s[0..n]) {
-        return 0;
-    }
-    if !passes8(&s[0..n]) {
-        return 0;
-    }
-    n
-}
-
-// `#N`, six digits, CR.
-fn press(s: &[u8]) -> usize
-    ensures { λ r. ⌜ r ≡ pressLen (now (s .entry)) ⌝ }
-{
-    let a = words::word(s, b"#N");
-    let b = digits_at(s, a, 6);
-    words::word_at(s, b, b"\r")
-}
-
-// `$`, LL, the digits that LL says, CR: how long a link that begins so is, 0 for none.
-fn link_form(s: &[u8]) -> usize
-    ensures { λ r. ⌜ r ≡ linkFormLen (now (s .entry)) ⌝ }
+// A link. Tested in this order: LL and the count of bytes, the digits and CR, CRC16, CRC8.
+fn link(s: &[u8]) -> AtHead
+    requires { ⌜ starts (ascii "$") (now s) ≡ true ⌝ }
+    ensures { λ r. ⌜ Recognises nikobus (now (s .entry)) r ⌝ }
 {
     let n = ll(s);
     if n == 0 {
-        return 0;
+        return nothing(Test::Length);
     }
-    let end = digits_at(s, 3, n - 4);
+    if s.len() < n {
+        return nothing(Test::Length);
+    }
+    let len = link_form(s, n);
+    if len == 0 {
+        return nothing(Test::Fields);
+    }
+    checked(s, len)
+}
+
+// A press: nine bytes, and then the digits and CR.
+fn press(s: &[u8]) -> AtHead
+    requires { ⌜ starts (ascii "#N") (now s) ≡ true ⌝ }
+    ensures { λ r. ⌜ Recognises nikobus (now (s .entry)) r ⌝ }
+{
+    if s.len() < 9 {
+        return nothing(Test::Length);
+    }
+    let end = digits_at(s, 2, 6);
+    let n = words::word_at(s, end, b"\r");
+    if n == 0 {
+        return nothing(Test::Fields);
+    }
+    stands(n, 2, 8)
+}
+
+// A tail: four bytes, and then CR.
+fn tail(s: &[u8]) -> AtHead
+    requires { ⌜ starts (ascii "#E1") (now s) ≡ true ⌝ }
+    ensures { λ r. ⌜ Recognises nikobus (now (s .entry)) r ⌝ }
+{
+    if s.len() < 4 {
+        return nothing(Test::Length);
+    }
+    if s[3] != b'\r' {
+        return nothing(Test::Fields);
+    }
+    stands(4, 4, 4)
+}
+
+// The checks of what is laid out as a link of n bytes.
+fn checked(s: &[u8], n: usize) -> AtHead
+    requires { ⌜ n ≡ linkFormLen (now s) ⌝ }
+    requires { ⌜ 0 < n ⌝ }
+    ensures { λ r. ⌜ Recognises nikobus (now (s .entry)) r ⌝ }
+{
+    let first = compared16(&s[0..n]);
+    if first.found != first.expected {
+        return differs(Test::First, first);
+    }
+    let second = compared8(&s[0..n]);
+    if second.found != second.expected {
+        return differs(Test::Second, second);
+    }
+    stands(n, 3, n - 7)
+}
+
+// The digits that LL says and CR behind `$` and LL: how long a link that is laid out so is, 0 for none.
+fn link_form(s: &[u8], ll: usize) -> usize
+    requires { ⌜ ll ≡ llOf (now s) ⌝ }
+    requires { ⌜ 0 < ll ⌝ }
+    ensures { λ r. ⌜ r ≡ linkFormLen (now (s .entry)) ⌝ }
+{
+    let end = digits_at(s, 3, ll - 4);
     words::word_at(s, end, b"\r")
 }
 
@@ -227,25 +232,30 @@ fn is_digit(c: u8) -> bool
     c <= b'F'
 }
 
-// Whether the four digits before CRC8 are the CRC16 of the payload's bytes.
-fn passes16(f: &[u8]) -> bool
+// The number that the four digits before CRC8 are, and the CRC16 of the payload's bytes.
+fn compared16(f: &[u8]) -> Compared
     requires { ⌜ 10 ≤ length (now f) ⌝ }
-    requires { ⌜ T (all isHex (part 3 (length (now f) - 7) (now f))) ⌝ }
-    ensures { λ r. ⌜ r ≡ work.passes16 (now (f .entry)) ⌝ }
+    requires { ⌜ T (all isHex (part 3 (length (now f) - 1) (now f))) ⌝ }
+    ensures { λ r. ⌜ r ≡ pair16 (now (f .entry)) ⌝ }
 {
     let n = f.len() - 7;
-    let expected = hex::four_digits(payload_crc(&f[3..n]));
-    words::starts_with(&f[n..], &expected)
+    Compared {
+        found: pair(f[n], f[n + 1]) as u16 * 256 + pair(f[n + 2], f[n + 3]) as u16,
+        expected: payload_crc(&f[3..n]),
+    }
 }
 
-// Whether the two digits before CR are the CRC8 of the characters before them.
-fn passes8(f: &[u8]) -> bool
-    requires { ⌜ 3 ≤ length (now f) ⌝ }
-    ensures { λ r. ⌜ r ≡ work.passes8 (now (f .entry)) ⌝ }
+// The number that the two digits before CR are, and the CRC8 of the characters before them.
+fn compared8(f: &[u8]) -> Compared
+    requires { ⌜ 10 ≤ length (now f) ⌝ }
+    requires { ⌜ T (all isHex (part 3 (length (now f) - 1) (now f))) ⌝ }
+    ensures { λ r. ⌜ r ≡ pair8 (now (f .entry)) ⌝ }
 {
     let n = f.len() - 3;
-    let expected = hex::two_digits(Crc8::of(&f[0..n]));
-    words::starts_with(&f[n..], &expected)
+    Compared {
+        found: pair(f[n], f[n + 1]) as u16,
+        expected: Crc8::of(&f[0..n]) as u16,
+    }
 }
 
 // The CRC16 of the bytes that the digits of d are.

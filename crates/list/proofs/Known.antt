@@ -17,7 +17,8 @@ use Rattle.checks.specs.Paper.Bits.{bits, ofLows, ofBits, bitsOfBytes}
 use Rattle.checks.specs.Paper.Check.{polyBits, feed}
 use Rattle.layouts.specs.Paper.Chars.{all, oneOf, CR, LF}
 use Rattle.layouts.specs.Work.Heads.{onlyIf, starts, wordLen, runLen, isByte, on}
-use Rattle.layouts.specs.Work.Nest.{bodyLen, nestFormLen, crcPasses, nestPasses}
+use Rattle.layouts.specs.Work.Nest.{bodyLen, nestFormLen, crcPair}
+use Rattle.layouts.specs.Work.Recogniser.{agreeing}
 use Rattle.frames.specs.Paper.Kinds.{known}
 use Rattle.frames.specs.Paper.Runs.{ends, finds}
 use Rattle.frames.specs.Paper.Search.{Searches}
@@ -40,11 +41,11 @@ abbrev capture : List ℕ
 capture = 0xD5 ∷ 0xAA ∷ 0x96 ∷ 0xFF ∷ 0x00 ∷ 0x00 ∷ 0x00 ∷ 0xA3 ∷ 0x4B ∷ 0xFF ∷ []
 
 first : searched 2 capture 0 ≡ At 0 9 7 7
-unfolding searched resolved among seek seekAmong lenAt fromAt toAt nestFormLen nestPasses crcPasses bodyLen isByte all onlyIf starts wordLen runLen on lowByteFirst feed polyBits bits lows ofBits ofLows bitsOfBytes
+unfolding searched resolved among seek seekAmong lenAt fromAt toAt nestFormLen agreeing crcPair bodyLen isByte all onlyIf starts wordLen runLen on lowByteFirst feed polyBits bits lows ofBits ofLows bitsOfBytes
 first = refl
 
 second : searched 2 capture 9 ≡ Refused NoFrame
-unfolding searched resolved among seek seekAmong lenAt fromAt toAt nestFormLen nestPasses crcPasses bodyLen isByte all onlyIf starts wordLen runLen on lowByteFirst feed polyBits bits lows ofBits ofLows bitsOfBytes
+unfolding searched resolved among seek seekAmong lenAt fromAt toAt nestFormLen agreeing crcPair bodyLen isByte all onlyIf starts wordLen runLen on lowByteFirst feed polyBits bits lows ofBits ofLows bitsOfBytes
 second = refl
 
 its-line : LineOf 2 (0xD5 ∷ 0xAA ∷ 0x96 ∷ 0xFF ∷ 0x00 ∷ 0x00 ∷ 0x00 ∷ 0xA3 ∷ 0x4B ∷ []) 0 (ascii "{\"at\":0,\"len\":9,\"msg\":\"command\",\"id\":255,\"data\":\"\"}\n")

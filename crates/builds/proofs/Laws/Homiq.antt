@@ -20,14 +20,14 @@ use Rattle.digits.specs.declared.refusal.Refusal.the-variants.{OutOfLimits}
 use Rattle.checks.proofs.Laws.Feed.{check-lt}
 use Rattle.checks.specs.Paper.Buses.{homiqCrc}
 use Rattle.checks.specs.Paper.Check.{check}
-use Rattle.layouts.proofs.Laws.Buses.{one-lead}
+use Rattle.layouts.proofs.Laws.Buses.{first-agrees, one-lead}
 use Rattle.layouts.proofs.Laws.Homiq.{payload-without-separators, homiq-bus}
 use Rattle.layouts.proofs.Laws.HomiqFields.{decimal-figures}
 use Rattle.layouts.proofs.Laws.Runs.{all-at}
 use Rattle.layouts.specs.Paper.Chars.{all, CR, LF}
 use Rattle.layouts.specs.Paper.Homiq as homiqs
 use Rattle.layouts.specs.Paper.Homiq.{Homiq, homiq, withoutSeparators}
-use Rattle.layouts.specs.Paper.Layout.{bytesOf, FrameBy, Leads, leads, none}
+use Rattle.layouts.specs.Paper.Layout.{all-agree, agree, bytesOf, FrameBy, Leads, leads, none}
 use Rattle.layouts.specs.Paper.Made.{Wire, closed, homiqOf, Payload}
 use Rattle.layouts.specs.Work.Homiq.{isFigure}
 use Rattle.puts.specs.Paper.Put.{Put}
@@ -101,7 +101,7 @@ unfolding wire-of
 framed p f =
     let m = f .form .fields in
     let w = wire-of m in
-    let e : bytesOf homiq m ≡ bytesOf homiq (homiqOf w) = ap (λ (c : ℕ). bytesOf homiq (closed w c)) (f .passes) in
+    let e : bytesOf homiq m ≡ bytesOf homiq (homiqOf w) = ap (λ (c : ℕ). bytesOf homiq (closed w c)) (first-agrees (f .passes)) in
     record {
       wire = w;
       payload =
@@ -202,7 +202,7 @@ module _ (p room : List ℕ) where
       no-frame f = refused-5 (is-outside (λ w x. f (all-of w x)))
         where
           frame : (w : Wire) → Payload p w → FrameBy homiq (around p)
-          frame w x = record { form = record { fields = homiqOf w; limits = x .limits; laid = whole-frame x }; passes = refl }
+          frame w x = record { form = record { fields = homiqOf w; limits = x .limits; laid = whole-frame x }; passes = agree refl all-agree }
 
           all-of : (w : Wire) → Payload p w → len ≡ n
           all-of w x =

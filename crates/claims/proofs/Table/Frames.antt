@@ -7,8 +7,9 @@ use Rattle.digits.proofs.Unique.{equation}
 use Rattle.frames.specs.Paper.Kinds.{KindCause}
 use Rattle.frames.specs.Paper.Search.{SearchCause, frameEnds, payloadEnds}
 use Rattle.frames.specs.Paper.OneFrame.{OneFrameCause}
+use Rattle.frames.specs.Paper.Why.{WhyCause}
 use Rattle.frames.proofs as frames
-use Rattle.frames.proofs.Unique.{searched-one, handed-one, whole-one, resolved-one}
+use Rattle.frames.proofs.Unique.{searched-one, handed-one, whole-one, why-one, resolved-one}
 use Rattle.claims.specs.Paper.Claim.{OneOf, here, there}
 use Rattle.claims.specs.Paper.Row.{Row, Proper, Every, none, and}
 use Rattle.claims.specs.Paper.Function.{function-of}
@@ -101,6 +102,29 @@ one-frame-proper =
       one = λ κs a r q ws vs x y. (whole-one r q x y, refl);
     }
 
+pub why-stated : {k : ℕ} {s : List ℕ} {place no : ℕ} → WhyCause k s place no → OneOf no (2 ∷ 3 ∷ [])
+why-stated (WhyCause.no-kind e) = here
+why-stated (WhyCause.no-place h) = there here
+
+abbrev pub why : Row
+why =
+    record {
+      function = function-of frames.why.Key.name frames.why.Kinds.ps frames.why.Kinds.r frames.why.Symbol.routine;
+      claim = λ κs. claims.why;
+      args = λ κs a. record { kind = a .0; buffer = a .1 .0 .now; place = a .1 .1 .0 };
+      later = λ κs s. [];
+    }
+
+pub why-proper : Proper why
+why-proper =
+    record {
+      named = λ κs. refl;
+      keeps = λ w. frames.why.Met.met (w .𝓤) (w .H) (w .𝓜) (w .𝓖) (w .𝓡);
+      stated = λ κs a no c. why-stated c;
+      occurs = λ κs. inputs.why;
+      one = λ κs a r q ws vs x y. (why-one r q x y, refl);
+    }
+
 kinds-of-stated : {k no : ℕ} → KindCause k no → OneOf no (2 ∷ [])
 kinds-of-stated (KindCause.no-kind e) = here
 
@@ -167,7 +191,7 @@ kinds-known-proper =
 -- ---- all of them
 
 abbrev pub rows : List Row
-rows = search ∷ frame ∷ payload ∷ one-frame ∷ kinds-of ∷ kinds-number ∷ kinds-known ∷ []
+rows = search ∷ frame ∷ payload ∷ one-frame ∷ why ∷ kinds-of ∷ kinds-number ∷ kinds-known ∷ []
 
 pub rows-proper : Every Proper rows
 rows-proper =
@@ -175,6 +199,7 @@ rows-proper =
     (and frame-proper
     (and payload-proper
     (and one-frame-proper
+    (and why-proper
     (and kinds-of-proper
     (and kinds-number-proper
-    (and kinds-known-proper none))))))
+    (and kinds-known-proper none)))))))

@@ -28,7 +28,7 @@ use Rattle.claims.proofs.Laws.Forms.{fronted, unfronted, fronted-these,
 use Rattle.claims.proofs.Laws.Keeps.{keeps-as}
 use Rattle.claims.proofs.Table.Book as book
 use Rattle.claims.proofs.Table.Commands.{acknowledge-stated}
-use Rattle.claims.proofs.Table.Frames.{search-stated, whole-stated}
+use Rattle.claims.proofs.Table.Frames.{search-stated, whole-stated, why-stated}
 use Rattle.claims.proofs.Table.Lines as lines
 use Rattle.claims.proofs.Table.List as list
 use Rattle.claims.proofs.Table.Numbers.{text-stated, byte-values-write-stated, byte-values-read-stated, out-of-range}
@@ -153,6 +153,26 @@ one-frame-proper =
       stated = λ κs a no c. whole-stated c;
       occurs = λ κs. inputs.host-one-frame;
       one = λ κs a r q ws vs x y. (unique.one-frame r q x y, refl);
+    }
+
+abbrev pub why : Row
+why =
+    record {
+      function = function-of host.frame_calls.bolsterweft_why.Key.name host.frame_calls.bolsterweft_why.Kinds.ps host.frame_calls.bolsterweft_why.Kinds.r
+          host.frame_calls.bolsterweft_why.Symbol.routine;
+      claim = λ κs. claims.why;
+      args = λ κs a. record { kind = a .0; buffer = a .1 .0 .now; place = a .1 .1 .0 };
+      later = λ κs s. [];
+    }
+
+pub why-proper : Proper why
+why-proper =
+    record {
+      named = λ κs. refl;
+      keeps = λ w. host.frame_calls.bolsterweft_why.Met.met (w .𝓤) (w .H) (w .𝓜) (w .𝓖) (w .𝓡);
+      stated = λ κs a no c. why-stated c;
+      occurs = λ κs. inputs.host-why;
+      one = λ κs a r q ws vs x y. (unique.why r q x y, refl);
     }
 
 abbrev pub text-of : Row
@@ -512,6 +532,7 @@ rows =
     ∷ version
     ∷ search
     ∷ one-frame
+    ∷ why
     ∷ text-of
     ∷ number-of
     ∷ value
@@ -538,6 +559,7 @@ rows-proper =
     (and version-proper
     (and search-proper
     (and one-frame-proper
+    (and why-proper
     (and text-of-proper
     (and number-of-proper
     (and value-proper
@@ -553,4 +575,4 @@ rows-proper =
     (and book-entry-proper
     (and book-line-proper
     (and book-list-proper
-    (and book-add-proper none)))))))))))))))))))))
+    (and book-add-proper none))))))))))))))))))))))

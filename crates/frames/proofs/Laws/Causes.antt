@@ -12,8 +12,10 @@ use Rattle.digits.specs.Paper.Refusals.{refusalOrder, First, clear, here, after
 use Rattle.frames.specs.Paper.Kinds.{known, Frame}
 use Rattle.frames.specs.Paper.Search.{FrameAt, SearchCause}
 use Rattle.frames.specs.Paper.OneFrame.{OneFrameCause}
+use Rattle.frames.specs.Paper.Why.{WhyCause}
 use Rattle.frames.specs.Paper.Search as S
 use Rattle.frames.specs.Paper.OneFrame as W
+use Rattle.frames.specs.Paper.Why as Y
 
 abbrev ours : ℕ → Bool
 ours k = eqb k 2 || eqb k 3 || eqb k 5 || eqb k 1
@@ -99,3 +101,31 @@ module _ {k : ℕ} {s : List ℕ} where
 
   pub whole-0 : known k ≡ true → Frame k s → First (OneFrameCause k s) refusalOrder 0
   whole-0 e r = no-cause whole-only (whole-known e) (λ c. no-other 3 c (λ z. omega arith) (λ z. omega arith)) (whole-frame r) (λ c. no-other 1 c (λ z. omega arith) (λ z. omega arith))
+
+-- ---- why
+
+module _ {k : ℕ} {s : List ℕ} {place : ℕ} where
+  why-only : (j : ℕ) → ours j ≡ false → WhyCause k s place j → ⊥
+  why-only j e (Y.no-kind f) = true≢false e
+  why-only j e (Y.no-place h) = true≢false e
+
+  why-known : known k ≡ true → WhyCause k s place 2 → ⊥
+  why-known e (Y.no-kind f) = both e f
+
+  why-there : place ≤ length s → WhyCause k s place 3 → ⊥
+  why-there h (Y.no-place l) = omega arith
+
+  why-other : (j : ℕ) → WhyCause k s place j → (j ≡ 2 → ⊥) → (j ≡ 3 → ⊥) → ⊥
+  why-other j (Y.no-kind f) a b = a refl
+  why-other j (Y.no-place h) a b = b refl
+
+  pub why-2 : known k ≡ false → First (WhyCause k s place) refusalOrder 2
+  why-2 e = first-2 why-only (Y.no-kind e)
+
+  pub why-3 : known k ≡ true → length s < place → First (WhyCause k s place) refusalOrder 3
+  why-3 e h = first-3 why-only (why-known e) (Y.no-place h)
+
+  pub why-0 : known k ≡ true → place ≤ length s → First (WhyCause k s place) refusalOrder 0
+  why-0 e h =
+      no-cause why-only (why-known e) (why-there h) (λ c. why-other 5 c (λ z. omega arith) (λ z. omega arith))
+      (λ c. why-other 1 c (λ z. omega arith) (λ z. omega arith))

@@ -15,9 +15,12 @@ use Rattle.digits.proofs.Laws.Refusals.{answered, cause-at, cause-of, pass-over
 use Rattle.digits.specs.Paper.Bytes.{part}
 use Rattle.digits.specs.Paper.Refusals.{refusalOrder, clear, here, after, answers, refuses}
 use Rattle.layouts.specs.Paper.Chars.{oneOf}
+use Rattle.layouts.specs.Paper.Judged.{Judged}
 use Rattle.layouts.specs.Paper.Layout.{Layout, Leads}
 use Rattle.layouts.specs.Paper.Nest.{preamble}
-use Rattle.layouts.specs.Work.Heads.{passing}
+use Rattle.layouts.specs.Work.Recogniser.{Recogniser, frameLen as found-len}
+use Rattle.layouts.specs.declared.Compared.{Compared}
+use Rattle.layouts.specs.declared.Test.{Test}
 use Rattle.layouts.specs.declared.nest.Direction.the-variants.{Command, Response}
 use Rattle.layouts.proofs.Laws.Buses.{Bus, frame-right, leads-at, leads-none, one-lead}
 use Rattle.layouts.proofs.Laws.Heads.{Right}
@@ -29,7 +32,7 @@ use Rattle.layouts.proofs.Theorems.{one-nikobus, one-nest, one-nibe, one-homiq}
 use Rattle.layouts.proofs.Laws.Starts.{Begun, nikobus-begun, nest-begun, nibe-begun, homiq-begun, nikobus-behind, nest-behind, nibe-behind, homiq-behind}
 use Rattle.layouts.specs.Paper.Layout as layout
 use Rattle.frames.specs.Paper.Kinds.{numberOf, layoutOf, known, KindCause, no-kind, Resolves, Frame, payloadFrom, payloadTo}
-use Rattle.frames.specs.Work.Frames.{recogniser, frameLen, wherever, lenAt, fromAt, toAt, mayStart, HeadAt}
+use Rattle.frames.specs.Work.Frames.{recogniser, starts, frameLen, wherever, lenAt, fromAt, toAt, mayStart, HeadAt}
 use Rattle.frames.specs.Work.Seek.{among, resolved}
 use Rattle.frames.specs.declared.kinds.Kind.{Kind}
 use Rattle.frames.specs.declared.kinds.Kind.the-variants.{Nikobus, NestCommand, NestResponse, Nibe, Homiq}
@@ -59,7 +62,7 @@ some : {n : ℕ} → 0 < suc n
 some = omega arith
 
 -- THE RECOGNISERS OF A KIND are right for its layout
-pub busOf : (kind : Kind) → Bus (layoutOf kind) (recogniser kind .form) (recogniser kind .test) (recogniser kind .from) (recogniser kind .to)
+pub busOf : (kind : Kind) → Bus (layoutOf kind) (recogniser kind)
 busOf Nikobus = nikobus-bus
 busOf NestCommand = nest-bus (preamble Command) some
 busOf NestResponse = nest-bus (preamble Response) some
@@ -67,14 +70,14 @@ busOf Nibe = nibe-bus
 busOf Homiq = homiq-bus
 
 -- how a kind's frames begin, and that this does not depend on what stands behind them
-pub begun : (kind : Kind) (f : List ℕ) → layout.Form (layoutOf kind) f → Begun (recogniser kind .starts) f
+pub begun : (kind : Kind) (f : List ℕ) → layout.Form (layoutOf kind) f → Begun (starts kind) f
 begun Nikobus = nikobus-begun
 begun NestCommand = nest-begun Command
 begun NestResponse = nest-begun Response
 begun Nibe = nibe-begun
 begun Homiq = homiq-begun
 
-pub behind : (kind : Kind) (f t : List ℕ) → 3 ≤ length f → recogniser kind .starts (f ++ t) ≡ recogniser kind .starts f
+pub behind : (kind : Kind) (f t : List ℕ) → 3 ≤ length f → starts kind (f ++ t) ≡ starts kind f
 behind Nikobus f t h = nikobus-behind f t h
 behind NestCommand f t h = nest-behind f t h Command
 behind NestResponse f t h = nest-behind f t h Response
@@ -185,38 +188,48 @@ payload-inside r = form-holds (r .frame .form)
 
 -- ---- what the layouts' functions answer
 
-module _ {l : Layout} {form : List ℕ → ℕ} {test : List ℕ → Bool} {from to : List ℕ → ℕ} (b : Bus l form test from to) (s : List ℕ) where
+module _ {l : Layout} {r : Recogniser} (b : Bus l r) (s : List ℕ) where
   abbrev found : ℕ
-  found = passing form test s
+  found = found-len r s
 
-  lead-places : {n x y : ℕ} → Leads l s n x y → (n ≡ found) × ((x ≡ wherever found (from (take found s))) × (y ≡ wherever found (to (take found s))))
+  lead-places : {n x y : ℕ} → Leads l s n x y → (n ≡ found) × ((x ≡ wherever found (r .from (take found s))) × (y ≡ wherever found (r .to (take found s))))
   lead-places {n} {x} {y} a = go found refl
     where
-      go : (p : ℕ) → found ≡ p → (n ≡ p) × ((x ≡ wherever p (from (take p s))) × (y ≡ wherever p (to (take p s))))
+      go : (p : ℕ) → found ≡ p → (n ≡ p) × ((x ≡ wherever p (r .from (take p s))) × (y ≡ wherever p (r .to (take p s))))
       go zero e = let q = one-lead b a (leads-none b s (sym e)) in (q .0, (q .1, q .2))
       go (suc p) e = let q = one-lead b a (leads-at b s (suc p) _ _ (sym e) (λ z. omega arith) refl refl) in (q .0, (q .1, q .2))
 
--- the spot at a place
-pub spotted : (kind : Kind) (s : List ℕ) (i : ℕ) {u : List ℕ} {n x y : ℕ} → u ≡ drop i s → Leads (layoutOf kind) u n x y → HeadAt kind s i n x y
+-- what stands at a place
+pub head-at : (kind : Kind) (s : List ℕ) (i : ℕ) {u : List ℕ} {n x y : ℕ} → u ≡ drop i s → Leads (layoutOf kind) u n x y → HeadAt kind s i n x y
 unfolding lenAt fromAt toAt
-spotted kind s i {n = n} {x = x} {y = y} e a =
+head-at kind s i {n = n} {x = x} {y = y} e a =
     let q = lead-places (busOf kind) (drop i s) (subst (λ (w : List ℕ). Leads (layoutOf kind) w n x y) e a) in
     record { len-is = q .0; from-is = q .1 .0; to-is = q .1 .1 }
 
 -- as the code has it: the rest of the buffer, in the arm of a kind
-pub spotted-as : {kind it : Kind} {s : List ℕ} {i n x y : ℕ} → kind ≡ it → Leads (layoutOf it) (part i (length s) s) n x y → HeadAt kind s i n x y
-spotted-as {it = it} {s = s} {i = i} {n = n} {x = x} {y = y} e a = subst (λ (k : Kind). HeadAt k s i n x y) (sym e) (spotted it s i (part-rest i s) a)
+pub head-at-as : {kind it : Kind} {s : List ℕ} {i n x y : ℕ} → kind ≡ it → Leads (layoutOf it) (part i (length s) s) n x y → HeadAt kind s i n x y
+head-at-as {it = it} {s = s} {i = i} {n = n} {x = x} {y = y} e a = subst (λ (k : Kind). HeadAt k s i n x y) (sym e) (head-at it s i (part-rest i s) a)
+
+-- at the head of s itself
+pub headed-as : {kind it : Kind} {s : List ℕ} {n x y : ℕ} → kind ≡ it → Leads (layoutOf it) s n x y → HeadAt kind s 0 n x y
+headed-as {it = it} {s = s} {n = n} {x = x} {y = y} e a = subst (λ (k : Kind). HeadAt k s 0 n x y) (sym e) (head-at it s 0 refl a)
+
+-- and the verdict on it
+pub judged-as : {kind it : Kind} (s : List ℕ) (i : ℕ) {t : Test} {v : Compared} → kind ≡ it → Judged (layoutOf it) (part i (length s) s) t v
+    → Judged (layoutOf kind) (drop i s) t v
+judged-as {it = it} s i {t = t} {v = v} e a =
+    subst (λ (k : Kind). Judged (layoutOf k) (drop i s) t v) (sym e) (subst (λ (u : List ℕ). Judged (layoutOf it) u t v) (part-rest i s) a)
 
 -- three bytes tell as much as all of them
-pub may-start-as : {kind it : Kind} (s : List ℕ) (i : ℕ) → i + 3 ≤ length s → {r : Bool} → kind ≡ it → r ≡ recogniser it .starts (part i (i + 3) s)
+pub may-start-as : {kind it : Kind} (s : List ℕ) (i : ℕ) → i + 3 ≤ length s → {r : Bool} → kind ≡ it → r ≡ starts it (part i (i + 3) s)
     → r ≡ mayStart kind s i
 unfolding mayStart
 may-start-as {it = it} s i l e h =
     let u = drop i s in
     let three : part i (i + 3) s ≡ take 3 u = rw (add-sub-cancel-left i 3) in
     let long : length (take 3 u) ≡ 3 = length-take-le 3 u (omega (arith, length-drop i s)) in
-    h ∙ ap (recogniser it .starts) three ∙ sym (behind it (take 3 u) (drop 3 u) (omega (arith, long)))
-    ∙ ap (recogniser it .starts) (take-append-drop 3 u) ∙ sym (ap (λ (k : Kind). recogniser k .starts u) e)
+    h ∙ ap (starts it) three ∙ sym (behind it (take 3 u) (drop 3 u) (omega (arith, long)))
+    ∙ ap (starts it) (take-append-drop 3 u) ∙ sym (ap (λ (k : Kind). starts k u) e)
 
 -- what a number that was resolved says
 pub kind-is : {k : ℕ} (kind : Kind) → Resolves k (Is kind) → numberOf kind ≡ k

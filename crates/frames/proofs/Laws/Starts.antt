@@ -8,7 +8,7 @@ use native.Mathlib.Omega.{arith}
 use lib.ListN.{length, drop, length-append, length-drop}
 use Rattle.digits.specs.declared.refusal.Refusal.the-variants.{NoFrame}
 use Rattle.frames.specs.Paper.Kinds.{Frame}
-use Rattle.frames.specs.Work.Frames.{recogniser, frameLen, lenAt, mayStart}
+use Rattle.frames.specs.Work.Frames.{starts, frameLen, lenAt, mayStart}
 use Rattle.frames.specs.Work.Seek.{seekAmong, seek}
 use Rattle.frames.specs.declared.Found.the-variants.{Refused}
 use Rattle.frames.specs.declared.kinds.Kind.{Kind}
@@ -23,13 +23,13 @@ four-bytes {f = f} r = begun (r .kind) f (r .frame .form) .four
 
 module _ (kind : Kind) where
   -- what begins at the head of u
-  head-begun : (u : List ℕ) → 0 < frameLen kind u → (4 ≤ length u) × (recogniser kind .starts u ≡ true)
+  head-begun : (u : List ℕ) → 0 < frameLen kind u → (4 ≤ length u) × (starts kind u ≡ true)
   head-begun u h =
       let a = kind-right kind .sound u h in
       let q = begun kind (a .word) (a .is .form) in
       let four = q .four in (
         omega (arith, ap length (a .splits), length-append (a .word) (a .rest)),
-        ap (recogniser kind .starts) (a .splits) ∙ behind kind (a .word) (a .rest) (omega arith) ∙ q .mark,
+        ap (starts kind) (a .splits) ∙ behind kind (a .word) (a .rest) (omega arith) ∙ q .mark,
       )
 
   none-or : (n : ℕ) → (0 < n → ⊥) → n ≡ 0

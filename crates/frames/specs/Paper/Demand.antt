@@ -5,8 +5,8 @@ use mathlib.Core.Option.{Option, none, some}
 use mathlib.Core.Path.{_≡_}
 use Prim.Native.Nat.{ℕ}
 use Rattle.checks.specs.Paper.Bits.{BitOrder, highBitFirst, lowBitFirst}
-use Rattle.checks.specs.Paper.Buses.{nikobusCrc16, nestCrc, nibeXor, homiqCrc}
 use Rattle.checks.specs.Paper.Check.{Check}
+use Rattle.layouts.specs.Paper.Layout.{Checked}
 use Rattle.layouts.specs.Paper.Nikobus as nikobuses
 use Rattle.layouts.specs.Paper.Nest as nests
 use Rattle.layouts.specs.Paper.Nibe as nibes
@@ -15,22 +15,16 @@ use Rattle.frames.specs.Paper.Kinds.{layoutOf, Frame}
 use Rattle.frames.specs.declared.kinds.Kind.{Kind}
 use Rattle.frames.specs.declared.kinds.Kind.the-variants.{Nikobus, NestCommand, NestResponse, Nibe, Homiq}
 
--- a check, the bytes that it covers, and the value that stands in the frame
-pub record Checked : Type 0 where
-  pub check : Check
-  pub bytes : List ℕ
-  pub value : ℕ
-
 -- "Demand 3's checked bytes are those the check covers (Nikobus: the payload's bytes, under CRC16)"; presses and tails
 -- carry no check value
 abbrev pub checkedIn : (kind : Kind) → layoutOf kind .Fields → Option Checked
-checkedIn Nikobus (nikobuses.link p crc16 crc8) = some (record { check = nikobusCrc16; bytes = p; value = crc16 })
+checkedIn Nikobus (nikobuses.link p crc16 crc8) = some (nikobuses.checked16 p crc16)
 checkedIn Nikobus (nikobuses.press d) = none
 checkedIn Nikobus nikobuses.tail = none
-checkedIn NestCommand m = some (record { check = nestCrc; bytes = nests.covered (m .id) (m .payload); value = m .crc })
-checkedIn NestResponse m = some (record { check = nestCrc; bytes = nests.covered (m .id) (m .payload); value = m .crc })
-checkedIn Nibe m = some (record { check = nibeXor; bytes = nibes.covered (m .content); value = m .xor })
-checkedIn Homiq m = some (record { check = homiqCrc; bytes = homiqs.joined m; value = m .crc })
+checkedIn NestCommand m = some (nests.checked m)
+checkedIn NestResponse m = some (nests.checked m)
+checkedIn Nibe m = some (nibes.checked m)
+checkedIn Homiq m = some (homiqs.checked m)
 
 -- the fields of a frame that carries one: every frame of kinds 2 to 5 does, and every link
 abbrev pub Carrying : (kind : Kind) → layoutOf kind .Fields → Type 0

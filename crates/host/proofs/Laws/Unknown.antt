@@ -14,7 +14,9 @@ use Rattle.layouts.specs.Paper.Chars.{oneOf, all}
 use Rattle.frames.specs.Paper.Kinds.{known, knownKinds}
 use Rattle.frames.specs.Paper.Search.{Hit, zeroHit, SearchCause, Leftmost}
 use Rattle.frames.specs.Paper.OneFrame.{OneFrameCause, OneFrame}
+use Rattle.frames.specs.Paper.Why.{WhyCause}
 use Rattle.host.specs.Paper.Kind.{KindByte, held, beyond}
+use Rattle.host.specs.Paper.Why.{Judgement, zeroJudgement, JudgementAt}
 
 -- ---- the byte of a kind
 
@@ -75,3 +77,9 @@ search-alike {place = place} {s = s} =
 pub whole-alike : {j k n : ℕ} {s : List ℕ} {v : Ends} → KindByte k j → Answers zeroEnds (OneFrameCause j s) (OneFrame j s) n v
     → Answers zeroEnds (OneFrameCause k s) (OneFrame k s) n v
 whole-alike {s = s} = answers-alike (λ k. OneFrameCause k s) (λ k e. OneFrameCause.no-kind e) (λ j k c. elim c [ ]) (λ k. OneFrame k s)
+
+pub why-alike : {j k place n : ℕ} {s : List ℕ} {v : Judgement} → KindByte k j
+    → Answers zeroJudgement (WhyCause j s place) (JudgementAt j s place) n v
+    → Answers zeroJudgement (WhyCause k s place) (JudgementAt k s place) n v
+why-alike {place = place} {s = s} =
+    answers-alike (λ k. WhyCause k s place) (λ k e. WhyCause.no-kind e) (λ j k c. elim c [ ]) (λ k. JudgementAt k s place)

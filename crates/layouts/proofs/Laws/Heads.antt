@@ -1,19 +1,20 @@
 -- Recognisers that find the words of a language at the head of a list, and only those: one word, a run of elements, one word
 -- after another, one or another, those that pass a test.
 -- Assumes nothing.
-use mathlib.Core.Bool.{Bool, true, false}
+use mathlib.Core.Bool.{Bool, true, false, true≢false}
 use mathlib.Core.List.{List, [], _∷_, _++_, append-assoc}
 use mathlib.Core.Path.{_≡_, refl, sym, _∙_, ap, ap₂, subst}
 use Prim.Native.Nat.{ℕ, zero, suc, _+_, _-_, _^_, _≤_, _<_}
 use native.Mathlib.Omega.{arith}
 use lib.Dec.{T, eqb, leb, eqb→eq, leb→le}
-use lib.ListN.{length, take, drop, length-append, length-drop, take-append-drop}
-use lib.Seq.{take-append-seam, drop-append-seam, length-take-le, take-at, drop-at}
+use lib.ListN.{length, getD, take, drop, length-append, length-take, length-drop, take-append-drop}
+use lib.Seq.{getD-take, take-append-seam, drop-append-seam, length-take-le, take-at, drop-at}
 use borrow.Author.Tests.{eq-eqb, le-leb}
 use Rattle.digits.proofs.Laws.Parts.{part-rest}
 use Rattle.digits.proofs.Laws.Tests.{T-and, T-true}
 use Rattle.digits.specs.Paper.Bytes.{part}
 use Rattle.layouts.specs.Paper.Chars.{all}
+use Rattle.layouts.specs.Paper.Layout.{StartsWith}
 use Rattle.layouts.specs.Work.Heads.{onlyIf, starts, wordLen, runLen, on, onward, andThen, orElse, passing}
 
 -- s starts with a word of P, of n elements
@@ -93,6 +94,33 @@ unfolding starts
 starts-append [] t = refl
 starts-append (y ∷ p) t = rw (eq-eqb y y refl) (starts-append p t)
 
+-- .. as the layouts say it
+pub starts-with : (p s : List ℕ) → starts p s ≡ true → StartsWith p s
+starts-with p s e = rw (starts-splits p s (rw e tt)) (take-append-seam p (drop (length p) s))
+
+pub with-splits : (p s : List ℕ) → StartsWith p s → s ≡ p ++ drop (length p) s
+with-splits p s e = sym (take-append-drop (length p) s) ∙ ap (λ (w : List ℕ). w ++ drop (length p) s) e
+
+pub with-starts : (p s : List ℕ) → StartsWith p s → starts p s ≡ true
+with-starts p s e = ap (starts p) (with-splits p s e) ∙ starts-append p (drop (length p) s)
+
+pub not-starts : (p s : List ℕ) → starts p s ≡ false → StartsWith p s → ⊥
+not-starts p s e h = true≢false (sym (with-starts p s h) ∙ e)
+
+pub starts? : (p s : List ℕ) → Dec (StartsWith p s)
+starts? p s = go (starts p s) refl
+  where
+    go : (b : Bool) → starts p s ≡ b → Dec (StartsWith p s)
+    go true e = yes (starts-with p s e)
+    go false e = no (not-starts p s e)
+
+-- each byte of the mark
+pub mark-at : (p s : List ℕ) → StartsWith p s → (i : ℕ) → i < length p → getD s i 0 ≡ getD p i 0
+mark-at p s e i h = sym (getD-take (length p) s i 0 h) ∙ ap (λ (w : List ℕ). getD w i 0) e
+
+pub mark-inside : (p s : List ℕ) → StartsWith p s → length p ≤ length s
+mark-inside p s e = omega (arith, ap length e, length-take (length p) s)
+
 pub word-right : (w : List ℕ) → 0 < length w → Right (λ u. u ≡ w) (wordLen w)
 unfolding wordLen
 word-right w some =
@@ -101,6 +129,19 @@ word-right w some =
       sound = λ s h. record { word = w; rest = drop (length w) s; splits = starts-splits w s (only-test _ _ h); is = refl; size = only-eq _ _ h };
       complete = λ {w = u} e t. rw e (only-yes _ _ (starts-append w t));
     }
+
+-- a word of which another byte stands in its place
+pub no-word : (p s : List ℕ) (i : ℕ) → i < length p → (getD s i 0 ≡ getD p i 0 → ⊥) → wordLen p s ≡ 0
+unfolding wordLen
+no-word p s i h f = only-no _ _ (go (starts p s) refl)
+  where
+    go : (b : Bool) → starts p s ≡ b → starts p s ≡ false
+    go true e = absurd (f (mark-at p s (starts-with p s e) i h))
+    go false e = e
+
+pub word-there : (w s : List ℕ) → starts w s ≡ true → wordLen w s ≡ length w
+unfolding wordLen
+word-there w s e = only-yes _ _ e
 
 pub word-length : (w s : List ℕ) → 0 < wordLen w s → wordLen w s ≡ length w
 unfolding wordLen

@@ -1,14 +1,14 @@
--- `homiqFormLen` finds what is laid out as a Homiq frame, and only that; `homiqPasses` tells whether its CRC is right.
+-- `homiqFormLen` finds what is laid out as a Homiq frame, and only that; `homiqPair` has its CRC, and the one that is worked out.
 -- Assumes nothing.
 use mathlib.Core.Bool.{Bool, true, false, _||_, cond}
 use mathlib.Core.List.{List, [], _∷_, _++_, append-assoc, append-nil}
 use mathlib.Core.Path.{_≡_, refl, sym, _∙_, ap, ap₂}
 use Prim.Native.Nat.{ℕ, _+_, _-_, _≤_, _<_}
 use native.Mathlib.Omega.{arith}
-use lib.Dec.{T, eqb, eqb→eq}
+use lib.Dec.{T, eqb}
 use lib.ListN.{length, getD, take, drop, length-append, drop-of-length-le}
 use lib.Seq.{drop-append-seam, take-at, append-snoc}
-use borrow.Author.Tests.{eq-eqb, eqb-true}
+use borrow.Author.Tests.{eqb-true}
 use Rattle.digits.proofs.Laws.Parts.{next}
 use Rattle.digits.proofs.Laws.Tests.{T-and}
 use Rattle.digits.specs.Paper.Ascii.{ascii}
@@ -20,9 +20,10 @@ use Rattle.checks.specs.Paper.Check.{feed, check}
 use Rattle.layouts.specs.Paper.Chars.{oneOf, all, CR, LF}
 use Rattle.layouts.specs.Paper.Homiq.{Homiq, fieldChar, firstId, lastId, Limits, payload, joined, homiq, withoutSeparators}
 use Rattle.layouts.specs.Paper.Layout.{bytesOf, Form}
-use Rattle.layouts.specs.Work.Homiq.{numberIn, headLen, homiqFormLen, homiqPasses, homiqFrom, homiqTo}
-use Rattle.layouts.proofs.Laws.Buses.{Bus}
-use Rattle.layouts.proofs.Laws.Heads.{Right, Then, join, glue, word-right, then-right, same-right}
+use Rattle.layouts.specs.Work.Homiq.{numberIn, headLen, homiqFormLen, homiqPair, homiqTo, homiqRecogniser}
+use Rattle.layouts.specs.declared.Compared.{Compared}
+use Rattle.layouts.proofs.Laws.Buses.{Bus, one-pair, same-pair}
+use Rattle.layouts.proofs.Laws.Heads.{Right, Then, join, glue, starts?, word-right, then-right, same-right}
 use Rattle.layouts.proofs.Laws.HomiqFields.{Fielded, NumberField, Typed, field-right, number-right, type-right, number-read, char-bounds, decimal-chars}
 
 -- ---- the head: `<;` and the six fields, each with its `;`
@@ -287,20 +288,24 @@ module _ (w : List ℕ) (r : Form homiq w) where
   pub form-head : headLen w ≡ length (frontOf (r .fields))
   form-head = front-length (r .fields) (r .limits) w closing form-laid
 
-  pub form-passes : homiqPasses w ≡ eqb (r .fields .crc) (check homiqCrc (joined (r .fields)))
-  unfolding homiqPasses
-  form-passes =
-      ap₂ (λ (a : ℕ) (b : List ℕ). eqb a (check homiqCrc b)) (front-number (r .fields) (r .limits) w closing form-laid)
-      (front-covered (r .fields) (r .limits) w closing form-laid)
+  pub form-pair : homiqPair w ≡ record { found = r .fields .crc; expected = check homiqCrc (joined (r .fields)) }
+  unfolding homiqPair
+  form-pair =
+      same-pair (front-number (r .fields) (r .limits) w closing form-laid)
+      (ap (check homiqCrc) (front-covered (r .fields) (r .limits) w closing form-laid))
 
 -- THE BUS HOMIQ
-pub homiq-bus : Bus homiq homiqFormLen homiqPasses homiqFrom homiqTo
+pub homiq-bus : Bus homiq homiqRecogniser
 unfolding homiqTo
 homiq-bus =
     record {
       forms = form-right;
-      passed = λ w r t. eqb→eq _ _ (rw (form-passes w r) at t);
-      passes = λ w r e. rw (form-passes w r, eq-eqb _ _ e) tt;
+      compares = λ w r. ap (λ (c : Compared). c ∷ []) (sym (form-pair w r));
+      few = λ w. one-pair (homiqPair w);
       begins = λ w r. refl;
       ends = λ w r. let e = ap length (front-payload (r .fields)) in let h = form-head w r in omega (arith, length-append (payload (r .fields)) (ascii ";"));
+      begun? = λ s. starts? (ascii "<;") s;
+      long? = λ s. yes tt;
+      laid-begun = λ m l t. refl;
+      laid-long = λ m l t. tt;
     }

@@ -1,26 +1,24 @@
--- What the code of `frame` finds: the head, the CRC and the end, where they stand, and what its test of the CRC says.
+-- What the code of `frame` finds: the head, the CRC and the end, where they stand, and what it compares.
 -- Assumes nothing.
-use mathlib.Core.Bool.{Bool, true, false}
-use mathlib.Core.List.{List, _++_, append-assoc}
+use mathlib.Core.List.{List, [], _∷_, _++_, append-assoc}
 use mathlib.Core.Path.{_≡_, refl, sym, _∙_, ap, ap₂, subst}
 use Prim.Native.Nat.{ℕ, _+_, _-_, _≤_, _<_}
 use native.Mathlib.Omega.{arith}
-use lib.Dec.{eqb}
 use lib.ListN.{length, take, drop, take-append-drop}
 use lib.Seq.{append-snoc}
-use borrow.Author.Tests.{eq-eqb, ne-eqb}
 use Rattle.digits.specs.Paper.Ascii.{ascii}
 use Rattle.digits.specs.Paper.Bytes.{part}
 use Rattle.digits.specs.Paper.Decimal.{decimal}
 use Rattle.checks.specs.Paper.Buses.{homiqCrc}
 use Rattle.checks.specs.Paper.Check.{check}
 use Rattle.layouts.specs.Paper.Homiq.{joined, homiq, withoutSeparators}
-use Rattle.layouts.specs.Paper.Layout.{Form, Leads}
-use Rattle.layouts.specs.Work.Heads.{onlyIf, wordLen, on, onward, passing}
-use Rattle.layouts.specs.Work.Homiq.{fieldLen, numberIn, numberLen, typeLen, headLen, homiqFormLen, homiqPasses, homiqTo}
-use Rattle.layouts.proofs.Laws.Buses.{leads-at, leads-none}
-use Rattle.layouts.proofs.Laws.Heads.{taken, inside, only-yes, only-no, only-zero, back-of, on-both, ends-inside}
-use Rattle.layouts.proofs.Laws.Homiq.{frontOf, closing, form-right, form-laid, form-head, form-passes, front-length, front-covered, homiq-bus}
+use Rattle.layouts.specs.Paper.Layout.{Form}
+use Rattle.layouts.specs.Work.Heads.{wordLen, on, onward}
+use Rattle.layouts.specs.Work.Homiq.{fieldLen, numberIn, numberLen, typeLen, headLen, homiqFormLen, homiqPair, homiqTo}
+use Rattle.layouts.specs.declared.Compared.{Compared}
+use Rattle.layouts.proofs.Laws.Buses.{same-pair}
+use Rattle.layouts.proofs.Laws.Heads.{taken, inside, back-of, on-both, ends-inside}
+use Rattle.layouts.proofs.Laws.Homiq.{frontOf, closing, form-right, form-laid, form-head, form-pair, front-length, front-covered}
 use Rattle.layouts.proofs.Laws.HomiqFields.{number-right, number-read, closed-length}
 
 -- the head, one part behind the other
@@ -46,10 +44,8 @@ module _ (s : List ℕ) (before behind n : ℕ) (eb : before ≡ headLen s) (en 
   unfolding homiqFormLen
   size = rw (ee, en, eb)
 
-  pub frame-none : n ≡ 0 → Leads homiq s 0 0 0
-  frame-none z =
-      let e : homiqFormLen s ≡ 0 = sym size ∙ z in
-      leads-none homiq-bus s (sym (ap (onlyIf (homiqPasses (take (homiqFormLen s) s))) e ∙ only-zero _))
+  pub frame-none : n ≡ 0 → homiqFormLen s ≡ 0
+  frame-none z = sym size ∙ z
 
   made : 0 < n → Form homiq (take n s) → Found s before behind n
   made p r =
@@ -88,23 +84,14 @@ module _ (s : List ℕ) (before behind n : ℕ) (eb : before ≡ headLen s) (en 
       let p : 0 < homiqFormLen s = omega (arith, size) in
       made (omega (arith, size)) (subst (λ (k : ℕ). Form homiq (take k s)) (sym size) (taken form-right s p))
 
-module _ {s : List ℕ} {before behind n : ℕ} (f : Found s before behind n)
-    (x v : ℕ) (ex : x ≡ check homiqCrc (withoutSeparators (part 2 before s))) (ev : v ≡ numberIn (drop before s)) where
-  -- the test of the code is the definition's
-  tested : homiqPasses (take n s) ≡ eqb v x
-  tested =
-      form-passes (take n s) (f .form)
-      ∙ sym (ap₂ (λ (a b : ℕ). eqb a b) (ev ∙ f .claims) (ex ∙ ap (check homiqCrc) (f .covered)))
+module _ {s : List ℕ} {before behind n : ℕ} (f : Found s before behind n) where
+  -- what the code compares are the values of the definition
+  pub pair-there : {x v : ℕ} → x ≡ check homiqCrc (withoutSeparators (part 2 before s)) → v ≡ numberIn (drop before s)
+      → homiqPair (take n s) ∷ [] ≡ record { found = v; expected = x } ∷ []
+  pair-there ex ev =
+      ap (λ (c : Compared). c ∷ [])
+      (form-pair (take n s) (f .form) ∙ same-pair (sym (ev ∙ f .claims)) (sym (ex ∙ ap (check homiqCrc) (f .covered))))
 
-  passed : (b : Bool) → eqb v x ≡ b → onlyIf b n ≡ passing homiqFormLen homiqPasses s
-  passed b e =
-      ap₂ (λ (c : Bool) (k : ℕ). onlyIf c k) (sym (tested ∙ e) ∙ ap (λ (k : ℕ). homiqPasses (take k s)) (f .size)) (f .size)
-
-  pub frame-other : (x ≡ v → ⊥) → Leads homiq s 0 0 0
-  frame-other h = leads-none homiq-bus s (sym (only-no _ n refl) ∙ passed false (ne-eqb v x (λ e. h (sym e))))
-
-  pub frame-same : x ≡ v → Leads homiq s n 2 (before - 1)
+  pub payload-end : before - 1 ≡ homiqTo (take n s)
   unfolding homiqTo
-  frame-same e =
-      leads-at homiq-bus s n 2 (before - 1) (sym (only-yes _ n refl) ∙ passed true (eq-eqb v x (sym e)))
-      (λ z. omega (arith, f .some)) refl (ap (λ (k : ℕ). k - 1) (sym (f .head)))
+  payload-end = ap (λ (k : ℕ). k - 1) (sym (f .head))

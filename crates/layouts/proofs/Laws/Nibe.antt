@@ -4,13 +4,14 @@ use mathlib.Core.Bool.{true, false}
 use mathlib.Core.List.{List, [], _∷_, _++_}
 use mathlib.Core.Path.{_≡_, refl, sym, _∙_, ap, ap₂, subst}
 use Prim.Native.Nat.{ℕ, suc, _+_, _-_, _≤_, _<_}
+use native.Mathlib.Decide.{decLe}
 use native.Mathlib.Omega.{arith}
 use lib.Dec.{T, eqb, eqb→eq}
 use lib.ListN.{length, getD, take, drop, length-append, drop-of-length-le, List·getD-append}
 use lib.Seq.{length-take-le, getD-append-seam, split-at}
-use borrow.Author.Tests.{eq-eqb, ne-eqb}
+use borrow.Author.Tests.{eq-eqb, le-leb, lt-leb}
 use Rattle.digits.proofs.Laws.Bytes.{bytes-nil, bytes-cons, bytes-tail, bytes-append, bytes-take}
-use Rattle.digits.proofs.Laws.Parts.{part-middle}
+use Rattle.digits.proofs.Laws.Parts.{part-middle, part-front, take-ats}
 use Rattle.digits.proofs.Laws.Tests.{T-true}
 use Rattle.digits.specs.Paper.Bytes.{Bytes, part}
 use Rattle.checks.proofs.Theorems.{nibe-xor}
@@ -19,12 +20,13 @@ use Rattle.checks.specs.Paper.Check.{check}
 use Rattle.checks.specs.Paper.Xor.{xorOf}
 use Rattle.layouts.specs.Paper.Chars.{oneOf, all}
 use Rattle.layouts.specs.Paper.Layout.{bytesOf, payloadTo, Form}
-use Rattle.layouts.specs.Paper.Nibe.{Nibe, commands, covered, Limits, Passes, nibe}
+use Rattle.layouts.specs.Paper.Nibe.{Nibe, commands, covered, Limits, compared, Begun, Long, nibe}
 use Rattle.layouts.specs.Work.Heads.{onlyIf, isByte, bytesLen}
-use Rattle.layouts.specs.Work.Nibe.{nibeFormLen, nibePasses, nibeFrom, nibeTo}
-use Rattle.layouts.proofs.Laws.Buses.{Bus, found-length, found-part}
-use Rattle.layouts.proofs.Laws.ByteRuns.{all-bytes, bytes-all, one-of-bytes, bytes-short, bytes-there}
-use Rattle.layouts.proofs.Laws.Heads.{Head, Right, Run, run-right, only-test, only-eq, only-yes, only-no, only-zero, cut-same}
+use Rattle.layouts.specs.Work.Nibe.{nibeFormLen, claimedLen, nibePair, nibeRecogniser}
+use Rattle.layouts.specs.declared.Compared.{Compared}
+use Rattle.layouts.proofs.Laws.Buses.{Bus, one-pair, same-pair}
+use Rattle.layouts.proofs.Laws.ByteRuns.{all-bytes, bytes-all, one-of-bytes, bytes-there}
+use Rattle.layouts.proofs.Laws.Heads.{Head, Right, Run, run-right, only-test, only-eq, only-yes, only-no, only-zero, starts?, mark-at, mark-inside, cut-same}
 
 -- the last element of a list, and those before it
 last-split : (n : ℕ) (u : List ℕ) → length u ≡ n + 1 → u ≡ take n u ++ (getD u n 0 ∷ [])
@@ -119,26 +121,34 @@ covered-bytes d short bytes = bytes-cons {b = length d} (omega arith) bytes
 pub covered-xor : (d : List ℕ) → length d ≤ 255 → Bytes d → check nibeXor (covered d) ≡ xorOf (covered d)
 covered-xor d short bytes = nibe-xor (covered d) (covered-bytes d short bytes)
 
-passed : (w : List ℕ) (r : Form nibe w) → T (nibePasses w) → Passes (r .fields)
-unfolding nibePasses
-passed w r h =
+compares : (w : List ℕ) (r : Form nibe w) → compared (r .fields) ≡ nibePair w ∷ []
+unfolding nibePair
+compares w r =
     let m = r .fields in
-    let e : getD w (length w - 1) 0 ≡ check nibeXor (part 2 (length w - 1) w) = eqb→eq _ _ h in
-    sym (check-byte m) ∙ rw (r .laid) at e ∙ ap (check nibeXor) (covered-part m) ∙ covered-xor (m .content) (r .limits .short) (r .limits .bytes)
+    let f = ap (λ (u : List ℕ). getD u (length u - 1) 0) (r .laid) ∙ check-byte m in
+    let e = ap (λ (u : List ℕ). check nibeXor (part 2 (length u - 1) u)) (r .laid) ∙ ap (check nibeXor) (covered-part m) ∙ covered-xor (m .content) (r .limits .short) (r .limits .bytes) in
+    ap (λ (c : Compared). c ∷ []) (same-pair (sym f) (sym e))
 
-passes : (w : List ℕ) (r : Form nibe w) → Passes (r .fields) → T (nibePasses w)
-unfolding nibePasses
-passes w r h =
-    let m = r .fields in
-    let e = ap (check nibeXor) (covered-part m) ∙ covered-xor (m .content) (r .limits .short) (r .limits .bytes) in
-    rw (r .laid) (rw (eq-eqb _ _ (check-byte m ∙ h ∙ sym e)) tt)
+long : (m : Nibe) (t : List ℕ) → Long (bytesOf nibe m ++ t)
+long m t = omega (arith, length-append (bytesOf nibe m) t, nibe-size m)
 
-ends : (w : List ℕ) (r : Form nibe w) → payloadTo nibe (r .fields) ≡ nibeTo w
+ends : (w : List ℕ) (r : Form nibe w) → payloadTo nibe (r .fields) ≡ length w - 1
 ends w r = let m = r .fields in rw (r .laid) (omega (arith, length-append (m .content) (m .xor ∷ [])))
 
 -- NIBE: its recognisers find its frames, and only those
-pub nibe-bus : Bus nibe nibeFormLen nibePasses nibeFrom nibeTo
-nibe-bus = record { forms = forms; passed = passed; passes = passes; begins = λ w r. refl; ends = ends }
+pub nibe-bus : Bus nibe nibeRecogniser
+nibe-bus =
+    record {
+      forms = forms;
+      compares = compares;
+      few = λ w. one-pair (nibePair w);
+      begins = λ w r. refl;
+      ends = ends;
+      begun? = λ s. starts? (0xC0 ∷ []) s;
+      long? = λ s. decLe (getD s 2 0 + 4) (length s);
+      laid-begun = λ m l t. refl;
+      laid-long = λ m l t. long m t;
+    }
 
 -- no two frames' fields have the same bytes
 pub nibe-one : (m n : Nibe) → bytesOf nibe m ≡ bytesOf nibe n → m ≡ n
@@ -154,29 +164,55 @@ nibe-one m n e =
 -- ---- what the code answers
 
 module _ (s : List ℕ) where
-  pub form-mark : (getD s 0 0 ≡ 0xC0 → ⊥) → 0 ≡ nibeFormLen s
+  pub mark-missing : length s ≡ 0 → Begun s → ⊥
+  mark-missing z b = omega (arith, z, mark-inside (0xC0 ∷ []) s b)
+
+  pub mark-other : (getD s 0 0 ≡ 0xC0 → ⊥) → Begun s → ⊥
+  mark-other f b = f (mark-at (0xC0 ∷ []) s b 0 (omega arith))
+
+  pub mark-there : (length s ≡ 0 → ⊥) → getD s 0 0 ≡ 0xC0 → Begun s
+  mark-there nz e = rw (take-ats s 1 0 (omega (arith, nz))) (ap (λ (x : ℕ). x ∷ []) e)
+
+  pub no-command : oneOf commands (getD s 1 0) ≡ false → nibeFormLen s ≡ 0
   unfolding nibeFormLen
-  form-mark h = sym (only-no _ _ (ne-eqb _ _ h))
+  no-command h = ap (onlyIf (eqb (getD s 0 0) 0xC0)) (only-no (oneOf commands (getD s 1 0)) _ h) ∙ only-zero _
 
-  pub form-command : oneOf commands (getD s 1 0) ≡ false → 0 ≡ nibeFormLen s
-  unfolding nibeFormLen
-  form-command h = sym (ap (onlyIf (eqb (getD s 0 0) 0xC0)) (only-no (oneOf commands (getD s 1 0)) _ h) ∙ only-zero _)
+  -- the code tests the length that stands there
+  pub claim-short : length s < getD s 2 0 + 4 → 0 ≡ claimedLen s
+  unfolding claimedLen
+  claim-short h = sym (only-no _ _ (lt-leb _ _ h))
 
-  pub form-short : length s < getD s 2 0 + 4 → 0 ≡ nibeFormLen s
-  unfolding nibeFormLen
-  form-short h = simp (sym (bytes-short (getD s 2 0 + 4) s h), only-zero)
+  pub claim-there : getD s 2 0 + 4 ≤ length s → getD s 2 0 + 4 ≡ claimedLen s
+  unfolding claimedLen
+  claim-there h = sym (only-yes _ _ (le-leb _ _ h))
 
-  pub form-there : Bytes s → getD s 0 0 ≡ 0xC0 → oneOf commands (getD s 1 0) ≡ true → getD s 2 0 + 4 ≤ length s → getD s 2 0 + 4 ≡ nibeFormLen s
-  unfolding nibeFormLen
-  form-there b a o h = bytes-there (getD s 2 0 + 4) s b h ∙ sym (only-yes _ _ (eq-eqb _ _ a) ∙ only-yes _ _ o)
+  module _ (n : ℕ) (e : n ≡ claimedLen s) where
+    pub not-long : n ≡ 0 → Long s → ⊥
+    not-long z h = omega (arith, z, e, claim-there h)
 
-  -- what is laid out so has four bytes and more, and its data end before the last
-  module _ (n : ℕ) (e : n ≡ nibeFormLen s) where
-    pub nibe-room : (n ≡ 0 → ⊥) → 4 ≤ length (part 0 n s)
-    nibe-room nz =
-        let k = forms .sound s (omega (arith, e)) in
-        let m = k .is .fields in
-        omega (arith, e, found-part forms s n e, k .size, ap length (k .is .laid), length-append (m .content) (m .xor ∷ []))
+    pub is-long : (n ≡ 0 → ⊥) → Long s
+    is-long nz = go (decLe (getD s 2 0 + 4) (length s))
+      where
+        go : Dec (Long s) → Long s
+        go (yes h) = h
+        go (no f) = absurd (nz (e ∙ sym (claim-short (omega (arith, f)))))
 
-    pub nibe-end : n - 1 ≡ nibeTo (take n s)
-    nibe-end = ap (λ (k : ℕ). k - 1) (sym (found-length forms s n e))
+    claim-is : (n ≡ 0 → ⊥) → n ≡ getD s 2 0 + 4
+    claim-is nz = e ∙ sym (claim-there (is-long nz))
+
+    pub claim-inside : (n ≡ 0 → ⊥) → n ≤ length s
+    claim-inside nz = omega (arith, is-long nz, claim-is nz)
+
+    pub claim-four : (n ≡ 0 → ⊥) → 4 ≤ length (part 0 n s)
+    claim-four nz = omega (arith, claim-is nz, ap length (part-front n s), length-take-le n s (claim-inside nz))
+
+    -- with the mark before it and a command it is what is laid out so
+    pub claim-form : Bytes s → getD s 0 0 ≡ 0xC0 → oneOf commands (getD s 1 0) ≡ true → (n ≡ 0 → ⊥) → n ≡ nibeFormLen s
+    unfolding nibeFormLen
+    claim-form b a o nz = claim-is nz ∙ bytes-there (getD s 2 0 + 4) s b (is-long nz) ∙ sym (only-yes _ _ (eq-eqb _ _ a) ∙ only-yes _ _ o)
+
+    pub claim-end : (n ≡ 0 → ⊥) → n - 1 ≡ length (take n s) - 1
+    claim-end nz = ap (λ (k : ℕ). k - 1) (sym (length-take-le n s (claim-inside nz)))
+
+  pub pair-there : (n : ℕ) {c : Compared} → c ≡ nibePair (part 0 n s) → nibePair (take n s) ∷ [] ≡ c ∷ []
+  pair-there n e = ap (λ (d : Compared). d ∷ []) (sym (e ∙ ap nibePair (part-front n s)))

@@ -1,33 +1,35 @@
--- Nikobus: its recogniser finds what is laid out as a link, a press or a tail, and only that; its tests tell whether a link's check
--- values are right; no two fields have the same bytes; and what the code finds on its way is that.
+-- Nikobus: its recogniser finds what is laid out as a link, a press or a tail, and only that; its pairs are the values of a link's
+-- checks; no two fields have the same bytes; and what the code finds on its way is that.
 -- Assumes nothing.
-use mathlib.Core.Bool.{Bool, true, _&&_}
+use mathlib.Core.Bool.{Bool, true, false, cond}
 use mathlib.Core.List.{List, [], _∷_, _++_, append-assoc}
 use mathlib.Core.Path.{_≡_, refl, sym, _∙_, ap, ap₂, subst}
 use Prim.Native.Nat.{ℕ, zero, suc, _+_, _-_, _*_, _/_, _%_, _≤_, _<_}
+use native.Mathlib.Decide.{decLe, decLt}
 use native.Mathlib.Omega.{arith}
 use lib.Dec.{T, ltb, eqb→eq, leb→le}
 use lib.ListN.{length, getD, take, drop, length-append, length-drop, take-append-drop}
-use lib.Seq.{take-all, take-at, drop-at, length-take-le}
+use lib.Seq.{getD-drop, take-all, take-at, take-append-seam, take-take, drop-at, length-take-le}
 use borrow.Author.Tests.{eq-eqb, ne-eqb, le-leb, lt-ltb, ltb-true}
 use Rattle.digits.proofs.Laws.Bytes.{bytes-take, bytes-drop, bytes-append, bytes-cons, bytes-nil}
 use Rattle.digits.proofs.Laws.Hex.{length-hex, hex-append, hex-inj, byte-inj, word-inj, word-of}
-use Rattle.digits.proofs.Laws.Parts.{part-front, part-middle, take-ats}
-use Rattle.digits.proofs.Laws.Tests.{T-and, T-true}
+use Rattle.digits.proofs.Laws.Parts.{length-part, part-at, part-front, part-middle, take-ats}
+use Rattle.digits.proofs.Laws.Tests.{T-true}
 use Rattle.digits.specs.Paper.Ascii.{ascii}
 use Rattle.digits.specs.Paper.Bytes.{Bytes, part}
 use Rattle.digits.specs.Paper.Hex.{hexDigit, hexByte, hexBytes, hexWord}
-use Rattle.checks.proofs.Laws.Feed.{check-lt}
 use Rattle.checks.specs.Paper.Buses.{nikobusCrc16, nikobusCrc8}
 use Rattle.checks.specs.Paper.Check.{check}
 use Rattle.layouts.specs.Paper.Chars.{all, isHex, CR}
-use Rattle.layouts.specs.Paper.Layout.{bytesOf, payloadFrom, payloadTo, Form, Leads}
-use Rattle.layouts.specs.Paper.Nikobus.{Nikobus, link, press, tail, Limits, link-limits, press-limits, tail-limits, linkChecked, Passes, link-passes, press-passes, tail-passes, nikobus}
-use Rattle.layouts.specs.Work.Heads.{onlyIf, starts, wordLen, runLen, on, onward, orElse, passing}
-use Rattle.layouts.specs.Work.Nikobus.{hexPair, digitsLen, llOf, linkHeadLen, linkFormLen, pressLen, tailLen, nikobusFormLen, passes16, passes8, linkLen, nikobusPasses, nikobusFrom, nikobusTo, bytesOf as bytesIn}
-use Rattle.layouts.proofs.Laws.Buses.{Bus, frame-right, leads-at, leads-none}
-use Rattle.layouts.proofs.Laws.Heads.{Head, Right, Then, Or, left, right, Run, join, glue, only-test, only-eq, only-yes, only-zero, starts-splits, starts-append, starts-same, same-starts, word-right, run-right, then-right, or-right, same-right, word-inside, run-inside, onward-inside, or-first, or-second, taken, inside}
-use Rattle.layouts.proofs.Laws.HexDigits.{digit-hex, length-byte, length-word, pair-byte, pair-lt, byte-pair, bytes-hex, hex-all, hex-bytes, length-bytes, bytes-bytes}
+use Rattle.layouts.specs.Paper.Layout.{StartsWith, bytesOf, payloadFrom, payloadTo, Form}
+use Rattle.layouts.specs.Paper.Nikobus.{Nikobus, link, press, tail, Limits, link-limits, press-limits, tail-limits, linkChecked, compared, Begun, link-begun, press-begun, tail-begun, Long, link-long, press-long, tail-long, nikobus}
+use Rattle.layouts.specs.Work.Heads.{onlyIf, starts, wordLen, runLen, on, onward, orElse}
+use Rattle.layouts.specs.Work.Nikobus.{hexPair, digitsLen, llOf, linkHeadLen, linkFormLen, pressLen, tailLen, nikobusFormLen, hexFour, pair16, pair8, nikobusPairs, nikobusFrom, nikobusTo, nikobusRecogniser, bytesOf as bytesIn}
+use Rattle.layouts.specs.declared.Compared.{Compared}
+use Rattle.layouts.proofs.Laws.Buses.{Bus, Few, no-pair, two-pairs, same-pair}
+use Rattle.layouts.proofs.Laws.Heads.{Head, Right, Then, Or, left, right, Run, join, glue, only-test, only-eq, only-yes, starts-splits, starts-append, starts-with, with-splits, with-starts, not-starts, starts?, mark-at, no-word, word-right, word-there, run-right, then-right, or-right, same-right, run-inside, ends-inside, or-first, taken, inside}
+use Rattle.layouts.proofs.Laws.Runs.{all-take}
+use Rattle.layouts.proofs.Laws.HexDigits.{digit-hex, hex-at, length-byte, length-word, pair-byte, pair-lt, byte-pair, bytes-hex, hex-all, hex-bytes, length-bytes, bytes-bytes}
 
 -- ---- `$`, LL
 
@@ -291,6 +293,15 @@ unfolding tailLen wordLen starts onlyIf
 no-tail [] h = refl
 no-tail (x ∷ s) h = simp (ne-eqb x 35 h)
 
+-- nor where another of its characters stands in its place
+no-tail-at : (s : List ℕ) (i : ℕ) → i < 4 → (getD s i 0 ≡ getD (bytesOf nikobus tail) i 0 → ⊥) → tailLen s ≡ 0
+unfolding tailLen
+no-tail-at s i h f = no-word (bytesOf nikobus tail) s i h f
+
+no-press-at : (s : List ℕ) → (getD s 1 0 ≡ 78 → ⊥) → pressLen s ≡ 0
+unfolding pressLen on
+no-press-at s f = let z : wordLen (ascii "#N") s ≡ 0 = no-word (ascii "#N") s 1 (omega arith) f in rw z
+
 to-form : (w : List ℕ) → Or LinkForm (Or PressForm TailForm) w → Form nikobus w
 to-form w (left a) = record { fields = link (a .payload) (a .crc16) (a .crc8); limits = a .limits; laid = a .laid }
 to-form w (right (left a)) = record { fields = press (a .digits); limits = a .limits; laid = a .laid }
@@ -368,45 +379,50 @@ module _ (p : List ℕ) (x y : ℕ) where
 
   -- ---- its check values
 
-  test16 : Bytes p → passes16 whole ≡ starts (hexWord (check nikobusCrc16 p)) (hexWord x ++ (hexByte y ++ (CR ∷ [])))
-  unfolding passes16
-  test16 b =
-      ap₂ (λ (l r : List ℕ). starts (hexWord (check nikobusCrc16 l)) r) (ap bytesIn payload-part ∙ bytes-hex p b) behind-part
+  found16 : x < 65536 → hexFour whole (length whole - 7) ≡ x
+  unfolding hexWord hexByte
+  found16 h =
+      let k = length whole - 7 in
+      let at : (i : ℕ) → getD whole (k + i) 0 ≡ getD (hexWord x ++ (hexByte y ++ (CR ∷ []))) i 0 =
+      λ i. sym (getD-drop k whole i 0) ∙ ap (λ (u : List ℕ). getD u i 0) behind-part in
+      let none : k ≡ k + 0 = omega arith in
+      let zeroth : getD whole k 0 ≡ getD whole (k + 0) 0 = ap (λ (i : ℕ). getD whole i 0) none in
+      let high : hexPair (getD whole k 0) (getD whole (k + 1) 0) ≡ x / 256 = ap₂ hexPair (zeroth ∙ at 0) (at 1) ∙ pair-byte (x / 256) (omega arith) in
+      let low : hexPair (getD whole (k + 2) 0) (getD whole (k + 3) 0) ≡ x % 256 = ap₂ hexPair (at 2) (at 3) ∙ pair-byte (x % 256) (omega arith) in
+      ap₂ (λ (i j : ℕ). i * 256 + j) high low ∙ omega arith
 
-  test8 : passes8 whole ≡ starts (hexByte (check nikobusCrc8 (linkChecked p x))) (hexByte y ++ (CR ∷ []))
-  unfolding passes8
-  test8 = ap₂ (λ (l r : List ℕ). starts (hexByte (check nikobusCrc8 l)) r) checked-part last-part
+  found8 : y < 256 → hexPair (getD whole (length whole - 3) 0) (getD whole (length whole - 3 + 1) 0) ≡ y
+  unfolding hexByte
+  found8 h =
+      let k = length whole - 3 in
+      let at : (i : ℕ) → getD whole (k + i) 0 ≡ getD (hexByte y ++ (CR ∷ [])) i 0 =
+      λ i. sym (getD-drop k whole i 0) ∙ ap (λ (u : List ℕ). getD u i 0) last-part in
+      let none : k ≡ k + 0 = omega arith in
+      let zeroth : getD whole k 0 ≡ getD whole (k + 0) 0 = ap (λ (i : ℕ). getD whole i 0) none in
+      ap₂ hexPair (zeroth ∙ at 0) (at 1) ∙ pair-byte y h
 
-  link-passed : Limits (link p x y) → T (passes16 whole && passes8 whole) → Passes (link p x y)
-  link-passed (link-limits some short b hx hy) t =
-      let q = T-and (passes16 whole) (passes8 whole) t in
-      let c = check nikobusCrc16 p in
-      let d = check nikobusCrc8 (linkChecked p x) in
-      let e : hexWord c ≡ hexWord x =
-      starts-same (hexWord c) (hexWord x) (hexByte y ++ (CR ∷ [])) (length-word c ∙ sym (length-word x)) (rw (test16 b) at (q .0))
-      in
-      let f : hexByte d ≡ hexByte y = starts-same (hexByte d) (hexByte y) (CR ∷ []) (length-byte d ∙ sym (length-byte y)) (rw test8 at (q .1)) in
-      link-passes (word-inj x c hx (check-lt nikobusCrc16 p) (sym e)) (byte-inj y d hy (check-lt nikobusCrc8 (linkChecked p x)) (sym f))
+  link-pairs : Limits (link p x y) → compared (link p x y) ≡ pair16 whole ∷ pair8 whole ∷ []
+  unfolding pair16 pair8
+  link-pairs (link-limits some short b hx hy) =
+      ap₂ (λ (c d : Compared). c ∷ d ∷ [])
+      (same-pair (sym (found16 hx)) (ap (check nikobusCrc16) (sym (ap bytesIn payload-part ∙ bytes-hex p b))))
+      (same-pair (sym (found8 hy)) (ap (check nikobusCrc8) (sym checked-part)))
 
-  link-passing : Limits (link p x y) → Passes (link p x y) → T (passes16 whole && passes8 whole)
-  link-passing (link-limits some short b hx hy) (link-passes e f) =
-      let u : passes16 whole ≡ true = test16 b ∙ T-true _ (same-starts _ (hexWord x) _ (ap hexWord (sym e))) in
-      let v : passes8 whole ≡ true = test8 ∙ T-true _ (same-starts _ (hexByte y) _ (ap hexByte (sym f))) in
-      rw (u, v) tt
+-- ---- what the pairs and the places are
 
--- ---- what the tests and the places are
+compares : (w : List ℕ) (m : Nikobus) → Limits m → w ≡ bytesOf nikobus m → compared m ≡ nikobusPairs w
+unfolding nikobusPairs starts
+compares w (link p x y) l e = rw e (link-pairs p x y l)
+compares w (press d) l e = rw e
+compares w tail l e = rw e
 
-passed : (w : List ℕ) (m : Nikobus) → Limits m → w ≡ bytesOf nikobus m → T (nikobusPasses w) → Passes m
-unfolding nikobusPasses starts
-passed w (link p x y) l e t = link-passed p x y l (rw e at t)
-passed w (press d) l e t = press-passes
-passed w tail l e t = tail-passes
-
-passing-test : (w : List ℕ) (m : Nikobus) → Limits m → w ≡ bytesOf nikobus m → Passes m → T (nikobusPasses w)
-unfolding nikobusPasses starts
-passing-test w (link p x y) l e t = rw e (link-passing p x y l t)
-passing-test w (press d) l e t = rw e tt
-passing-test w tail l e t = rw e tt
+few : (w : List ℕ) → Few (nikobusPairs w)
+unfolding nikobusPairs
+few w = go (starts (ascii "$") w)
+  where
+    go : (b : Bool) → Few (cond b (pair16 w ∷ pair8 w ∷ []) [])
+    go true = two-pairs (pair16 w) (pair8 w)
+    go false = no-pair
 
 begins : (w : List ℕ) (m : Nikobus) → w ≡ bytesOf nikobus m → payloadFrom nikobus m ≡ nikobusFrom w
 unfolding nikobusFrom starts hexByte
@@ -420,15 +436,121 @@ finishes w (link p x y) l e = rw e (omega (arith, length-byte (length p * 2 + 10
 finishes w (press d) (press-limits six hex) e = rw e (omega arith)
 finishes w tail l e = rw e
 
+-- ---- the start mark and the length
+
+begun? : (s : List ℕ) → Dec (Begun s)
+begun? s = go (starts? (ascii "$") s) (starts? (ascii "#N") s) (starts? (ascii "#E1") s)
+  where
+    go : Dec (StartsWith (ascii "$") s) → Dec (StartsWith (ascii "#N") s) → Dec (StartsWith (ascii "#E1") s) → Dec (Begun s)
+    go (yes a) b c = yes (link-begun a)
+    go (no f) (yes b) c = yes (press-begun b)
+    go (no f) (no g) (yes c) = yes (tail-begun c)
+    go (no f) (no g) (no h) = no (λ b. never f g h b)
+      where
+        never : (StartsWith (ascii "$") s → ⊥) → (StartsWith (ascii "#N") s → ⊥) → (StartsWith (ascii "#E1") s → ⊥) → Begun s → ⊥
+        never f g h (link-begun a) = f a
+        never f g h (press-begun b) = g b
+        never f g h (tail-begun c) = h c
+
+-- no other mark than the three
+pub no-mark : (s : List ℕ) → starts (ascii "$") s ≡ false → starts (ascii "#N") s ≡ false → starts (ascii "#E1") s ≡ false → Begun s → ⊥
+no-mark s f g h (link-begun a) = not-starts (ascii "$") s f a
+no-mark s f g h (press-begun b) = not-starts (ascii "#N") s g b
+no-mark s f g h (tail-begun c) = not-starts (ascii "#E1") s h c
+
+-- LL, where it is allowed
+module _ (s : List ℕ) where
+  ll-starts : (ll : ℕ) → 12 ≤ ll → ll % 2 ≡ 0 → ll < 256 → StartsWith (36 ∷ hexByte ll) s → llOf s ≡ ll
+  ll-starts ll a b c e = ap llOf (with-splits (36 ∷ hexByte ll) s e) ∙ ll-read ll (drop (length (36 ∷ hexByte ll)) s) a b c
+
+  pub ll-long : 0 < llOf s → llOf s ≤ length s → Long s
+  ll-long k h =
+      let a = ll-sound s 3 refl k in
+      let r = a .is in
+      let ll = r .ll in
+      let low = r .low in
+      let even = r .even in
+      let byte = r .byte in
+      let splits : s ≡ (36 ∷ hexByte ll) ++ a .rest = a .splits ∙ ap (λ (u : List ℕ). u ++ a .rest) (r .layout) in
+      let st : StartsWith (36 ∷ hexByte ll) s = ap (take (length (36 ∷ hexByte ll))) splits ∙ take-append-seam (36 ∷ hexByte ll) (a .rest) in
+      link-long {LL = ll} even low (omega arith) st (subst (λ (n : ℕ). n ≤ length s) (ll-starts ll low even byte st) h)
+
+  pub long-ll : StartsWith (ascii "$") s → Long s → (0 < llOf s) × (llOf s ≤ length s)
+  unfolding hexByte
+  long-ll m (link-long {LL = ll} even least most st h) =
+      let e : llOf s ≡ ll = ll-starts ll least even (omega (arith, most)) st in
+      (omega (arith, e, least), omega (arith, e, h))
+  long-ll m (press-long st h) = absurd (omega (arith, mark-at (ascii "$") s m 0 (omega arith), mark-at (ascii "#N") s st 0 (omega arith)))
+  long-ll m (tail-long st h) = absurd (omega (arith, mark-at (ascii "$") s m 0 (omega arith), mark-at (ascii "#E1") s st 0 (omega arith)))
+
+  pub long-press : StartsWith (ascii "#N") s → Long s → 9 ≤ length s
+  unfolding hexByte
+  long-press m (link-long {LL = ll} even least most st h) = absurd (omega (arith, mark-at (ascii "#N") s m 0 (omega arith), mark-at (36 ∷ hexByte ll) s st 0 (omega arith)))
+  long-press m (press-long st h) = h
+  long-press m (tail-long st h) = absurd (omega (arith, mark-at (ascii "#N") s m 1 (omega arith), mark-at (ascii "#E1") s st 1 (omega arith)))
+
+  pub long-tail : StartsWith (ascii "#E1") s → Long s → 4 ≤ length s
+  unfolding hexByte
+  long-tail m (link-long {LL = ll} even least most st h) = absurd (omega (arith, mark-at (ascii "#E1") s m 0 (omega arith), mark-at (36 ∷ hexByte ll) s st 0 (omega arith)))
+  long-tail m (press-long st h) = absurd (omega (arith, mark-at (ascii "#E1") s m 1 (omega arith), mark-at (ascii "#N") s st 1 (omega arith)))
+  long-tail m (tail-long st h) = h
+
+  long? : Dec (Long s)
+  long? = go (starts? (ascii "$") s) (starts? (ascii "#N") s) (starts? (ascii "#E1") s)
+    where
+      of-link : StartsWith (ascii "$") s → Dec (0 < llOf s) → Dec (llOf s ≤ length s) → Dec (Long s)
+      of-link m (yes k) (yes h) = yes (ll-long k h)
+      of-link m (no f) h = no (λ l. f (long-ll m l .0))
+      of-link m (yes k) (no f) = no (λ l. f (long-ll m l .1))
+
+      of-press : StartsWith (ascii "#N") s → Dec (9 ≤ length s) → Dec (Long s)
+      of-press m (yes h) = yes (press-long m h)
+      of-press m (no f) = no (λ l. f (long-press m l))
+
+      of-tail : StartsWith (ascii "#E1") s → Dec (4 ≤ length s) → Dec (Long s)
+      of-tail m (yes h) = yes (tail-long m h)
+      of-tail m (no f) = no (λ l. f (long-tail m l))
+
+      never : (StartsWith (ascii "$") s → ⊥) → (StartsWith (ascii "#N") s → ⊥) → (StartsWith (ascii "#E1") s → ⊥) → Long s → ⊥
+      never f g h (link-long {LL = ll} even least most st k) =
+          f (ap (take 1) (with-splits (ascii "$" ++ hexByte ll) s st))
+      never f g h (press-long st k) = g st
+      never f g h (tail-long st k) = h st
+
+      go : Dec (StartsWith (ascii "$") s) → Dec (StartsWith (ascii "#N") s) → Dec (StartsWith (ascii "#E1") s) → Dec (Long s)
+      go (yes m) b c = of-link m (decLt 0 (llOf s)) (decLe (llOf s) (length s))
+      go (no f) (yes m) c = of-press m (decLe 9 (length s))
+      go (no f) (no g) (yes m) = of-tail m (decLe 4 (length s))
+      go (no f) (no g) (no h) = no (never f g h)
+
+-- what is laid out so has both, whatever follows
+laid-begun : (m : Nikobus) (t : List ℕ) → Begun (bytesOf nikobus m ++ t)
+laid-begun (link p x y) t = link-begun refl
+laid-begun (press d) t = press-begun refl
+laid-begun tail t = tail-begun refl
+
+laid-long : (m : Nikobus) → Limits m → (t : List ℕ) → Long (bytesOf nikobus m ++ t)
+unfolding hexByte
+laid-long (link p x y) (link-limits some short b hx hy) t =
+    link-long {LL = length p * 2 + 10} (omega arith) (omega arith) (omega arith) refl
+    (omega (arith, length-append (bytesOf nikobus (link p x y)) t, link-size p x y))
+laid-long (press d) (press-limits six hex) t =
+    press-long refl (omega (arith, length-append (bytesOf nikobus (press d)) t, length-append d (CR ∷ []), six))
+laid-long tail l t = tail-long refl (omega arith)
+
 -- THE BUS: all that its frames have in common with those of the others
-pub nikobus-bus : Bus nikobus nikobusFormLen nikobusPasses nikobusFrom nikobusTo
+pub nikobus-bus : Bus nikobus nikobusRecogniser
 nikobus-bus =
     record {
       forms = form-right;
-      passed = λ w r. passed w (r .fields) (r .limits) (r .laid);
-      passes = λ w r. passing-test w (r .fields) (r .limits) (r .laid);
+      compares = λ w r. compares w (r .fields) (r .limits) (r .laid);
+      few = few;
       begins = λ w r. begins w (r .fields) (r .laid);
       ends = λ w r. finishes w (r .fields) (r .limits) (r .laid);
+      begun? = begun?;
+      long? = long?;
+      laid-begun = λ m l t. laid-begun m t;
+      laid-long = laid-long;
     }
 
 -- ---- no two fields have the same bytes
@@ -507,155 +629,228 @@ digits-are k s r h e =
     only-yes _ _ (le-leb k (length s) h) ∙ ap (λ (b : Bool). onlyIf b k) (ap (all isHex) (sym (part-front k s)) ∙ e)
 
 module _ (s : List ℕ) (n : ℕ) (is : n ≡ llOf s) where
-  pub no-form : n ≡ 0 → 0 ≡ linkFormLen s
-  unfolding linkFormLen linkHeadLen onlyIf on
-  no-form z = let e : llOf s ≡ 0 = sym is ∙ z in rw e
-
-  pub form-whole : (n ≡ 0 → ⊥) → (end r : ℕ) → end ≡ onward (digitsLen (n - 4)) s 3 → r ≡ onward (wordLen (CR ∷ [])) s end → r ≡ linkFormLen s
+  pub form-whole : 0 < n → (end r : ℕ) → end ≡ onward (digitsLen (n - 4)) s 3 → r ≡ onward (wordLen (CR ∷ [])) s end → r ≡ linkFormLen s
   unfolding linkFormLen linkHeadLen
   form-whole nz end r ee er =
       let h : onlyIf (ltb 0 (llOf s)) 3 ≡ 3 = only-yes _ _ (lt-ltb 0 (llOf s) (omega (arith, is))) in
       er ∙ rw (ee, is, h, ll-take s)
 
   -- the places on the way
-  pub ll-four : (n ≡ 0 → ⊥) → 4 ≤ n
+  pub ll-four : 0 < n → 4 ≤ n
   ll-four nz = omega (arith, is, ll-least s (omega (arith, is)))
 
-  pub ll-three : (n ≡ 0 → ⊥) → 3 ≤ length s
+  pub ll-three : 0 < n → 3 ≤ length s
   ll-three nz = ll-there s (omega (arith, is)) .size
-
-  pub form-digits : (n ≡ 0 → ⊥) → (end : ℕ) → end ≡ onward (digitsLen (n - 4)) s 3 → end ≤ length s
-  form-digits nz end e = rw e (onward-inside (digitsLen (n - 4)) (run-inside isHex (n - 4)) s 3 (ll-three nz))
 
 -- ---- .. a link
 
-link-long : (w : List ℕ) → LinkForm w → 10 ≤ length w
-link-long w r = rw (r .laid) (omega (arith, link-size (r .payload) (r .crc16) (r .crc8)))
+link-long-bytes : (w : List ℕ) → LinkForm w → 10 ≤ length w
+link-long-bytes w r = rw (r .laid) (omega (arith, link-size (r .payload) (r .crc16) (r .crc8)))
 
-link-hex : (w : List ℕ) → LinkForm w → T (all isHex (part 3 (length w - 7) w))
+-- all its characters between LL and CR are digits
+link-hex : (w : List ℕ) → LinkForm w → T (all isHex (part 3 (length w - 1) w))
 link-hex w r = go (r .payload) (r .crc16) (r .crc8) (r .limits) (r .laid)
   where
-    go : (p : List ℕ) (x y : ℕ) → Limits (link p x y) → w ≡ bytesOf nikobus (link p x y) → T (all isHex (part 3 (length w - 7) w))
-    go p x y (link-limits _ _ b _ _) e =
-        rw e (subst (λ (l : List ℕ). T (all isHex l)) (sym (payload-part p x y)) (hex-all p b))
+    go : (p : List ℕ) (x y : ℕ) → Limits (link p x y) → w ≡ bytesOf nikobus (link p x y) → T (all isHex (part 3 (length w - 1) w))
+    go p x y (link-limits _ _ b hx hy) e =
+        let head : List ℕ = 36 ∷ hexByte (length p * 2 + 10) in
+        let digits : List ℕ = hexBytes p ++ (hexWord x ++ hexByte y) in
+        let run = link-run p x y b hx hy in
+        let m : part 3 (length w - 1) w ≡ digits =
+        ap (λ (u : List ℕ). part 3 (length u - 1) u) (e ∙ sym (regroup head (hexBytes p) (hexWord x) (hexByte y) (CR ∷ [])) ∙ append-assoc head digits (CR ∷ []))
+        ∙ part-middle head digits (CR ∷ []) 3 (length (head ++ (digits ++ (CR ∷ []))) - 1) (omega (arith, length-byte (length p * 2 + 10)))
+        (omega (arith, length-append head (digits ++ (CR ∷ [])), length-append digits (CR ∷ []), length-byte (length p * 2 + 10)))
+        in
+        subst (λ (l : List ℕ). T (all isHex l)) (sym m) (run .each)
 
 module _ (s : List ℕ) (n : ℕ) (is : n ≡ linkFormLen s) where
   pub form-inside : n ≤ length s
   form-inside = rw is (inside link-form-right s)
 
-  form-there : (n ≡ 0 → ⊥) → LinkForm (part 0 n s)
-  form-there nz =
-      let k : 0 < linkFormLen s = omega (arith, is) in
-      subst LinkForm (ap (λ (i : ℕ). take i s) (sym is) ∙ sym (part-front n s)) (taken link-form-right s k)
+  module _ (some : 0 < n) where
+    form-there : LinkForm (take n s)
+    form-there = subst (λ (k : ℕ). LinkForm (take k s)) (sym is) (taken link-form-right s (omega (arith, is)))
 
-  pub form-long : (n ≡ 0 → ⊥) → 10 ≤ length (part 0 n s)
-  form-long nz = link-long (part 0 n s) (form-there nz)
+    part-there : LinkForm (part 0 n s)
+    part-there = subst LinkForm (sym (part-front n s)) form-there
 
-  pub form-hex : (n ≡ 0 → ⊥) → T (all isHex (part 3 (length (part 0 n s) - 7) (part 0 n s)))
-  form-hex nz = link-hex (part 0 n s) (form-there nz)
+    pub form-long : 10 ≤ length (part 0 n s)
+    form-long = link-long-bytes (part 0 n s) part-there
 
-  pub link-tested : (a b : Bool) → a ≡ passes16 (part 0 n s) → b ≡ passes8 (part 0 n s) → linkLen s ≡ onlyIf (a && b) n
-  unfolding linkLen
-  link-tested a b ea eb = rw (ea, eb, part-front n s, is)
+    pub form-ten : 10 ≤ n
+    form-ten = omega (arith, form-long, ap length (part-front n s), length-take-le n s form-inside)
 
-  pub no-link-form : n ≡ 0 → 0 ≡ linkLen s
-  unfolding linkLen
-  no-link-form z = let e : linkFormLen s ≡ 0 = sym is ∙ z in rw e (sym (only-zero _))
+    pub form-hex : T (all isHex (part 3 (length (part 0 n s) - 1) (part 0 n s)))
+    form-hex = link-hex (part 0 n s) part-there
 
-pub link-seven : (s : List ℕ) (n : ℕ) → n ≡ linkLen s → (n ≡ 0 → ⊥) → 7 ≤ n
-unfolding linkLen
-link-seven s n e nz =
-    let k : 0 < linkLen s = omega (arith, e) in
-    let f : n ≡ linkFormLen s = e ∙ only-eq _ _ k in
-    omega (arith, form-long s n f nz, ap length (part-front n s), length-take-le n s (form-inside s n f))
+    pub link-found : n ≡ nikobusFormLen s
+    unfolding nikobusFormLen
+    link-found = is ∙ sym (or-first _ _ (omega (arith, is)))
+
+    -- the values that the code compares, and the payload's places
+    pub pairs-there : {c d : Compared} → c ≡ pair16 (part 0 n s) → d ≡ pair8 (part 0 n s) → nikobusPairs (take n s) ≡ c ∷ d ∷ []
+    unfolding nikobusPairs starts
+    pairs-there {c} {d} e f =
+        let two : List Compared = pair16 (take n s) ∷ pair8 (take n s) ∷ [] in
+        ap (λ (u : List ℕ). cond (starts (ascii "$") u) two []) (form-there .laid)
+        ∙ ap₂ (λ (a b : Compared). a ∷ b ∷ []) (sym (e ∙ ap pair16 (part-front n s))) (sym (f ∙ ap pair8 (part-front n s)))
+
+    pub link-from : 3 ≡ nikobusFrom (take n s)
+    unfolding nikobusFrom starts
+    link-from = rw (form-there .laid)
+
+    pub link-to : n - 7 ≡ nikobusTo (take n s)
+    unfolding nikobusTo starts
+    link-to = ap (λ (k : ℕ). k - 7) (sym (length-take-le n s form-inside)) ∙ rw (form-there .laid)
 
 -- ---- .. a press
 
-pub press-digits : (s : List ℕ) (a b : ℕ) → a ≡ wordLen (ascii "#N") s → b ≡ onward (digitsLen 6) s a → b ≤ length s
-press-digits s a b ea eb = rw (eb, ea) (onward-inside (digitsLen 6) (run-inside isHex 6) s (wordLen (ascii "#N") s) (word-inside (ascii "#N") s))
-
-pub press-whole : (s : List ℕ) (a b r : ℕ) → a ≡ wordLen (ascii "#N") s → b ≡ onward (digitsLen 6) s a → r ≡ onward (wordLen (CR ∷ [])) s b → r ≡ pressLen s
+press-whole : (s : List ℕ) (a b r : ℕ) → a ≡ wordLen (ascii "#N") s → b ≡ onward (digitsLen 6) s a → r ≡ onward (wordLen (CR ∷ [])) s b → r ≡ pressLen s
 unfolding pressLen
 press-whole s a b r ea eb er = rw (er, eb, ea)
 
--- ---- .. and one of the three, told by the first character
+pub digits-inside : (k : ℕ) (s : List ℕ) (at end : ℕ) → end ≡ onward (digitsLen k) s at → end ≤ length s
+digits-inside k = ends-inside (digitsLen k) (run-inside isHex k)
 
-or-none : (n : ℕ) → orElse n 0 ≡ n
-or-none zero = refl
-or-none (suc n) = refl
+-- ---- .. and which of the three, by the start mark
 
--- a link is tested, a press and a tail are not
-tested : (n : ℕ) (s : List ℕ) → getD s 0 0 ≡ 36 → onlyIf (passes16 (take n s) && passes8 (take n s)) n ≡ onlyIf (nikobusPasses (take n s)) n
-unfolding nikobusPasses starts
-tested zero s m = only-zero _ ∙ sym (only-zero _)
-tested (suc n) [] m = absurd (omega arith)
-tested (suc n) (x ∷ s) m = rw (eq-eqb x 36 m)
+module _ (s : List ℕ) (mark : starts (ascii "$") s ≡ true) where
+  dollar : StartsWith (ascii "$") s
+  dollar = starts-with (ascii "$") s mark
 
-untested : (n : ℕ) (s : List ℕ) → getD s 0 0 ≡ 35 → nikobusPasses (take n s) ≡ true
-unfolding nikobusPasses starts
-untested zero s m = refl
-untested (suc n) [] m = absurd (omega arith)
-untested (suc n) (x ∷ s) m = rw m
+  pub dollar-begun : Begun s
+  dollar-begun = link-begun dollar
 
--- a link's places
-link-from : (n : ℕ) (s : List ℕ) → getD s 0 0 ≡ 36 → (n ≡ 0 → ⊥) → 3 ≡ nikobusFrom (take n s)
-unfolding nikobusFrom starts
-link-from zero s m nz = absurd (nz refl)
-link-from (suc n) [] m nz = absurd (omega arith)
-link-from (suc n) (x ∷ s) m nz = rw m
+  module _ (n : ℕ) (e : n ≡ llOf s) where
+    pub no-ll-short : n ≡ 0 → Long s → ⊥
+    no-ll-short z l = omega (arith, z, e, long-ll s dollar l .0)
 
-link-to : (n : ℕ) (s : List ℕ) → getD s 0 0 ≡ 36 → (n ≡ 0 → ⊥) → n ≤ length s → n - 7 ≡ nikobusTo (take n s)
-unfolding nikobusTo starts
-link-to zero s m nz h = absurd (nz refl)
-link-to (suc n) [] m nz h = absurd (omega arith)
-link-to (suc n) (x ∷ s) m nz h = rw m (omega (arith, length-take-le n s (omega arith)))
+    pub ll-short : length s < n → Long s → ⊥
+    ll-short h l = omega (arith, h, e, long-ll s dollar l .1)
 
-module _ (s : List ℕ) (mark : getD s 0 0 ≡ 36) where
-  as-link : linkLen s ≡ passing nikobusFormLen nikobusPasses s
-  unfolding linkLen nikobusFormLen
-  as-link =
-      let a : pressLen s ≡ 0 = no-press s (λ e. omega arith) in
-      let b : tailLen s ≡ 0 = no-tail s (λ e. omega arith) in
-      rw (a, b, or-none) (tested (linkFormLen s) s mark)
+    pub ll-enough : (n ≡ 0 → ⊥) → n ≤ length s → Long s
+    ll-enough nz h = ll-long s (omega (arith, nz, e)) (omega (arith, h, e))
 
-  pub link-none : 0 ≡ linkLen s → Leads nikobus s 0 0 0
-  link-none e = leads-none nikobus-bus s (e ∙ as-link)
-
-  pub link-leads : (n : ℕ) → n ≡ linkLen s → (n ≡ 0 → ⊥) → Leads nikobus s n 3 (n - 7)
-  link-leads n e nz =
-      let q : n ≡ passing nikobusFormLen nikobusPasses s = e ∙ as-link in
-      let h : n ≤ length s = rw q (inside (frame-right nikobus-bus) s) in
-      leads-at nikobus-bus s n 3 (n - 7) q nz (link-from n s mark nz) (link-to n s mark nz h)
-
-module _ (s : List ℕ) (mark : getD s 0 0 ≡ 35) where
-  as-button : orElse (pressLen s) (tailLen s) ≡ passing nikobusFormLen nikobusPasses s
+  pub no-link-found : linkFormLen s ≡ 0 → nikobusFormLen s ≡ 0
   unfolding nikobusFormLen
-  as-button =
-      let a : linkFormLen s ≡ 0 = no-link s (λ e. omega arith) in
-      rw a (sym (only-yes _ _ (untested (orElse (pressLen s) (tailLen s)) s mark)))
+  no-link-found z =
+      let first = mark-at (ascii "$") s dollar 0 (omega arith) in
+      rw (z, no-press s (λ x. omega (arith, x, first)), no-tail s (λ x. omega (arith, x, first)))
 
-  pub press-leads : (n : ℕ) → n ≡ pressLen s → (n ≡ 0 → ⊥) → Leads nikobus s n 2 8
-  unfolding nikobusFrom nikobusTo starts
-  press-leads n e nz =
-      let k : 0 < pressLen s = omega (arith, e) in
-      let f = taken press-right s k in
-      let l : take n s ≡ bytesOf nikobus (press (f .digits)) = ap (λ (i : ℕ). take i s) e ∙ f .laid in
-      leads-at nikobus-bus s n 2 8 (e ∙ sym (or-first _ _ k) ∙ as-button) nz (rw l) (rw l)
+module _ (s : List ℕ) (mark : starts (ascii "#N") s ≡ true) where
+  hash : StartsWith (ascii "#N") s
+  hash = starts-with (ascii "#N") s mark
 
-  pub tail-leads : (n : ℕ) → 0 ≡ pressLen s → n ≡ tailLen s → Leads nikobus s n n n
-  unfolding nikobusFrom nikobusTo starts
-  tail-leads zero z e = leads-none nikobus-bus s (e ∙ sym (or-second _ _ (sym z)) ∙ as-button)
-  tail-leads (suc n) z e =
-      let k : 0 < tailLen s = omega (arith, e) in
-      let l : take (suc n) s ≡ bytesOf nikobus tail = ap (λ (i : ℕ). take i s) e ∙ taken tail-right s k in
-      let four : suc n ≡ 4 = e ∙ sym (length-take-le (tailLen s) s (inside tail-right s)) ∙ ap length (taken tail-right s k) in
-      leads-at nikobus-bus s (suc n) (suc n) (suc n) (e ∙ sym (or-second _ _ (sym z)) ∙ as-button) (λ q. omega arith) (rw l four) (rw l four)
+  pub hash-begun : Begun s
+  hash-begun = press-begun hash
 
-pub other-none : (s : List ℕ) → (getD s 0 0 ≡ 36 → ⊥) → (getD s 0 0 ≡ 35 → ⊥) → Leads nikobus s 0 0 0
-unfolding nikobusFormLen
-other-none s h k =
-    leads-none nikobus-bus s (rw (no-link s h, no-press s k, no-tail s k) (sym (only-zero _)))
+  pub hash-short : length s < 9 → Long s → ⊥
+  hash-short h l = omega (arith, h, long-press s hash l)
 
-pub empty-none : (s : List ℕ) → length s ≡ 0 → Leads nikobus s 0 0 0
-empty-none [] e = other-none [] (λ z. omega arith) (λ z. omega arith)
-empty-none (x ∷ s) e = absurd (omega arith)
+  pub hash-long : 9 ≤ length s → Long s
+  hash-long h = press-long hash h
+
+  not-link : linkFormLen s ≡ 0
+  not-link = no-link s (λ x. omega (arith, x, mark-at (ascii "#N") s hash 0 (omega arith)))
+
+  module _ (end n : ℕ) (ee : end ≡ onward (digitsLen 6) s 2) (en : n ≡ onward (wordLen (CR ∷ [])) s end) where
+    pub press-is : n ≡ pressLen s
+    press-is = press-whole s 2 end n (sym (word-there (ascii "#N") s mark)) ee en
+
+    pub no-press-found : n ≡ 0 → nikobusFormLen s ≡ 0
+    unfolding nikobusFormLen
+    no-press-found z =
+        let second = mark-at (ascii "#N") s hash 1 (omega arith) in
+        rw (not-link, sym press-is ∙ z, no-tail-at s 1 (omega arith) (λ x. omega (arith, x, second)))
+
+    module _ (nz : n ≡ 0 → ⊥) where
+      pub press-found : n ≡ nikobusFormLen s
+      unfolding nikobusFormLen
+      press-found = press-is ∙ rw not-link (sym (or-first _ _ (omega (arith, nz, press-is))))
+
+      press-laid : (d : List ℕ) × (take n s ≡ bytesOf nikobus (press d))
+      press-laid =
+          let f = taken press-right s (omega (arith, nz, press-is)) in
+          (f .digits, ap (λ (i : ℕ). take i s) press-is ∙ f .laid)
+
+      pub press-pairs : nikobusPairs (take n s) ≡ []
+      unfolding nikobusPairs starts
+      press-pairs = rw (press-laid .1)
+
+      pub press-from : 2 ≡ nikobusFrom (take n s)
+      unfolding nikobusFrom starts
+      press-from = rw (press-laid .1)
+
+      pub press-to : 8 ≡ nikobusTo (take n s)
+      unfolding nikobusTo starts
+      press-to = rw (press-laid .1)
+
+module _ (s : List ℕ) (mark : starts (ascii "#E1") s ≡ true) where
+  ended : StartsWith (ascii "#E1") s
+  ended = starts-with (ascii "#E1") s mark
+
+  pub ended-begun : Begun s
+  ended-begun = tail-begun ended
+
+  pub ended-short : length s < 4 → Long s → ⊥
+  ended-short h l = omega (arith, h, long-tail s ended l)
+
+  pub ended-long : 4 ≤ length s → Long s
+  ended-long h = tail-long ended h
+
+  only-tail : nikobusFormLen s ≡ tailLen s
+  unfolding nikobusFormLen
+  only-tail =
+      let first = mark-at (ascii "#E1") s ended 0 (omega arith) in
+      let second = mark-at (ascii "#E1") s ended 1 (omega arith) in
+      rw (no-link s (λ x. omega (arith, x, first)), no-press-at s (λ x. omega (arith, x, second)))
+
+  pub no-tail-found : (getD s 3 0 ≡ CR → ⊥) → nikobusFormLen s ≡ 0
+  no-tail-found f = only-tail ∙ no-tail-at s 3 (omega arith) f
+
+  module _ (h : 4 ≤ length s) (e : getD s 3 0 ≡ CR) where
+    tail-laid : take 4 s ≡ bytesOf nikobus tail
+    tail-laid =
+        take-ats s 4 0 h
+        ∙ rw (mark-at (ascii "#E1") s ended 0 (omega arith), mark-at (ascii "#E1") s ended 1 (omega arith), mark-at (ascii "#E1") s ended 2 (omega arith), e)
+
+    pub tail-found : 4 ≡ nikobusFormLen s
+    unfolding tailLen
+    tail-found = sym (only-tail ∙ word-there (bytesOf nikobus tail) s (with-starts (bytesOf nikobus tail) s tail-laid))
+
+    pub tail-pairs : nikobusPairs (take 4 s) ≡ []
+    unfolding nikobusPairs starts
+    tail-pairs = rw tail-laid
+
+    pub tail-from : 4 ≡ nikobusFrom (take 4 s)
+    unfolding nikobusFrom starts
+    tail-from = rw tail-laid
+
+    pub tail-to : 4 ≡ nikobusTo (take 4 s)
+    unfolding nikobusTo starts
+    tail-to = rw tail-laid
+
+-- ---- what the code compares
+
+pub compared-sixteen : (w : List ℕ) (x y : ℕ) → x ≡ hexFour w (length w - 7) → y ≡ check nikobusCrc16 (bytesIn (part 3 (length w - 7) w))
+    → _≡_ {A = Compared} (record { found = x; expected = y }) (pair16 w)
+unfolding pair16
+compared-sixteen w x y e f = same-pair e f
+
+pub compared-eight : (w : List ℕ) (x y : ℕ) → x ≡ hexPair (getD w (length w - 3) 0) (getD w (length w - 3 + 1) 0)
+    → y ≡ check nikobusCrc8 (part 0 (length w - 3) w) → _≡_ {A = Compared} (record { found = x; expected = y }) (pair8 w)
+unfolding pair8
+compared-eight w x y e f = same-pair e (f ∙ ap (check nikobusCrc8) (part-front (length w - 3) w))
+
+-- the characters before the last are digits
+pub hex-there : (w : List ℕ) (i : ℕ) → T (all isHex (part 3 (length w - 1) w)) → 3 ≤ i → i < length w - 1 → T (isHex (getD w i 0))
+hex-there w i h low high =
+    let n : 3 + (i - 3) ≡ i = omega arith in
+    let few : i - 3 < (length w - 1) - 3 = omega arith in
+    subst (λ (c : ℕ). T (isHex c)) (part-at 3 (length w - 1) w (i - 3) few ∙ ap (λ (j : ℕ). getD w j 0) n)
+    (hex-at (part 3 (length w - 1) w) (i - 3) (omega (arith, length-part 3 (length w - 1) w (omega arith) (omega arith))) h)
+
+pub hex-front : (w : List ℕ) → 10 ≤ length w → T (all isHex (part 3 (length w - 1) w)) → T (all isHex (part 3 (length w - 7) w))
+hex-front w l h =
+    subst (λ (u : List ℕ). T (all isHex u)) (take-take ((length w - 7) - 3) ((length w - 1) - 3) (drop 3 w) (omega arith))
+    (all-take isHex ((length w - 7) - 3) (part 3 (length w - 1) w) h)

@@ -145,3 +145,10 @@ unfolding all
 all-at f [] i a h = absurd (omega arith)
 all-at f (x ∷ s) zero a h = T-and (f x) (all f s) a .0
 all-at f (x ∷ s) (suc i) a h = all-at f s i (T-and (f x) (all f s) a .1) (omega arith)
+
+-- what holds of all holds of the first
+pub all-take : (f : ℕ → Bool) (k : ℕ) (s : List ℕ) → T (all f s) → T (all f (take k s))
+unfolding all
+all-take f zero s t = tt
+all-take f (suc k) [] t = tt
+all-take f (suc k) (x ∷ s) t = let q = T-and (f x) (all f s) t in rw (T-true (f x) (q .0)) (all-take f k s (q .1))

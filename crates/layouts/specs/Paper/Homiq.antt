@@ -2,16 +2,15 @@
 -- Assumes nothing.
 use mathlib.Core.Bool.{Bool, _&&_, cond, not}
 use mathlib.Core.List.{List, [], _∷_, _++_}
-use mathlib.Core.Path.{_≡_}
 use Prim.Native.Nat.{ℕ, _≤_}
 use lib.Dec.{T, eqb, leb}
 use lib.ListN.{length}
 use Rattle.digits.specs.Paper.Ascii.{ascii}
 use Rattle.digits.specs.Paper.Decimal.{decimal}
 use Rattle.checks.specs.Paper.Buses.{homiqCrc}
-use Rattle.checks.specs.Paper.Check.{check}
 use Rattle.layouts.specs.Paper.Chars.{oneOf, all, CR, LF}
-use Rattle.layouts.specs.Paper.Layout.{Layout}
+use Rattle.layouts.specs.Paper.Layout.{Layout, Checked, comparedIn, StartsWith}
+use Rattle.layouts.specs.declared.Compared.{Compared}
 
 pub record Homiq : Type 0 where
   pub cmd : List ℕ
@@ -74,8 +73,29 @@ withoutSeparators [] = []
 withoutSeparators (x ∷ s) = cond (eqb x 59) (withoutSeparators s) (x ∷ withoutSeparators s)
 
 -- "The CRC covers the six fields joined without separators"
-abbrev pub Passes : Homiq → Type 0
-Passes m = m .crc ≡ check homiqCrc (joined m)
+abbrev pub checked : Homiq → Checked
+checked m = record { check = homiqCrc; bytes = joined m; value = m .crc }
+
+abbrev pub compared : Homiq → List Compared
+compared m = comparedIn (checked m) ∷ []
+
+-- 02, K1: "A place that lacks the whole start mark (as .. `<;`) fails at start"
+abbrev pub Begun : List ℕ → Type 0
+Begun s = StartsWith (ascii "<;") s
+
+-- 02, K1: "Homiq has no length test"
+abbrev pub Long : List ℕ → Type 0
+Long s = Unit
 
 abbrev pub homiq : Layout
-homiq = record { Fields = Homiq; Limits = Limits; before = before; payload = payload; behind = behind; Passes = Passes }
+homiq =
+    record {
+      Fields = Homiq;
+      Limits = Limits;
+      before = before;
+      payload = payload;
+      behind = behind;
+      compared = compared;
+      Begun = Begun;
+      Long = Long;
+    }

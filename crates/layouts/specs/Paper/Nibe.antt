@@ -1,14 +1,15 @@
 -- 01, Nibe: "C0, command, length, data, check."
 -- Assumes nothing.
 use mathlib.Core.List.{List, [], _∷_}
-use mathlib.Core.Path.{_≡_}
-use Prim.Native.Nat.{ℕ, _≤_, _<_}
+use Prim.Native.Nat.{ℕ, _+_, _≤_, _<_}
 use lib.Dec.{T}
-use lib.ListN.{length}
+use lib.ListN.{length, getD}
 use Rattle.digits.specs.Paper.Bytes.{Bytes}
+use Rattle.checks.specs.Paper.Buses.{nibeXor}
 use Rattle.checks.specs.Paper.Xor.{xorOf}
 use Rattle.layouts.specs.Paper.Chars.{oneOf}
-use Rattle.layouts.specs.Paper.Layout.{Layout}
+use Rattle.layouts.specs.Paper.Layout.{Layout, Checked, StartsWith}
+use Rattle.layouts.specs.declared.Compared.{Compared}
 
 -- (`data` is a word of the language)
 pub record Nibe : Type 0 where
@@ -46,9 +47,32 @@ pub record Limits (m : Nibe) : Type 0 where
 abbrev pub covered : List ℕ → List ℕ
 covered d = length d ∷ d
 
+-- "The check is .. of the length and the data" (demand 3 reads it as the check of x^8 + 1, which is the XOR)
+abbrev pub checked : Nibe → Checked
+checked m = record { check = nibeXor; bytes = covered (m .content); value = m .xor }
+
 -- "The check is the XOR of the length and the data; the command is not covered"
-abbrev pub Passes : Nibe → Type 0
-Passes m = m .xor ≡ xorOf (covered (m .content))
+abbrev pub compared : Nibe → List Compared
+compared m = record { found = checked m .value; expected = xorOf (checked m .bytes) } ∷ []
+
+-- 02, K1: "A place that lacks the whole start mark .. fails at start"
+abbrev pub Begun : List ℕ → Type 0
+Begun s = StartsWith (0xC0 ∷ []) s
+
+-- 02, K1: "Too few bytes .. fail at length": C0, command, length and check, and as many bytes as the length says. (If
+-- the length itself is not there, there are fewer than four.)
+abbrev pub Long : List ℕ → Type 0
+Long s = getD s 2 0 + 4 ≤ length s
 
 abbrev pub nibe : Layout
-nibe = record { Fields = Nibe; Limits = Limits; before = before; payload = payload; behind = behind; Passes = Passes }
+nibe =
+    record {
+      Fields = Nibe;
+      Limits = Limits;
+      before = before;
+      payload = payload;
+      behind = behind;
+      compared = compared;
+      Begun = Begun;
+      Long = Long;
+    }

@@ -2,7 +2,7 @@
 -- Assumes nothing.
 use mathlib.Core.List.{List, [], _∷_, _++_}
 use mathlib.Core.Path.{_≡_}
-use Prim.Native.Nat.{ℕ, _+_, _*_, _≤_, _<_}
+use Prim.Native.Nat.{ℕ, _+_, _*_, _%_, _≤_, _<_}
 use lib.Dec.{T}
 use lib.ListN.{length}
 use Rattle.digits.specs.Paper.Ascii.{ascii}
@@ -10,9 +10,9 @@ use Rattle.digits.specs.Paper.Bytes.{Bytes}
 use Rattle.digits.specs.Paper.Hex.{hexByte, hexBytes, hexWord}
 use Rattle.digits.specs.Paper.LowFirst.{SixteenBits}
 use Rattle.checks.specs.Paper.Buses.{nikobusCrc16, nikobusCrc8}
-use Rattle.checks.specs.Paper.Check.{check}
 use Rattle.layouts.specs.Paper.Chars.{all, isHex, CR}
-use Rattle.layouts.specs.Paper.Layout.{Layout}
+use Rattle.layouts.specs.Paper.Layout.{Layout, Checked, comparedIn, StartsWith}
+use Rattle.layouts.specs.declared.Compared.{Compared}
 
 -- a link's payload is the bytes that its digits are
 pub data Nikobus : Type 0 where
@@ -65,14 +65,43 @@ pub data Limits : Nikobus → Type 0 where
 abbrev pub linkChecked : List ℕ → ℕ → List ℕ
 linkChecked p crc16 = ascii "$" ++ hexByte (ll p) ++ hexBytes p ++ hexWord crc16
 
--- "CRC16 covers the payload's bytes"; "CRC8 covers the characters from `$` to the end of the CRC16"; "Here both Nikobus
--- checks are required"
-pub data Passes : Nikobus → Type 0 where
-  link-passes : {p : List ℕ} {crc16 crc8 : ℕ} → crc16 ≡ check nikobusCrc16 p
-      → crc8 ≡ check nikobusCrc8 (linkChecked p crc16) → Passes (link p crc16 crc8)
-  press-passes : {d : List ℕ} → Passes (press d)
-  tail-passes : Passes tail
+-- "CRC16 covers the payload's bytes"
+abbrev pub checked16 : List ℕ → ℕ → Checked
+checked16 p crc16 = record { check = nikobusCrc16; bytes = p; value = crc16 }
+
+-- "CRC8 covers the characters from `$` to the end of the CRC16"
+abbrev pub checked8 : List ℕ → ℕ → ℕ → Checked
+checked8 p crc16 crc8 = record { check = nikobusCrc8; bytes = linkChecked p crc16; value = crc8 }
+
+-- "Here both Nikobus checks are required"; 02, K1: "first check, second check (Nikobus: CRC16, then CRC8)"
+abbrev pub compared : Nikobus → List Compared
+compared (link p crc16 crc8) = comparedIn (checked16 p crc16) ∷ comparedIn (checked8 p crc16 crc8) ∷ []
+compared (press d) = []
+compared tail = []
+
+-- 02, K1: "A place that lacks the whole start mark (as `$`, `#N`, `#E1` ..) fails at start"
+pub data Begun (s : List ℕ) : Type 0 where
+  link-begun : StartsWith (ascii "$") s → Begun s
+  press-begun : StartsWith (ascii "#N") s → Begun s
+  tail-begun : StartsWith (ascii "#E1") s → Begun s
+
+-- 02, K1: "Too few bytes, an LL not of two digits or not allowed .. fail at length". 01: "LL is even, 0x0C to 0xFE ..
+-- and the frame is LL bytes long"; a press has nine bytes, a tail four.
+pub data Long (s : List ℕ) : Type 0 where
+  link-long : {LL : ℕ} → LL % 2 ≡ 0 → 0x0C ≤ LL → LL ≤ 0xFE → StartsWith (ascii "$" ++ hexByte LL) s
+      → LL ≤ length s → Long s
+  press-long : StartsWith (ascii "#N") s → 9 ≤ length s → Long s
+  tail-long : StartsWith (ascii "#E1") s → 4 ≤ length s → Long s
 
 abbrev pub nikobus : Layout
 nikobus =
-    record { Fields = Nikobus; Limits = Limits; before = before; payload = payload; behind = behind; Passes = Passes }
+    record {
+      Fields = Nikobus;
+      Limits = Limits;
+      before = before;
+      payload = payload;
+      behind = behind;
+      compared = compared;
+      Begun = Begun;
+      Long = Long;
+    }

@@ -14,6 +14,8 @@ use Rattle.checks.specs.Paper.Check.{check}
 use Rattle.layouts.specs.Paper.Chars.{CR, LF}
 use Rattle.layouts.specs.Paper.Homiq.{fieldChar, firstId, lastId, withoutSeparators}
 use Rattle.layouts.specs.Work.Heads.{onlyIf, wordLen, leading, andThen, orElse}
+use Rattle.layouts.specs.Work.Recogniser.{Recogniser}
+use Rattle.layouts.specs.declared.Compared.{Compared}
 
 -- a field of at most `most` characters, and `;`
 unfoldable pub fieldLen : ℕ → List ℕ → ℕ
@@ -56,13 +58,17 @@ fiveLen =
 unfoldable pub homiqFormLen : List ℕ → ℕ
 homiqFormLen = andThen (andThen headLen (λ _. numberLen 0 255)) (λ _. wordLen (ascii ">" ++ (CR ∷ LF ∷ [])))
 
--- the number behind TYPE is the CRC of what stands from CMD to there, the separators left out
-unfoldable pub homiqPasses : List ℕ → Bool
-homiqPasses w = eqb (numberIn (drop (headLen w) w)) (check homiqCrc (withoutSeparators (part 2 (headLen w) w)))
+-- the number behind TYPE, and the CRC of what stands from CMD to there, the separators left out
+unfoldable pub homiqPair : List ℕ → Compared
+homiqPair w =
+    record {
+      found = numberIn (drop (headLen w) w);
+      expected = check homiqCrc (withoutSeparators (part 2 (headLen w) w));
+    }
 
--- where the payload of what is laid out so begins and ends
-abbrev pub homiqFrom : List ℕ → ℕ
-homiqFrom w = 2
-
+-- where the payload of what is laid out so ends
 unfoldable pub homiqTo : List ℕ → ℕ
 homiqTo w = headLen w - 1
+
+abbrev pub homiqRecogniser : Recogniser
+homiqRecogniser = record { form = homiqFormLen; pairs = λ w. homiqPair w ∷ []; from = λ w. 2; to = homiqTo }

@@ -1,9 +1,8 @@
 -- Recognisers of Nibe frames.
 -- Assumes nothing.
-use mathlib.Core.Bool.{Bool}
-use mathlib.Core.List.{List}
+use mathlib.Core.List.{List, [], _∷_}
 use Prim.Native.Nat.{ℕ, _+_, _-_}
-use lib.Dec.{eqb}
+use lib.Dec.{eqb, leb}
 use lib.ListN.{length, getD}
 use Rattle.digits.specs.Paper.Bytes.{part}
 use Rattle.checks.specs.Paper.Buses.{nibeXor}
@@ -11,6 +10,8 @@ use Rattle.checks.specs.Paper.Check.{check}
 use Rattle.layouts.specs.Paper.Chars.{oneOf}
 use Rattle.layouts.specs.Paper.Nibe.{commands}
 use Rattle.layouts.specs.Work.Heads.{onlyIf, bytesLen}
+use Rattle.layouts.specs.Work.Recogniser.{Recogniser}
+use Rattle.layouts.specs.declared.Compared.{Compared}
 
 -- C0, command, length, as many bytes as that, one byte more
 unfoldable pub nibeFormLen : List ℕ → ℕ
@@ -19,14 +20,15 @@ nibeFormLen s =
     (onlyIf (oneOf commands (getD s 1 0))
     (bytesLen (getD s 2 0 + 4) s))
 
--- the last byte is the check value of the length and the data (as the code has it: the check of x^8 + 1, which is
+-- how long a frame with the length that stands there is, 0 if there are fewer bytes
+unfoldable pub claimedLen : List ℕ → ℕ
+claimedLen s = onlyIf (leb (getD s 2 0 + 4) (length s)) (getD s 2 0 + 4)
+
+-- the last byte, and the check value of the length and the data (as the code has it: the check of x^8 + 1, which is
 -- their XOR)
-unfoldable pub nibePasses : List ℕ → Bool
-nibePasses w = eqb (getD w (length w - 1) 0) (check nibeXor (part 2 (length w - 1) w))
+unfoldable pub nibePair : List ℕ → Compared
+nibePair w = record { found = getD w (length w - 1) 0; expected = check nibeXor (part 2 (length w - 1) w) }
 
--- where the payload of what is laid out so begins and ends
-abbrev pub nibeFrom : List ℕ → ℕ
-nibeFrom w = 3
-
-abbrev pub nibeTo : List ℕ → ℕ
-nibeTo w = length w - 1
+-- the payload of what is laid out so begins at 3 and ends before the last byte
+abbrev pub nibeRecogniser : Recogniser
+nibeRecogniser = record { form = nibeFormLen; pairs = λ w. nibePair w ∷ []; from = λ w. 3; to = λ w. length w - 1 }

@@ -1,18 +1,20 @@
 -- Recognisers of Nikobus frames.
 -- Assumes nothing.
-use mathlib.Core.Bool.{Bool, true, _&&_, cond}
+use mathlib.Core.Bool.{cond}
 use mathlib.Core.List.{List, [], _∷_, _++_}
 use Prim.Native.Nat.{ℕ, _+_, _-_, _*_, _%_}
 use lib.Dec.{eqb, leb, ltb}
-use lib.ListN.{length, getD, take, drop}
+use lib.ListN.{length, getD, take}
 use Rattle.digits.specs.Paper.Ascii.{ascii}
 use Rattle.digits.specs.Paper.Bytes.{part}
-use Rattle.digits.specs.Paper.Hex.{hexByte, hexWord}
+use Rattle.digits.specs.Paper.Hex.{hexByte}
 use Rattle.digits.specs.Work.Hex.{placeOf}
 use Rattle.checks.specs.Paper.Buses.{nikobusCrc16, nikobusCrc8}
 use Rattle.checks.specs.Paper.Check.{check}
 use Rattle.layouts.specs.Paper.Chars.{isHex, CR}
-use Rattle.layouts.specs.Work.Heads.{onlyIf, starts, wordLen, runLen, andThen, orElse, passing}
+use Rattle.layouts.specs.Work.Heads.{onlyIf, starts, wordLen, runLen, andThen, orElse}
+use Rattle.layouts.specs.Work.Recogniser.{Recogniser}
+use Rattle.layouts.specs.declared.Compared.{Compared}
 
 -- the byte that two characters are, if they are digits
 abbrev pub hexPair : ℕ → ℕ → ℕ
@@ -53,20 +55,29 @@ tailLen = wordLen (ascii "#E1" ++ (CR ∷ []))
 unfoldable pub nikobusFormLen : List ℕ → ℕ
 nikobusFormLen s = orElse (linkFormLen s) (orElse (pressLen s) (tailLen s))
 
--- the four digits before the last three characters are CRC16's
-unfoldable pub passes16 : List ℕ → Bool
-passes16 w = starts (hexWord (check nikobusCrc16 (bytesOf (part 3 (length w - 7) w)))) (drop (length w - 7) w)
+-- the number that four characters from a place on are, if they are digits
+abbrev pub hexFour : List ℕ → ℕ → ℕ
+hexFour w i = hexPair (getD w i 0) (getD w (i + 1) 0) * 256 + hexPair (getD w (i + 2) 0) (getD w (i + 3) 0)
 
--- the two before the last are CRC8's
-unfoldable pub passes8 : List ℕ → Bool
-passes8 w = starts (hexByte (check nikobusCrc8 (take (length w - 3) w))) (drop (length w - 3) w)
+-- what the four digits before the last three characters are, and CRC16
+unfoldable pub pair16 : List ℕ → Compared
+pair16 w =
+    record {
+      found = hexFour w (length w - 7);
+      expected = check nikobusCrc16 (bytesOf (part 3 (length w - 7) w));
+    }
 
--- a link that passes both
-unfoldable pub linkLen : List ℕ → ℕ
-linkLen = passing linkFormLen (λ w. passes16 w && passes8 w)
+-- what the two before the last are, and CRC8
+unfoldable pub pair8 : List ℕ → Compared
+pair8 w =
+    record {
+      found = hexPair (getD w (length w - 3) 0) (getD w (length w - 3 + 1) 0);
+      expected = check nikobusCrc8 (take (length w - 3) w);
+    }
 
-unfoldable pub nikobusPasses : List ℕ → Bool
-nikobusPasses w = cond (starts (ascii "$") w) (passes16 w && passes8 w) true
+-- both, of a link
+unfoldable pub nikobusPairs : List ℕ → List Compared
+nikobusPairs w = cond (starts (ascii "$") w) (pair16 w ∷ pair8 w ∷ []) []
 
 -- where the payload of what is laid out so begins and ends
 unfoldable pub nikobusFrom : List ℕ → ℕ
@@ -74,3 +85,6 @@ nikobusFrom w = cond (starts (ascii "$") w) 3 (cond (starts (ascii "#N") w) 2 4)
 
 unfoldable pub nikobusTo : List ℕ → ℕ
 nikobusTo w = cond (starts (ascii "$") w) (length w - 7) (cond (starts (ascii "#N") w) 8 4)
+
+abbrev pub nikobusRecogniser : Recogniser
+nikobusRecogniser = record { form = nikobusFormLen; pairs = nikobusPairs; from = nikobusFrom; to = nikobusTo }

@@ -6,7 +6,8 @@ use Prim.Native.Nat.{ℕ}
 use Rattle.checks.specs.Paper.Buses.{nikobusCrc8}
 use Rattle.checks.specs.Paper.Check.{check}
 use Rattle.layouts.proofs.Laws.Made.{link-fit, nest-fit, nibe-fit, homiq-fit}
-use Rattle.layouts.specs.Paper.Layout.{bytesOf}
+use Rattle.layouts.proofs.Laws.Buses.{first-agrees}
+use Rattle.layouts.specs.Paper.Layout.{Agree, all-agree, agree, bytesOf}
 use Rattle.layouts.specs.Paper.Layout as layout
 use Rattle.layouts.specs.Paper.Homiq as homiqs
 use Rattle.layouts.specs.Paper.Made.{linkOf, nestOf}
@@ -25,14 +26,14 @@ use Rattle.messages.specs.Work.Content.{Fit}
 -- ---- a line a content
 
 -- the check values of what is made are right
-pub made-passes : (c : Content) → layoutOf (kindOf c) .Passes (made c)
-made-passes (link p) = nikobuses.link-passes refl refl
-made-passes (press d) = nikobuses.press-passes
-made-passes tail = nikobuses.tail-passes
-made-passes (command i p) = refl
-made-passes (response i p) = refl
-made-passes (nibe c d) = refl
-made-passes (homiq w) = refl
+pub made-passes : (c : Content) → Agree (layoutOf (kindOf c) .compared (made c))
+made-passes (link p) = agree refl (agree refl all-agree)
+made-passes (press d) = all-agree
+made-passes tail = all-agree
+made-passes (command i p) = agree refl all-agree
+made-passes (response i p) = agree refl all-agree
+made-passes (nibe c d) = agree refl all-agree
+made-passes (homiq w) = agree refl all-agree
 
 -- what is made of a content has that content
 pub made-content : (c : Content) → contentIn (kindOf c) (made c) ≡ c
@@ -56,23 +57,23 @@ kind-in Nibe m = refl
 kind-in Homiq m = refl
 
 -- check values that are right are those that are worked out
-link-made : (p : List ℕ) (x y : ℕ) → nikobuses.Passes (nikobuses.link p x y) → nikobuses.link p x y ≡ linkOf p
-link-made p x y (nikobuses.link-passes d e) =
+link-made : (p : List ℕ) (x y : ℕ) → Agree (nikobuses.compared (nikobuses.link p x y)) → nikobuses.link p x y ≡ linkOf p
+link-made p x y (agree d (agree e later)) =
     ap (λ (c : ℕ). nikobuses.link p x c) e ∙ ap (λ (c : ℕ). nikobuses.link p c (check nikobusCrc8 (nikobuses.linkChecked p c))) d
 
-nest-made : (m : nests.Nest) → nests.Passes m → m ≡ nestOf (m .id) (m .payload)
-nest-made m e = ap (λ (c : ℕ). record { id = m .id; payload = m .payload; crc = c }) e
+nest-made : (m : nests.Nest) → Agree (nests.compared m) → m ≡ nestOf (m .id) (m .payload)
+nest-made m e = ap (λ (c : ℕ). record { id = m .id; payload = m .payload; crc = c }) (first-agrees e)
 
 -- a frame's bytes are those of its content
-pub bytes-in : (kind : Kind) (m : layoutOf kind .Fields) → layoutOf kind .Passes m → bytesOf (layoutOf kind) m ≡ laid (contentIn kind m)
+pub bytes-in : (kind : Kind) (m : layoutOf kind .Fields) → Agree (layoutOf kind .compared m) → bytesOf (layoutOf kind) m ≡ laid (contentIn kind m)
 bytes-in Nikobus (nikobuses.link p x y) e = ap (bytesOf nikobuses.nikobus) (link-made p x y e)
 bytes-in Nikobus (nikobuses.press d) e = refl
 bytes-in Nikobus nikobuses.tail e = refl
 bytes-in NestCommand m e = ap (bytesOf (nests.nest Command)) (nest-made m e)
 bytes-in NestResponse m e = ap (bytesOf (nests.nest Response)) (nest-made m e)
-bytes-in Nibe m e = ap (λ (x : ℕ). bytesOf nibes.nibe (record { command = m .command; content = m .content; xor = x })) e
+bytes-in Nibe m e = ap (λ (x : ℕ). bytesOf nibes.nibe (record { command = m .command; content = m .content; xor = x })) (first-agrees e)
 bytes-in Homiq m e =
-    ap (λ (x : ℕ). bytesOf homiqs.homiq (record { cmd = m .cmd; val = m .val; src = m .src; dst = m .dst; id = m .id; type = m .type; crc = x })) e
+    ap (λ (x : ℕ). bytesOf homiqs.homiq (record { cmd = m .cmd; val = m .val; src = m .src; dst = m .dst; id = m .id; type = m .type; crc = x })) (first-agrees e)
 
 -- and so is its payload, whatever its check values are
 pub payload-in : (kind : Kind) (m : layoutOf kind .Fields)

@@ -1,6 +1,6 @@
 //! The comparison of the calls: requests to every public function, and to every call for C.
 
-use crate::functions::{self, Function, AT, ROOM};
+use crate::functions::{self, Fixed, Function, AT, ROOM};
 use crate::malformed;
 use crate::random::Random;
 use crate::sides::{self, Sides};
@@ -17,6 +17,7 @@ const MORE: usize = 50;
 
 pub fn compare(sides: &Sides, seed: u64, count: usize) -> Totals {
     let mut all = tests_of(&functions::all(), seed, count);
+    all.extend(functions::all_fixed().into_iter().map(fixed));
     all.push(of_requests(
         "the longest requests",
         seed,
@@ -28,7 +29,23 @@ pub fn compare(sides: &Sides, seed: u64, count: usize) -> Totals {
 }
 
 pub fn compare_from_c(sides: &Sides, seed: u64, count: usize) -> Totals {
-    tests::run(sides, seed, &tests_of(&functions::from_c(), seed, count))
+    let mut all = tests_of(&functions::from_c(), seed, count);
+    all.extend(functions::fixed_from_c().into_iter().map(fixed));
+    tests::run(sides, seed, &all)
+}
+
+/// A test of requests that are listed.
+fn fixed(listed: Fixed) -> Test {
+    Test {
+        name: listed.test,
+        cases: listed
+            .requests
+            .into_iter()
+            .map(String::into_bytes)
+            .collect(),
+        needs: listed.answers,
+        count: count_answer,
+    }
 }
 
 /// A test for each function, by their weights, and one of what is no function.
@@ -124,14 +141,16 @@ fn request(function: &Function, random: &mut Random) -> Vec<u8> {
 }
 
 /// Whether a request was spoilt to one of another test, whose answers are not listed here: to another function, or, if there is a test for
-/// each tag or message, to one with another.
+/// each kind, tag or message, to one with another.
 fn is_of_another_test(function: &Function, request: &[u8], spoilt: &[u8]) -> bool {
     let nth_word =
         |line: &[u8], nth: usize| line.split(|b| *b == b' ').nth(nth).map(<[u8]>::to_vec);
     let part = function.test.split_once(", ").map(|(_, part)| part);
+    let kind = part.and_then(|part| part.strip_prefix("kind "));
+    let part = kind.or(part);
     let names_it = |line: &[u8]| nth_word(line, 1).as_deref() == part.map(str::as_bytes);
     let another = nth_word(request, 0) != nth_word(spoilt, 0)
-        || part.is_some() && names_it(request) && !names_it(spoilt);
+        || part.is_some() && (kind.is_some() || names_it(request)) && !names_it(spoilt);
     another && sides::second_answer(spoilt) != NO_REQUEST.as_bytes()
 }
 

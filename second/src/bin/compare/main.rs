@@ -2,6 +2,7 @@
 
 mod arguments;
 mod books;
+mod bytewise;
 mod calls;
 mod captures;
 mod contents;

@@ -35,7 +35,7 @@ frame-requires : tie.Need-frame-requires
 frame-requires c κs = search needs
 
 returns-2 : tie.Need-returns-2
-returns-2 c = let s = c .before .before .before .before .before .before .before .before .before .before .before in no-frame (s .args .payload .now) (s .args .room .now) (c .before .before .before .before .before .before .put-frame .ensures) (fits (c .before .before .before .before .before .before)) (c .before .before .frame .ensures) (c .if2 .taken)
+returns-2 c = let s = c .before .before .before .before .before .before .before .before .before .before .before in no-frame (s .args .payload .now) (s .args .room .now) (c .before .before .before .before .before .before .put-frame .ensures) (fits (c .before .before .before .before .before .before)) (c .before .before .frame .ensures .0) (c .if2 .taken)
 
 sub-front : tie.Need-sub-front
 sub-front c = search needs
@@ -53,7 +53,7 @@ same-length : tie.Need-same-length
 same-length c = search needs
 
 returns-3 : tie.Need-returns-3
-returns-3 c = let s = c .before .before .before .before .before .before .before .before .before .before .before .before .before .before .before .before .before in a-frame (s .args .payload .now) (s .args .room .now) (c .before .before .before .before .before .before .before .before .before .before .before .before .put-frame .ensures) (fits (c .before .before .before .before .before .before .before .before .before .before .before .before)) (c .before .before .before .before .before .before .before .before .frame .ensures) (c .before .before .front .result) (c .before .before .before .before .before .before .if2 .left) (c .before .before .front .ensures)
+returns-3 c = let s = c .before .before .before .before .before .before .before .before .before .before .before .before .before .before .before .before .before in a-frame (s .args .payload .now) (s .args .room .now) (c .before .before .before .before .before .before .before .before .before .before .before .before .put-frame .ensures) (fits (c .before .before .before .before .before .before .before .before .before .before .before .before)) (c .before .before .before .before .before .before .before .before .frame .ensures .0) (c .before .before .front .result) (c .before .before .before .before .before .before .if2 .left) (c .before .before .front .ensures)
 
 pub frame-spec : {M : Type 1} → statement M
 frame-spec =

@@ -11,7 +11,9 @@ use Rattle.frames.specs.Paper.Kinds.{KindCause, numberOf, resolvedRefusal, reso
 use Rattle.frames.specs.Paper.Search.{Hit, Leftmost, SearchCause, foundHit, foundRefusal, frameEnds, payloadEnds}
 use Rattle.frames.specs.Paper.Search.{zeroHit}
 use Rattle.frames.specs.Paper.OneFrame.{OneFrame, OneFrameCause, framePayloadEnds, framePayloadRefusal}
+use Rattle.frames.specs.Paper.Why.{JudgedAt, WhyCause, verdictFailing, verdictRefusal, zeroFailing}
 use Rattle.frames.specs.declared.Found.{Found}
+use Rattle.frames.specs.declared.Verdict.{Verdict}
 use Rattle.frames.specs.declared.FramePayload.{FramePayload}
 use Rattle.frames.specs.declared.kinds.Kind.{Kind}
 use Rattle.frames.specs.declared.kinds.Resolved.{Resolved}
@@ -91,6 +93,28 @@ one-frame =
             value = framePayloadEnds;
             zeros = zeroEnds;
             Right = λ a. OneFrame (a .kind) (a .s);
+          });
+    }
+
+-- The first test that a frame at the place fails.
+pub record WhyArgs : Type 0 where
+  pub kind : ℕ
+  pub buffer : List ℕ
+  pub place : ℕ
+
+abbrev pub why : Claim Verdict
+why =
+    record {
+      name = "frames::why";
+      Args = WhyArgs;
+      refusals = 2 ∷ 3 ∷ [];
+      Cause = λ a. WhyCause (a .kind) (a .buffer) (a .place);
+      form = refuses
+          (record {
+            refusal = verdictRefusal;
+            value = verdictFailing;
+            zeros = zeroFailing;
+            Right = λ a. JudgedAt (a .kind) (a .buffer) (a .place);
           });
     }
 

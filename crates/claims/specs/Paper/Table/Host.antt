@@ -16,6 +16,7 @@ use Rattle.numbers.specs.Paper.Single.{fitsSingle}
 use Rattle.numbers.specs.Paper.Text.{InLimits, text}
 use Rattle.frames.specs.Paper.Search.{Leftmost, SearchCause, zeroHit}
 use Rattle.frames.specs.Paper.OneFrame.{OneFrame, OneFrameCause}
+use Rattle.frames.specs.Paper.Why.{WhyCause}
 use Rattle.commands.specs.Paper.Acknowledge.{AcknowledgeCause, AcknowledgementOf}
 use Rattle.lines.specs.Paper.Answers.{LineCause, LineOf, NextCause, NextLine, zeroPlaced}
 use Rattle.book.specs.Paper.Answers.{OpenCause, Counts, EntryCause, EntryOf, zeroLocation, EntryLineCause, EntryLine}
@@ -29,6 +30,7 @@ use Rattle.host_lines.specs.Paper.Answers.{placedIn}
 use Rattle.host_book.specs.Paper.Answers.{locationIn}
 use Rattle.host.specs.Paper.Panel.{zeroShown, ShownOf, shownIn, zeroClimate, ClimateCause, ClimateOf, climateIn}
 use Rattle.host.specs.Paper.Version as host
+use Rattle.host.specs.Paper.Why.{JudgementAt, judgementIn, zeroJudgement}
 use Rattle.host.specs.declared.answers.Climate.{Climate}
 use Rattle.host.specs.declared.answers.Count.{Count}
 use Rattle.host_book.specs.declared.Entries.{Entries}
@@ -40,6 +42,7 @@ use Rattle.host.specs.declared.answers.PanelValue.{PanelValue}
 use Rattle.host.specs.declared.answers.Payload.{Payload}
 use Rattle.host.specs.declared.answers.Raw.{Raw}
 use Rattle.host.specs.declared.answers.Reading.{Reading}
+use Rattle.host.specs.declared.answers.Verdict.{Verdict}
 use Rattle.claims.specs.Paper.Causes.{ListingCause}
 use Rattle.claims.specs.Paper.Claim.{Form, Claim, answering, reading, refuses, writes, Fronted}
 
@@ -124,6 +127,28 @@ one-frame =
             value = endsIn;
             zeros = zeroEnds;
             Right = λ a. OneFrame (a .kind) (a .frame);
+          });
+    }
+
+-- The first test that a frame at the place fails.
+pub record WhyArgs : Type 0 where
+  pub kind : ℕ
+  pub buffer : List ℕ
+  pub place : ℕ
+
+abbrev pub why : Claim Verdict
+why =
+    record {
+      name = "host::frame_calls::bolsterweft_why";
+      Args = WhyArgs;
+      refusals = 2 ∷ 3 ∷ [];
+      Cause = λ a. WhyCause (a .kind) (a .buffer) (a .place);
+      form = refuses
+          (record {
+            refusal = λ (r : Verdict). r .refusal;
+            value = judgementIn;
+            zeros = zeroJudgement;
+            Right = λ a. JudgementAt (a .kind) (a .buffer) (a .place);
           });
     }
 

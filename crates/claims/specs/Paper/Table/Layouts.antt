@@ -9,7 +9,7 @@ use Rattle.checks.specs.Paper.Buses.{homiqCrc}
 use Rattle.checks.specs.Paper.Check.{check}
 use Rattle.layouts.specs.Paper.Chars.{all, isHex, oneOf}
 use Rattle.layouts.specs.Paper.Homiq.{homiq, withoutSeparators}
-use Rattle.layouts.specs.Paper.Layout.{Leads}
+use Rattle.layouts.specs.Paper.Judged.{Recognises}
 use Rattle.layouts.specs.Paper.Made.{Payload, Wire}
 use Rattle.layouts.specs.Paper.Nest.{nest}
 use Rattle.layouts.specs.Paper.Nibe.{commands, nibe}
@@ -19,13 +19,13 @@ use Rattle.layouts.specs.declared.AtHead.{AtHead}
 use Rattle.layouts.specs.declared.nest.Direction.{Direction}
 use Rattle.claims.specs.Paper.Claim.{Claim, answering}
 
--- The frame at the head of s; its payload is CMD to TYPE.
+-- What stands at the head of s; a frame's payload is CMD to TYPE.
 pub record HomiqFrameArgs : Type 0 where
   pub s : List ℕ
 
 abbrev pub homiq-frame : Claim AtHead
 homiq-frame =
-    answering {Args = HomiqFrameArgs} "layouts::homiq::frame" (λ a r. Leads homiq (a .s) (r .len) (r .from) (r .to))
+    answering {Args = HomiqFrameArgs} "layouts::homiq::frame" (λ a r. Recognises homiq (a .s) r)
 
 -- The CRC that closes a payload, CMD to TYPE: over its characters without the separators.
 pub record HomiqCrcArgs : Type 0 where
@@ -53,7 +53,7 @@ homiq-is-payload =
     answering {Args = HomiqIsPayloadArgs} "layouts::homiq::is_payload"
     (λ a r. Decides ((w : Wire) × Payload (a .p) w) r)
 
--- The frame at the head of s.
+-- What stands at the head of s.
 pub record NestFrameArgs : Type 0 where
   pub direction : Direction
   pub s : List ℕ
@@ -61,7 +61,7 @@ pub record NestFrameArgs : Type 0 where
 abbrev pub nest-frame : Claim AtHead
 nest-frame =
     answering {Args = NestFrameArgs} "layouts::nest::frame"
-    (λ a r. Leads (nest (a .direction)) (a .s) (r .len) (r .from) (r .to))
+    (λ a r. Recognises (nest (a .direction)) (a .s) r)
 
 -- Whether a frame can begin with the first three bytes of s.
 pub record NestMayStartArgs : Type 0 where
@@ -72,13 +72,13 @@ abbrev pub nest-may-start : Claim Bool
 nest-may-start =
     answering {Args = NestMayStartArgs} "layouts::nest::may_start" (λ a r. r ≡ nestStarts (a .direction) (a .s))
 
--- The frame at the head of s; its payload is the data.
+-- What stands at the head of s; a frame's payload is the data.
 pub record NibeFrameArgs : Type 0 where
   pub s : List ℕ
 
 abbrev pub nibe-frame : Claim AtHead
 nibe-frame =
-    answering {Args = NibeFrameArgs} "layouts::nibe::frame" (λ a r. Leads nibe (a .s) (r .len) (r .from) (r .to))
+    answering {Args = NibeFrameArgs} "layouts::nibe::frame" (λ a r. Recognises nibe (a .s) r)
 
 -- Whether a frame can begin with the first three bytes of s: C0, and then a command, all of which begin with 6.
 pub record NibeMayStartArgs : Type 0 where
@@ -96,14 +96,14 @@ abbrev pub nibe-is-command : Claim Bool
 nibe-is-command =
     answering {Args = NibeIsCommandArgs} "layouts::nibe::is_command" (λ a r. r ≡ oneOf commands (a .c))
 
--- The frame at the head of s; its payload is a link's digits or a press's, and a tail has none.
+-- What stands at the head of s, by its start mark; a frame's payload is a link's digits or a press's, and a tail has
+-- none.
 pub record NikobusFrameArgs : Type 0 where
   pub s : List ℕ
 
 abbrev pub nikobus-frame : Claim AtHead
 nikobus-frame =
-    answering {Args = NikobusFrameArgs} "layouts::nikobus::frame"
-    (λ a r. Leads nikobus (a .s) (r .len) (r .from) (r .to))
+    answering {Args = NikobusFrameArgs} "layouts::nikobus::frame" (λ a r. Recognises nikobus (a .s) r)
 
 -- Whether a frame can begin with the first three bytes of s: `$` or `#`, and then a digit or a letter.
 pub record NikobusMayStartArgs : Type 0 where

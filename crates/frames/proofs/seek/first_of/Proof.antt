@@ -33,10 +33,10 @@ at-requires : tie.Need-at-requires Inv-loop μ-loop
 at-requires c κs = c .before .loop .inv .within
 
 found-requires : tie.Need-found-requires Inv-loop μ-loop
-found-requires c κs = let s = c .before .before .before .before .before .before .before .before in hit-fits (c .before .before .before .before .loop .inv) (omega (arith, c .before .before .before .before .before .before .if1 .left, c .before .before .before .loop-test .taken)) (c .before .before .at .ensures) (omega (arith, s .good))
+found-requires c κs = let s = c .before .before .before .before .before .before .before .before in hit-fits (c .before .before .before .before .loop .inv) (omega (arith, c .before .before .before .before .before .before .if1 .left, c .before .before .before .loop-test .taken)) (c .before .before .at .ensures .0) (omega (arith, s .good))
 
 returns-2 : tie.Need-returns-2 Inv-loop μ-loop
-returns-2 c = c .found .ensures ∙ hit-found (c .before .before .before .before .before .loop .inv) (omega (arith, c .before .before .before .before .before .before .before .if1 .left, c .before .before .before .before .loop-test .taken)) (c .before .before .before .at .ensures) (c .before .if2 .taken)
+returns-2 c = c .found .ensures ∙ hit-found (c .before .before .before .before .before .loop .inv) (omega (arith, c .before .before .before .before .before .before .before .if1 .left, c .before .before .before .before .loop-test .taken)) (c .before .before .before .at .ensures .0) (c .before .if2 .taken)
 
 add-skip : tie.Need-add-skip Inv-loop μ-loop
 add-skip c = omega (arith, c .before .before .before .before .before .before .before .before .good, c .before .before .before .before .before .before .if1 .left, c .before .before .before .loop-test .taken)
@@ -48,7 +48,7 @@ loop-less : tie.Need-loop-less Inv-loop μ-loop
 loop-less c = omega (arith, c .skip2 .ensures .0, c .before .before .before .before .before .before .before .if1 .left, c .before .before .before .before .loop-test .taken)
 
 loop-again : tie.Need-loop-again Inv-loop μ-loop
-loop-again c = miss-next (c .before .before .before .before .before .loop .inv) (omega (arith, c .before .before .before .before .before .before .before .if1 .left, c .before .before .before .before .loop-test .taken)) (c .before .before .before .at .ensures) (c .before .if2 .left) (c .skip2 .ensures .1 .0) (c .skip2 .ensures .1 .1)
+loop-again c = miss-next (c .before .before .before .before .before .loop .inv) (omega (arith, c .before .before .before .before .before .before .before .if1 .left, c .before .before .before .before .loop-test .taken)) (c .before .before .before .at .ensures .0) (c .before .if2 .left) (c .skip2 .ensures .1 .0) (c .skip2 .ensures .1 .1)
 
 returns-3 : tie.Need-returns-3 Inv-loop μ-loop
 returns-3 c = none-left (c .before .loop .inv) (omega (arith, c .before .before .before .if1 .left, c .loop-test .left))

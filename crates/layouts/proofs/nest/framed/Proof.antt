@@ -1,68 +1,98 @@
--- `layouts::nest::framed` meets its contract: a form that passes is a frame, and nothing else is.
+-- `layouts::nest::framed` meets its contract: each test that fails is the first, and what passes them all is a frame.
 -- Assumes nothing.
-use mathlib.Core.Path.{_∙_, refl}
-use Prim.Native.Nat.{_-_}
+use mathlib.Core.Path.{refl, sym, _∙_}
 use native.Mathlib.Omega.{arith}
-use lib.ListN.{length}
-use borrow.Author.Needs.{needs}
 use borrow.Author.Tests.{not-true, not-false}
 use denote.Ref.{now}
-use Rattle.digits.proofs.Laws.Parts.{length-part}
-use Rattle.layouts.specs.Work.Nest.{nestFormLen, nestPasses}
-use Rattle.layouts.proofs.Laws.Buses.{leads-at, leads-nothing, no-form, form-fails, form-holds}
-use Rattle.layouts.proofs.Laws.Nest.{nest-bus, nest-room, nest-inside, nest-tested, nest-end}
+use Rattle.layouts.specs.Paper.Layout.{all-agree, agree}
+use Rattle.layouts.proofs.Laws.Buses.{answered-as, fails-start, fails-length, fails-first, passes-all}
+use Rattle.layouts.proofs.Laws.Heads.{starts-with, not-starts, mark-inside}
+use Rattle.layouts.proofs.Laws.Nest.{nest-bus, not-long, body-form, end-inside, end-six, end-two, end-payload, pair-there}
+use borrow.Author.Needs.{needs}
 use Rattle.layouts.proofs.nest.framed.Statement.{statement}
 use Rattle.layouts.proofs.nest.framed.Tie as tie
 
-form-requires : tie.Need-form-requires
-form-requires c κs = search needs
+starts-with-requires : tie.Need-starts-with-requires
+starts-with-requires c κs = search needs
 
 nothing-requires : tie.Need-nothing-requires
 nothing-requires c κs = search needs
 
 returns : tie.Need-returns
-returns c = let s = c .before .before .before .before .before in let m = now (s .args .preamble) in leads-nothing (nest-bus m (s .pre)) (now (s .args .s)) (no-form (nestFormLen m) (nestPasses m) _ _ (c .before .before .form .ensures) (c .before .if1 .taken)) (c .nothing .ensures .0) (c .nothing .ensures .1 .0) (c .nothing .ensures .1 .1)
+returns c = let m = now (c .before .before .before .before .before .args .preamble) in let s = now (c .before .before .before .before .before .args .s) in let some = c .before .before .before .before .before .pre in answered-as (c .nothing .ensures) (fails-start (nest-bus m some) s (not-starts m s (sym (c .before .before .starts-with .ensures) ∙ not-true _ (c .before .if1 .taken))))
 
-sub-passes : tie.Need-sub-passes
-sub-passes c = let s = c .before .before .before .before in omega (arith, nest-room (now (s .args .preamble)) (s .pre) (now (s .args .s)) _ (c .before .form .ensures) (c .if1 .left))
+sub-body : tie.Need-sub-body
+sub-body c = let m = now (c .before .before .before .before .args .preamble) in let s = now (c .before .before .before .before .args .s) in let some = c .before .before .before .before .pre in mark-inside m s (starts-with m s (sym (c .before .starts-with .ensures) ∙ not-false _ (c .if1 .left)))
 
-part-passes-start : tie.Need-part-passes-start
-part-passes-start c = let s = c .before .before .before .before in omega (arith, nest-room (now (s .args .preamble)) (s .pre) (now (s .args .s)) _ (c .before .form .ensures) (c .if1 .left))
+part-body-start : tie.Need-part-body-start
+part-body-start c = let m = now (c .before .before .before .before .args .preamble) in let s = now (c .before .before .before .before .args .s) in let some = c .before .before .before .before .pre in mark-inside m s (starts-with m s (sym (c .before .starts-with .ensures) ∙ not-false _ (c .if1 .left)))
 
-part-passes-end : tie.Need-part-passes-end
-part-passes-end c = let s = c .before .before .before .before in nest-inside (now (s .args .preamble)) (s .pre) (now (s .args .s)) _ (c .before .form .ensures)
+part-body-end : tie.Need-part-body-end
+part-body-end c = search needs
 
-passes-requires : tie.Need-passes-requires
-passes-requires c κs = let s = c .before .before .before .before .before in let m = now (s .args .preamble) in let r = nest-room m (s .pre) (now (s .args .s)) _ (c .before .before .form .ensures) (c .before .if1 .left) in let i = nest-inside m (s .pre) (now (s .args .s)) _ (c .before .before .form .ensures) in omega (arith, length-part (length m) (c .before .before .form .result) (now (s .args .s)) (omega (arith, r)) i, r)
+body-requires : tie.Need-body-requires
+body-requires c κs = search needs
 
 nothing-requires-2 : tie.Need-nothing-requires-2
 nothing-requires-2 c κs = search needs
 
 returns-2 : tie.Need-returns-2
-returns-2 c = let s = c .before .before .before .before .before .before .before .before in let m = now (s .args .preamble) in let e = c .before .before .before .before .before .form .ensures in leads-nothing (nest-bus m (s .pre)) (now (s .args .s)) (form-fails (nestFormLen m) (nestPasses m) _ _ e _ (c .before .before .passes .ensures ∙ nest-tested m (s .pre) (now (s .args .s)) _ e (c .before .before .before .before .if1 .left)) (not-true _ (c .before .if2 .taken))) (c .nothing2 .ensures .0) (c .nothing2 .ensures .1 .0) (c .nothing2 .ensures .1 .1)
+returns-2 c = let m = now (c .before .before .before .before .before .before .before .before .args .preamble) in let s = now (c .before .before .before .before .before .before .before .before .args .s) in let some = c .before .before .before .before .before .before .before .before .pre in answered-as (c .nothing2 .ensures) (fails-length (nest-bus m some) s (starts-with m s (sym (c .before .before .before .before .before .starts-with .ensures) ∙ not-false _ (c .before .before .before .before .if1 .left))) (not-long m some s (starts-with m s (sym (c .before .before .before .before .before .starts-with .ensures) ∙ not-false _ (c .before .before .before .before .if1 .left))) _ (c .before .before .body .ensures) (record { each = λ i. c .before .before .before .before .before .before .before .shared-slice-known .given i .fits }) (c .before .if2 .taken)))
 
-add-t7 : tie.Need-add-t7
-add-t7 c = search needs
+add-end : tie.Need-add-end
+add-end c = let m = now (c .before .before .before .before .before .before .before .args .preamble) in let s = now (c .before .before .before .before .before .before .before .args .s) in let some = c .before .before .before .before .before .before .before .pre in omega (arith, end-inside m some s (starts-with m s (sym (c .before .before .before .before .starts-with .ensures) ∙ not-false _ (c .before .before .before .if1 .left))) _ (c .before .body .ensures), c .before .before .before .before .before .before .before .good)
 
-sub-t11 : tie.Need-sub-t11
-sub-t11 c = let s = c .before .before .before .before .before .before .before in omega (arith, nest-room (now (s .args .preamble)) (s .pre) (now (s .args .s)) _ (c .before .before .before .before .form .ensures) (c .before .before .before .if1 .left))
+sub-compared : tie.Need-sub-compared
+sub-compared c = search needs
+
+part-compared-start : tie.Need-part-compared-start
+part-compared-start c = search needs
+
+part-compared-end : tie.Need-part-compared-end
+part-compared-end c = let m = now (c .before .before .before .before .before .before .before .args .preamble) in let s = now (c .before .before .before .before .before .before .before .args .s) in let some = c .before .before .before .before .before .before .before .pre in end-inside m some s (starts-with m s (sym (c .before .before .before .before .starts-with .ensures) ∙ not-false _ (c .before .before .before .if1 .left))) _ (c .before .body .ensures)
+
+compared-requires : tie.Need-compared-requires
+compared-requires c κs = let m = now (c .before .before .before .before .before .before .before .before .args .preamble) in let s = now (c .before .before .before .before .before .before .before .before .args .s) in let some = c .before .before .before .before .before .before .before .before .pre in end-two m some s (starts-with m s (sym (c .before .before .before .before .before .starts-with .ensures) ∙ not-false _ (c .before .before .before .before .if1 .left))) _ (c .before .before .body .ensures) (c .before .if2 .left)
+
+differs-requires : tie.Need-differs-requires
+differs-requires c κs = search needs
 
 returns-3 : tie.Need-returns-3
-returns-3 c = let s = c .before .before .before .before .before .before .before in let m = now (s .args .preamble) in let e = c .before .before .before .before .form .ensures in leads-at (nest-bus m (s .pre)) (now (s .args .s)) _ _ _ (form-holds (nestFormLen m) (nestPasses m) _ _ e _ (c .before .passes .ensures ∙ nest-tested m (s .pre) (now (s .args .s)) _ e (c .before .before .before .if1 .left)) (not-false _ (c .if2 .left))) (c .before .before .before .if1 .left) refl (nest-end m (s .pre) (now (s .args .s)) _ e)
+returns-3 c = let m = now (c .before .before .before .before .before .before .before .before .before .before .before .before .args .preamble) in let s = now (c .before .before .before .before .before .before .before .before .before .before .before .before .args .s) in let some = c .before .before .before .before .before .before .before .before .before .before .before .before .pre in answered-as (c .differs .ensures) (fails-first (nest-bus m some) s _ (body-form m some s (starts-with m s (sym (c .before .before .before .before .before .before .before .before .before .starts-with .ensures) ∙ not-false _ (c .before .before .before .before .before .before .before .before .if1 .left))) _ (c .before .before .before .before .before .before .body .ensures) (c .before .before .before .before .before .if2 .left)) (omega (arith, some)) (pair-there m some s (starts-with m s (sym (c .before .before .before .before .before .before .before .before .before .starts-with .ensures) ∙ not-false _ (c .before .before .before .before .before .before .before .before .if1 .left))) _ (c .before .before .before .before .before .before .body .ensures) (c .before .before .before .compared .ensures)) (c .before .if3 .taken))
+
+add-stands : tie.Need-add-stands
+add-stands c = search needs
+
+sub-stands : tie.Need-sub-stands
+sub-stands c = let m = now (c .before .before .before .before .before .before .before .before .before .before .before .args .preamble) in let s = now (c .before .before .before .before .before .before .before .before .before .before .before .args .s) in let some = c .before .before .before .before .before .before .before .before .before .before .before .pre in omega (arith, end-six m some s (starts-with m s (sym (c .before .before .before .before .before .before .before .before .starts-with .ensures) ∙ not-false _ (c .before .before .before .before .before .before .before .if1 .left))) _ (c .before .before .before .before .before .body .ensures) (c .before .before .before .before .if2 .left))
+
+stands-requires : tie.Need-stands-requires
+stands-requires c κs = search needs
+
+returns-4 : tie.Need-returns-4
+returns-4 c = let m = now (c .before .before .before .before .before .before .before .before .before .before .before .before .args .preamble) in let s = now (c .before .before .before .before .before .before .before .before .before .before .before .before .args .s) in let some = c .before .before .before .before .before .before .before .before .before .before .before .before .pre in answered-as (c .stands .ensures) (passes-all (nest-bus m some) s _ (body-form m some s (starts-with m s (sym (c .before .before .before .before .before .before .before .before .before .starts-with .ensures) ∙ not-false _ (c .before .before .before .before .before .before .before .before .if1 .left))) _ (c .before .before .before .before .before .before .body .ensures) (c .before .before .before .before .before .if2 .left)) (omega (arith, some)) (pair-there m some s (starts-with m s (sym (c .before .before .before .before .before .before .before .before .before .starts-with .ensures) ∙ not-false _ (c .before .before .before .before .before .before .before .before .if1 .left))) _ (c .before .before .before .before .before .before .body .ensures) (c .before .before .before .compared .ensures)) (agree (c .before .if3 .left) all-agree) refl (end-payload m some s (starts-with m s (sym (c .before .before .before .before .before .before .before .before .before .starts-with .ensures) ∙ not-false _ (c .before .before .before .before .before .before .before .before .if1 .left))) _ (c .before .before .before .before .before .before .body .ensures)))
 
 pub framed-spec : {M : Type 1} → statement M
 framed-spec =
     tie.close
     (tie.spec
-    form-requires
+    starts-with-requires
     nothing-requires
     returns
-    sub-passes
-    part-passes-start
-    part-passes-end
-    passes-requires
+    sub-body
+    part-body-start
+    part-body-end
+    body-requires
     nothing-requires-2
     returns-2
-    add-t7
-    sub-t11
-    returns-3)
+    add-end
+    sub-compared
+    part-compared-start
+    part-compared-end
+    compared-requires
+    differs-requires
+    returns-3
+    add-stands
+    sub-stands
+    stands-requires
+    returns-4)

@@ -1,72 +1,55 @@
--- `layouts::nikobus::link` meets its contract: the form, and then both tests on it.
+-- `layouts::nikobus::link` meets its contract: LL and the count of bytes, the form, and then the checks.
 -- Assumes nothing.
-use mathlib.Core.Path.{refl, sym, _∙_}
-use mathlib.Core.Bool.{true, false}
+use mathlib.Core.Path.{sym, _∙_}
 use native.Mathlib.Omega.{arith}
-use borrow.Author.Tests.{not-true, not-false}
 use denote.Ref.{now}
-use Rattle.layouts.specs.Work.Heads.{onlyIf}
-use Rattle.layouts.proofs.Laws.Nikobus.{no-link-form, form-inside, form-long, form-hex, link-tested}
+use Rattle.layouts.proofs.Laws.Buses.{answered-as, fails-length, fails-fields}
+use Rattle.layouts.proofs.Laws.Nikobus.{nikobus-bus, dollar-begun, no-ll-short, ll-short, ll-enough, no-link-found}
 use borrow.Author.Needs.{needs}
 use Rattle.layouts.proofs.nikobus.link.Statement.{statement}
 use Rattle.layouts.proofs.nikobus.link.Tie as tie
 
-link-form-requires : tie.Need-link-form-requires
-link-form-requires c κs = search needs
+ll-requires : tie.Need-ll-requires
+ll-requires c κs = search needs
+
+nothing-requires : tie.Need-nothing-requires
+nothing-requires c κs = search needs
 
 returns : tie.Need-returns
-returns c = no-link-form _ _ (c .before .link-form .ensures) (c .if1 .taken)
+returns c = let s = now (c .before .before .before .before .args .s) in let mark = c .before .before .before .before .pre in answered-as (c .nothing .ensures) (fails-length nikobus-bus s (dollar-begun s mark) (no-ll-short s mark _ (c .before .before .ll .ensures) (c .before .if1 .taken)))
 
-sub-passes16 : tie.Need-sub-passes16
-sub-passes16 c = search needs
-
-part-passes16-start : tie.Need-part-passes16-start
-part-passes16-start c = search needs
-
-part-passes16-end : tie.Need-part-passes16-end
-part-passes16-end c = form-inside (now (c .before .before .before .args .s)) _ (c .before .link-form .ensures)
-
-passes16-requires : tie.Need-passes16-requires
-passes16-requires c κs = let f = c .before in let e = f .before .link-form .ensures in (form-long _ _ e (f .if1 .left), form-hex _ _ e (f .if1 .left))
+nothing-requires-2 : tie.Need-nothing-requires-2
+nothing-requires-2 c κs = search needs
 
 returns-2 : tie.Need-returns-2
-unfolding onlyIf
-returns-2 c = sym (link-tested _ _ (c .before .before .before .before .link-form .ensures) false _ (sym (not-true _ (c .if2 .taken)) ∙ c .before .passes16 .ensures) refl)
+returns-2 c = let s = now (c .before .before .before .before .before .args .s) in let mark = c .before .before .before .before .before .pre in answered-as (c .nothing2 .ensures) (fails-length nikobus-bus s (dollar-begun s mark) (ll-short s mark _ (c .before .before .before .ll .ensures) (c .before .if2 .taken)))
 
-sub-passes8 : tie.Need-sub-passes8
-sub-passes8 c = search needs
+link-form-requires : tie.Need-link-form-requires
+link-form-requires c κs = (c .before .before .ll .ensures, omega (arith, c .before .if1 .left))
 
-part-passes8-start : tie.Need-part-passes8-start
-part-passes8-start c = search needs
-
-part-passes8-end : tie.Need-part-passes8-end
-part-passes8-end c = form-inside (now (c .before .before .before .before .before .before .args .s)) _ (c .before .before .before .before .link-form .ensures)
-
-passes8-requires : tie.Need-passes8-requires
-passes8-requires c κs = let f = c .before .before .before .before in let h = form-long _ _ (f .before .link-form .ensures) (f .if1 .left) in omega arith
+nothing-requires-3 : tie.Need-nothing-requires-3
+nothing-requires-3 c κs = search needs
 
 returns-3 : tie.Need-returns-3
-unfolding onlyIf
-returns-3 c = let f = c .before .before .before in sym (link-tested _ _ (c .before .before .before .before .before .before .before .link-form .ensures) true false (sym (not-false _ (f .if2 .left)) ∙ f .before .passes16 .ensures) (sym (not-true _ (c .if3 .taken)) ∙ c .before .passes8 .ensures))
+returns-3 c = let s = now (c .before .before .before .before .before .before .before .args .s) in let mark = c .before .before .before .before .before .before .before .pre in answered-as (c .nothing3 .ensures) (fails-fields nikobus-bus s (dollar-begun s mark) (ll-enough s mark _ (c .before .before .before .before .before .ll .ensures) (c .before .before .before .before .if1 .left) (c .before .before .before .if2 .left)) (no-link-found s mark (sym (c .before .before .link-form .ensures) ∙ c .before .if3 .taken)))
+
+checked-requires : tie.Need-checked-requires
+checked-requires c κs = (c .before .link-form .ensures, omega (arith, c .if3 .left))
 
 returns-4 : tie.Need-returns-4
-unfolding onlyIf
-returns-4 c = let f = c .before .before .before in sym (link-tested _ _ (c .before .before .before .before .before .before .before .link-form .ensures) true true (sym (not-false _ (f .if2 .left)) ∙ f .before .passes16 .ensures) (sym (not-false _ (c .if3 .left)) ∙ c .before .passes8 .ensures))
+returns-4 c = c .checked .ensures
 
 pub link-spec : {M : Type 1} → statement M
 link-spec =
     tie.close
     (tie.spec
-    link-form-requires
+    ll-requires
+    nothing-requires
     returns
-    sub-passes16
-    part-passes16-start
-    part-passes16-end
-    passes16-requires
+    nothing-requires-2
     returns-2
-    sub-passes8
-    part-passes8-start
-    part-passes8-end
-    passes8-requires
+    link-form-requires
+    nothing-requires-3
     returns-3
+    checked-requires
     returns-4)

@@ -135,7 +135,7 @@ fn with_a_field_more(random: &mut Random) -> Vec<u8> {
 }
 
 /// A capture, now and then of 64 KiB.
-fn capture(kind: u8, random: &mut Random) -> Vec<u8> {
+pub fn capture(kind: u8, random: &mut Random) -> Vec<u8> {
     if random.one_in(150) {
         let length = random.pick(&[65_534, 65_536]);
         captures::filled(kind, length, random)

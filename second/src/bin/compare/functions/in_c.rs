@@ -1,6 +1,7 @@
 //! The calls for C: the arguments are those of the functions that they are, with kinds, widths, decimals and signs that C could cut.
 
 use super::framed::{listing_input, of_one_frame, one_frame, searched};
+use super::judged;
 use super::kept::{added, any_book, numbered};
 use super::values::byte_value;
 use super::{any_kind, function, number, room, words, Function};
@@ -46,7 +47,7 @@ fn with_room(words: Vec<String>) -> Vec<String> {
 }
 
 pub fn calls() -> Vec<Function> {
-    [frames(), lines(), numbers(), books()]
+    [frames(), judged(), lines(), numbers(), books()]
         .into_iter()
         .flatten()
         .collect()
@@ -76,6 +77,10 @@ fn frames() -> Vec<Function> {
         ),
     ];
     KINDS.into_iter().map(by_kind).chain(others).collect()
+}
+
+fn judged() -> Vec<Function> {
+    judged::by_kind("bolsterweft_why", false, |words, r| with_wide(words, 0, r))
 }
 
 fn lines() -> Vec<Function> {

@@ -1,6 +1,7 @@
 //! The functions on layouts: the frame at the bytes' head, and what is asked of bytes alone.
 
 use super::framed::{at_the_head, direction, homiq_payload};
+use super::judged::answers_at_the_head;
 use super::{bytes, function, words, Function};
 use crate::arguments::{self, hex};
 use crate::contents::{self, HEX};
@@ -8,21 +9,21 @@ use crate::messages;
 use crate::random::Random;
 
 pub fn layouts() -> Vec<Function> {
-    let answers = ["ok", "ok 0 0 0"];
+    let recogniser = |name: &'static str, kind: u8| {
+        let mut function = function(name, 8, &[], move |r| words([hex(&at_the_head(kind, r))]));
+        function.answers = answers_at_the_head(kind);
+        function
+    };
+    let mut nest = function("layouts::nest::frame", 8, &[], |r| {
+        let kind = r.pick(&[2, 3]);
+        words([direction(kind, r), hex(&at_the_head(kind, r))])
+    });
+    nest.answers = answers_at_the_head(2);
     vec![
-        function("layouts::nikobus::frame", 8, &answers, |r| {
-            words([hex(&at_the_head(1, r))])
-        }),
-        function("layouts::nest::frame", 8, &answers, |r| {
-            let kind = r.pick(&[2, 3]);
-            words([direction(kind, r), hex(&at_the_head(kind, r))])
-        }),
-        function("layouts::nibe::frame", 8, &answers, |r| {
-            words([hex(&at_the_head(4, r))])
-        }),
-        function("layouts::homiq::frame", 8, &answers, |r| {
-            words([hex(&at_the_head(5, r))])
-        }),
+        recogniser("layouts::nikobus::frame", 1),
+        nest,
+        recogniser("layouts::nibe::frame", 4),
+        recogniser("layouts::homiq::frame", 5),
         function("layouts::homiq::crc", 3, &["ok"], |r| {
             words([if r.one_in(3) {
                 bytes(r)

@@ -2,6 +2,7 @@
 
 mod framed;
 mod in_c;
+mod judged;
 mod kept;
 mod layouts;
 mod table;
@@ -41,6 +42,7 @@ pub fn all() -> Vec<Function> {
         layouts::tests(),
         framed::builds(),
         framed::searches(),
+        judged::why(),
         framed::decoded(),
         table::meant(),
         table::standing(),
@@ -53,9 +55,27 @@ pub fn all() -> Vec<Function> {
     .collect()
 }
 
+/// Requests that are listed, not drawn, and the first words of each sort of answer, as in `Function`.
+pub struct Fixed {
+    pub test: String,
+    pub answers: Vec<String>,
+    pub requests: Vec<String>,
+}
+
+pub fn all_fixed() -> Vec<Fixed> {
+    let why = judged::byte_by_byte("frames::why", true);
+    why.into_iter()
+        .chain(judged::heads_byte_by_byte())
+        .collect()
+}
+
 /// The calls for C.
 pub fn from_c() -> Vec<Function> {
     in_c::calls()
+}
+
+pub fn fixed_from_c() -> Vec<Fixed> {
+    judged::byte_by_byte("bolsterweft_why", false)
 }
 
 fn function(
