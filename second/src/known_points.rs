@@ -485,6 +485,8 @@ fn each_function_answers() {
         ("digits::low_first::number_of 449C00", "refused 7"),
         ("digits::slices::same 00 00", "ok true"),
         ("digits::refusal::number Book", "ok 8"),
+        ("digits::refusal::number NoRegister", "ok 9"),
+        ("digits::refusal::number BadSheet", "ok 10"),
         ("checks::nikobus::Crc16::rule", "ok 16 4129 65535 high"),
         ("checks::nikobus::Crc8::rule", "ok 8 153 0 high"),
         ("checks::nest::Crc::rule", "ok 16 4129 0 high"),

@@ -1,4 +1,4 @@
-//! The refusal numbers of document 01.
+//! The refusal numbers of documents 01 and 02.
 
 #[derive(Clone, Copy, Debug, PartialEq, Eq)]
 pub enum Refusal {
@@ -18,6 +18,10 @@ pub enum Refusal {
     Form,
     /// Not a valid book.
     Book,
+    /// A register that is not in the sheet, or data that ends inside a pair (02, K2).
+    NoRegister,
+    /// A sheet that is not as described (02, K2).
+    BadSheet,
 }
 
 impl Refusal {
@@ -31,6 +35,8 @@ impl Refusal {
             Refusal::Above => 6,
             Refusal::Form => 7,
             Refusal::Book => 8,
+            Refusal::NoRegister => 9,
+            Refusal::BadSheet => 10,
         }
     }
 
@@ -45,6 +51,8 @@ impl Refusal {
             b"Above" => Some(Refusal::Above),
             b"Form" => Some(Refusal::Form),
             b"Book" => Some(Refusal::Book),
+            b"NoRegister" => Some(Refusal::NoRegister),
+            b"BadSheet" => Some(Refusal::BadSheet),
             _ => None,
         }
     }

@@ -95,6 +95,8 @@ fn named(n: u64) -> Refusal {
         4 => Refusal::OutOfLimits,
         5 => Refusal::ContentAbove,
         6 => Refusal::BadForm,
-        _ => Refusal::NoBook,
+        7 => Refusal::NoBook,
+        8 => Refusal::NoRegister,
+        _ => Refusal::BadSheet,
     }
 }

@@ -62,6 +62,8 @@ use Rattle.book.proofs.Laws.Layout.{length-book}
 use Rattle.book.proofs.Theorems.{has-entry, entry-line, book-lines, line-in, last-added, a-book}
 use Rattle.book.proofs.Known as book-known
 use Rattle.list.proofs.Known as list-known
+use Rattle.sheet.specs.Paper.Answers as sheet
+use Rattle.sheet.proofs.Known as sheet-known
 use Rattle.claims.specs.Paper.Causes as causes
 use Rattle.host.specs.Paper.Answers.{flag}
 use Rattle.host.specs.Paper.Panel.{ClimateCause}
@@ -69,6 +71,7 @@ use Rattle.claims.specs.Paper.Claim.{Claim, Occur, unread}
 use Rattle.claims.specs.Paper.Table.Digits as digits
 use Rattle.claims.specs.Paper.Table.Puts as puts
 use Rattle.claims.specs.Paper.Table.Numbers as numbers
+use Rattle.claims.specs.Paper.Table.Sheet as sheets
 use Rattle.claims.specs.Paper.Table.Builds as builds
 use Rattle.claims.specs.Paper.Table.Frames as frames
 use Rattle.claims.specs.Paper.Table.Messages as messages
@@ -500,6 +503,66 @@ add = (
 
 pub listing : Occur (lists.write .Cause) (lists.write .refusals)
 listing = ((record { input = []; room = [] }, causes.short list-known.no-bytes (lit< tt)), tt)
+
+-- ---- sheet
+
+-- no sheet, an empty one, and one of one row; data and pairs of one byte of that row's register
+pub sheet-opening : Occur (sheets.opening .Cause) (sheets.opening .refusals)
+sheet-opening = ((record { text = ascii "x" }, sheet.OpenCause.bad-sheet sheet-known.no-sheet), tt)
+
+pub sheet-type-of : Occur (sheets.type-of .Cause) (sheets.type-of .refusals)
+sheet-type-of = (
+  (record { text = ascii "x"; register = 0 }, sheet.TypeCause.bad-sheet sheet-known.no-sheet),
+  ((record { text = []; register = 0 }, sheet.TypeCause.unlisted sheet-known.empty sheet-known.not-found), tt),
+)
+
+pub sheet-split : Occur (sheets.split .Cause) (sheets.split .refusals)
+sheet-split = (
+  (record { command = 0; content = []; text = []; room = [] }, sheet.SplitCause.other-command sheet-known.no-command),
+  (
+    (record { command = 0; content = []; text = ascii "x"; room = [] }, sheet.SplitCause.bad-sheet sheet-known.no-sheet),
+    (
+      (record { command = 0; content = 0 ∷ []; text = []; room = [] }, sheet.SplitCause.no-split sheet-known.empty sheet-known.no-split),
+      (
+        (
+          record { command = 0; content = sheet-known.zeroData; text = sheet-known.zeroText; room = [] },
+          sheet.SplitCause.short sheet-known.zero-sheet sheet-known.zero-splits sheet-known.zero-bytes,
+        ),
+        tt,
+      ),
+    ),
+  ),
+)
+
+pub sheet-join : Occur (sheets.join .Cause) (sheets.join .refusals)
+sheet-join = (
+  (record { command = 0; pairs = []; text = []; room = [] }, sheet.JoinCause.other-command sheet-known.no-command),
+  (
+    (record { command = 0; pairs = []; text = ascii "x"; room = [] }, sheet.JoinCause.bad-sheet sheet-known.no-sheet),
+    (
+      (
+        record { command = 0; pairs = sheet-known.zeroTen; text = []; room = [] },
+        sheet.JoinCause.unlisted sheet-known.empty sheet-known.zero-pairs sheet-known.not-listed,
+      ),
+      (
+        (
+          record { command = 0; pairs = sheet-known.zeroTen; text = sheet-known.zeroText; room = [] },
+          sheet.JoinCause.short sheet-known.zero-sheet sheet-known.zero-pairs sheet-known.zero-splits (lit< tt),
+        ),
+        tt,
+      ),
+    ),
+  ),
+)
+
+pub sheet-map : Occur (sheets.map .Cause) (sheets.map .refusals)
+sheet-map = (
+  (record { text = ascii "x"; map = [] }, sheet.MapCause.bad-sheet sheet-known.no-sheet),
+  ((record { text = []; map = [] }, sheet.MapCause.short (lit< tt)), tt),
+)
+
+pub sheet-type-in : Occur (sheets.type-in .Cause) (sheets.type-in .refusals)
+sheet-type-in = ((record { map = []; register = 0 }, sheet.TypeInCause.unlisted sheet-known.not-in-map), tt)
 
 -- ---- host
 

@@ -23,7 +23,7 @@ use Rattle.digits.proofs.Laws.Hex.{digit-inj, byte-inj, word-inj}
 use Rattle.digits.proofs.Laws.Decimal.{decimal-inj}
 use Rattle.digits.proofs.Laws.LowFirst.{low-inj}
 
--- ---- hex::digit, hex::two_digits, hex::four_digits, low_first::one, two and four: the promise is an equation
+-- ---- hex::digit, hex::two_digits, hex::four_digits, low_first::one, two, four and eight: the promise is an equation
 
 pub equation : {A : Type 0} {r q x : A} → r ≡ x → q ≡ x → r ≡ q
 equation e f = e ∙ sym f

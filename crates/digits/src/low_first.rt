@@ -1,4 +1,4 @@
-// Numbers as 1, 2 or 4 bytes, low byte first, and back.
+// Numbers as 1, 2, 4 or 8 bytes, low byte first, and back from 1, 2 or 4.
 ghost use mathlib.Core.Path.{_≡_};
 ghost use Prim.Native.Nat.{_≤_};
 ghost use lib.ListN.{length};
@@ -32,6 +32,22 @@ pub fn four(n: u32) -> [u8; 4]
         (n / 256 % 256) as u8,
         (n / 256 / 256 % 256) as u8,
         (n / 256 / 256 / 256 % 256) as u8,
+    ]
+}
+
+// (Its parameter has a name of its own, so that a wrong answer of `four` is not one of this, too.)
+pub fn eight(v: u64) -> [u8; 8]
+    ensures { λ r. ⌜ r ≡ lowByteFirst 8 v ⌝ }
+{
+    [
+        (v % 256) as u8,
+        (v / 256 % 256) as u8,
+        (v / 256 / 256 % 256) as u8,
+        (v / 256 / 256 / 256 % 256) as u8,
+        (v / 256 / 256 / 256 / 256 % 256) as u8,
+        (v / 256 / 256 / 256 / 256 / 256 % 256) as u8,
+        (v / 256 / 256 / 256 / 256 / 256 / 256 % 256) as u8,
+        (v / 256 / 256 / 256 / 256 / 256 / 256 / 256 % 256) as u8,
     ]
 }
 

@@ -2,7 +2,7 @@
 ghost use mathlib.Core.Path.{_≡_};
 ghost use Rattle.digits.specs.Paper.Refusals.{refusalNumber};
 
-// Why a call was refused: a name for each number of document 01's table, in the table's order.
+// Why a call was refused: a name for each number of the tables of documents 01 and 02, in their order.
 pub enum Refusal {
     NoFrame,
     NoKind,
@@ -12,9 +12,11 @@ pub enum Refusal {
     ContentAbove,
     BadForm,
     NoBook,
+    NoRegister,
+    BadSheet,
 }
 
-// The number that document 01 gives it.
+// The number that the documents give it.
 pub fn number(why: Refusal) -> u8
     ensures { λ r. ⌜ r ≡ refusalNumber why ⌝ }
 {
@@ -27,5 +29,7 @@ pub fn number(why: Refusal) -> u8
         Refusal::ContentAbove => 6,
         Refusal::BadForm => 7,
         Refusal::NoBook => 8,
+        Refusal::NoRegister => 9,
+        Refusal::BadSheet => 10,
     }
 }

@@ -241,6 +241,26 @@ low-first-four-proper =
       one = λ κs a r q ws vs x y. (equation x y, refl);
     }
 
+abbrev pub low-first-eight : Row
+low-first-eight =
+    record {
+      function = function-of digits.low_first.eight.Key.name digits.low_first.eight.Kinds.ps digits.low_first.eight.Kinds.r
+          digits.low_first.eight.Symbol.routine;
+      claim = λ κs. claims.low-first-eight;
+      args = λ κs a. record { v = a .0 };
+      later = λ κs s. [];
+    }
+
+pub low-first-eight-proper : Proper low-first-eight
+low-first-eight-proper =
+    record {
+      named = λ κs. refl;
+      keeps = λ w. digits.low_first.eight.Met.met (w .𝓤) (w .H) (w .𝓜) (w .𝓖) (w .𝓡);
+      stated = λ κs a no c. absurd c;
+      occurs = λ κs. tt;
+      one = λ κs a r q ws vs x y. (equation x y, refl);
+    }
+
 abbrev pub low-first-number-of : Row
 low-first-number-of =
     record {
@@ -306,7 +326,7 @@ slices-same-proper =
 -- ---- all of them
 
 abbrev pub rows : List Row
-rows = decimal-digits ∷ decimal-number-of ∷ hex-digit ∷ hex-value ∷ hex-two-digits ∷ hex-byte-of ∷ hex-four-digits ∷ hex-word-of ∷ low-first-one ∷ low-first-two ∷ low-first-four ∷ low-first-number-of ∷ refusal-number ∷ slices-same ∷ []
+rows = decimal-digits ∷ decimal-number-of ∷ hex-digit ∷ hex-value ∷ hex-two-digits ∷ hex-byte-of ∷ hex-four-digits ∷ hex-word-of ∷ low-first-one ∷ low-first-two ∷ low-first-four ∷ low-first-eight ∷ low-first-number-of ∷ refusal-number ∷ slices-same ∷ []
 
 pub rows-proper : Every Proper rows
 rows-proper =
@@ -321,6 +341,7 @@ rows-proper =
     (and low-first-one-proper
     (and low-first-two-proper
     (and low-first-four-proper
+    (and low-first-eight-proper
     (and low-first-number-of-proper
     (and refusal-number-proper
-    (and slices-same-proper none)))))))))))))
+    (and slices-same-proper none))))))))))))))

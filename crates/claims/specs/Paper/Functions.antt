@@ -19,6 +19,7 @@ functions =
     ∷ ("digits::low_first::one", [])
     ∷ ("digits::low_first::two", [])
     ∷ ("digits::low_first::four", [])
+    ∷ ("digits::low_first::eight", [])
     ∷ ("digits::low_first::number_of", 7 ∷ [])
     ∷ ("digits::refusal::number", [])
     ∷ ("digits::slices::same", [])
@@ -68,6 +69,15 @@ functions =
     ∷ ("json::truth", [])
     ∷ ("json::signed", [])
     ∷ ("json::unsigned", [])
+    -- sheet
+    ∷ ("sheet::open", 10 ∷ [])
+    ∷ ("sheet::type_of", 10 ∷ 9 ∷ [])
+    ∷ ("sheet::split", 5 ∷ 10 ∷ 9 ∷ 4 ∷ [])
+    ∷ ("sheet::join", 5 ∷ 10 ∷ 9 ∷ 4 ∷ [])
+    ∷ ("sheet::map", 10 ∷ 4 ∷ [])
+    ∷ ("sheet::type_in", 9 ∷ [])
+    ∷ ("sheet::splits", [])
+    ∷ ("sheet::fault", [])
     -- layouts
     ∷ ("layouts::homiq::frame", [])
     ∷ ("layouts::homiq::crc", [])

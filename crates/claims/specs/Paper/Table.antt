@@ -30,3 +30,4 @@ pub mod List
 pub mod Messages
 pub mod Numbers
 pub mod Puts
+pub mod Sheet

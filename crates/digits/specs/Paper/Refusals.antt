@@ -1,15 +1,17 @@
--- 01, "Refusal numbers": the table, which cause of several refuses a call, and what a call then answers.
+-- 01, "Refusal numbers", and 02, K2: the table, which cause of several refuses a call, and what a call then answers.
 -- Assumes nothing.
 use Prim.Native.Nat.{ℕ, _<_}
 use mathlib.Core.List.{List, [], _∷_}
 use Rattle.digits.specs.declared.refusal.Refusal.{Refusal}
 use Rattle.digits.specs.declared.refusal.Refusal.the-variants.{NoFrame, NoKind, NoPlace, NoRoom}
 use Rattle.digits.specs.declared.refusal.Refusal.the-variants.{OutOfLimits, ContentAbove, BadForm, NoBook}
+use Rattle.digits.specs.declared.refusal.Refusal.the-variants.{NoRegister, BadSheet}
 
 -- "no frame from that place on"; "kind not 1 to 5"; "place beyond the buffer's length; entry number not below the
 -- count"; "lent room too short for the answer"; "a field, frame or book outside its limits; a raw number out of
 -- range, or not held by its width and sign"; "a message with the content of one above it in the table"; "width,
--- decimals or number text not as above, or a text whose number is out of range"; "not a valid book"
+-- decimals or number text not as above, or a text whose number is out of range"; "not a valid book". 02, K2: "register
+-- not in the sheet or data ends inside a pair"; "sheet not as described"
 abbrev pub refusalNumber : Refusal → ℕ
 refusalNumber NoFrame = 1
 refusalNumber NoKind = 2
@@ -19,10 +21,12 @@ refusalNumber OutOfLimits = 5
 refusalNumber ContentAbove = 6
 refusalNumber BadForm = 7
 refusalNumber NoBook = 8
+refusalNumber NoRegister = 9
+refusalNumber BadSheet = 10
 
--- "Tested in the order 8, 2, 3, 7, 5, 6, 4, 1"
+-- "Tested in the order 8, 2, 3, 7, 5, 6, 4, 1". 02, K2: 5, 10, 9, "in that order, before 6"
 abbrev pub refusalOrder : List ℕ
-refusalOrder = 8 ∷ 2 ∷ 3 ∷ 7 ∷ 5 ∷ 6 ∷ 4 ∷ 1 ∷ []
+refusalOrder = 8 ∷ 2 ∷ 3 ∷ 7 ∷ 5 ∷ 10 ∷ 9 ∷ 6 ∷ 4 ∷ 1 ∷ []
 
 -- the first number of the list whose cause applies; 0 if none does
 pub data First (Cause : ℕ → Type 0) : List ℕ → ℕ → Type 0 where

@@ -69,6 +69,17 @@ unfoldable pub object : List Member → List ℕ
 object [] = ascii "{}"
 object (m ∷ ms) = 123 ∷ (member m ++ further ms)
 
+-- ---- arrays
+
+-- 02, K2: "a list of `{"reg":..,"value":..}`": `[`, the values as they are spelt, with `,` between them, `]`
+unfoldable pub furtherValues : List (List ℕ) → List ℕ
+furtherValues [] = ascii "]"
+furtherValues (v ∷ vs) = 44 ∷ (v ++ furtherValues vs)
+
+unfoldable pub array : List (List ℕ) → List ℕ
+array [] = ascii "[]"
+array (v ∷ vs) = 91 ∷ (v ++ furtherValues vs)
+
 -- "A reading is `{"raw":-125,"dec":1,"text":"-12.5","f32":true}`; f32 says whether raw fits a single"
 unfoldable pub reading : ℤ → ℕ → List ℕ
 reading z d =

@@ -26,16 +26,21 @@ is-four one a b = absurd (a refl)
 is-four two a b = absurd (b refl)
 is-four four a b = refl
 
--- how many numbers w bytes can be: an even number, at most 2 ^ 32
+-- how many numbers w bytes can be: an even number
 pub record Size (w : ℕ) : Type 0 where
   pub some : 2 ≤ 256 ^ w
   pub even : 256 ^ w ≡ 2 * (256 ^ w / 2)
-  pub large : 256 ^ w ≤ 4294967296
 
 pub size : {w : ℕ} → Width w → Size w
-size one = record { some = omega arith; even = omega arith; large = omega arith }
-size two = record { some = omega arith; even = omega arith; large = omega arith }
-size four = record { some = omega arith; even = omega arith; large = omega arith }
+size one = record { some = omega arith; even = omega arith }
+size two = record { some = omega arith; even = omega arith }
+size four = record { some = omega arith; even = omega arith }
+
+-- at most 2 ^ 32
+pub size-most : {w : ℕ} → Width w → 256 ^ w ≤ 4294967296
+size-most one = omega arith
+size-most two = omega arith
+size-most four = omega arith
 
 -- ---- what they hold, in natural numbers
 
@@ -66,10 +71,10 @@ module _ {w : ℕ} (z : Size w) where
   in-held (upper {n} h) = record { low = subst (λ (x : ℤ). x ≤ℤ negsuc n) (sym lowest) (leZ-yes (le→leb n (256 ^ w / 2 - 1) (omega (arith, z .even)))); high = leZ-yes tt }
 
   -- they are raw numbers
-  pub in-raw : {s : Bool} {y : ℤ} → In w s y → Raw y
-  in-raw (plain {n} h) = record { low = leZ-yes tt; high = leZ-yes (le→leb n 4294967295 (omega (arith, z .large))) }
-  in-raw (lower {n} h) = record { low = leZ-yes tt; high = leZ-yes (le→leb n 4294967295 (omega (arith, z .large))) }
-  in-raw (upper {n} h) = record { low = leZ-yes (le→leb n 2147483647 (omega (arith, z .large))); high = leZ-yes tt }
+  pub in-raw : 256 ^ w ≤ 4294967296 → {s : Bool} {y : ℤ} → In w s y → Raw y
+  in-raw l (plain {n} h) = record { low = leZ-yes tt; high = leZ-yes (le→leb n 4294967295 (omega arith)) }
+  in-raw l (lower {n} h) = record { low = leZ-yes tt; high = leZ-yes (le→leb n 4294967295 (omega arith)) }
+  in-raw l (upper {n} h) = record { low = leZ-yes (le→leb n 2147483647 (omega arith)); high = leZ-yes tt }
 
   pub in-size : {s : Bool} {y : ℤ} → In w s y → natAbs y ≤ 256 ^ w
   in-size (plain h) = omega arith

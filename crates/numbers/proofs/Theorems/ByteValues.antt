@@ -33,4 +33,4 @@ pub value-width : (w : ℕ) (z : ℤ) → length (valueBytes w z) ≡ w
 value-width w z = length-low w (twos w z)
 
 pub value-raw : {w : ℕ} (signed : Bool) (z : ℤ) → Width w → HeldBy w signed z → Raw z
-value-raw signed z known h = let s = values.size known in values.in-raw s (values.held-in s signed z h)
+value-raw signed z known h = let s = values.size known in values.in-raw s (values.size-most known) (values.held-in s signed z h)

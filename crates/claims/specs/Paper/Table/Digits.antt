@@ -146,6 +146,14 @@ abbrev pub low-first-four : Claim (List ℕ)
 low-first-four =
     answering {Args = LowFirstFourArgs} "digits::low_first::four" (λ a r. r ≡ lowByteFirst 4 (a .n))
 
+-- A number as eight bytes, low byte first.
+pub record LowFirstEightArgs : Type 0 where
+  pub v : ℕ
+
+abbrev pub low-first-eight : Claim (List ℕ)
+low-first-eight =
+    answering {Args = LowFirstEightArgs} "digits::low_first::eight" (λ a r. r ≡ lowByteFirst 8 (a .v))
+
 -- The number that the bytes of s are.
 pub record LowFirstNumberOfArgs : Type 0 where
   pub s : List ℕ

@@ -6,7 +6,7 @@ use lib.IntN.{natAbs}
 use borrow.Author.Needs.{needs}
 use Rattle.numbers.specs.Paper.Text.{belowZero}
 use Rattle.numbers.proofs.Laws.Signs.{read-back}
-use Rattle.numbers.proofs.Laws.Values.{size, twos-below, twos-above, below-some}
+use Rattle.numbers.proofs.Laws.Values.{size-most, twos-below, twos-above, below-some}
 use Rattle.numbers.proofs.byte_values.in_twos.Statement.{statement}
 use Rattle.numbers.proofs.byte_values.in_twos.Tie as tie
 
@@ -37,7 +37,7 @@ cast-result-2 : tie.Need-cast-result-2
 cast-result-2 c =
     let u = c .before .before in
     let s = u .before .before in
-    omega (arith, size-of u, c .all .ensures, s .pre .2, below-some (s .args .raw) (sym (sign-of u) ∙ c .before .if1 .taken), size (s .pre .0) .large)
+    omega (arith, size-of u, c .all .ensures, s .pre .2, below-some (s .args .raw) (sym (sign-of u) ∙ c .before .if1 .taken), size-most (s .pre .0))
 
 returns : tie.Need-returns
 returns c =

@@ -9,12 +9,12 @@ use borrow.Author.Needs.{needs}
 use Rattle.numbers.specs.Work.ByteValues.{fromTwos}
 use Rattle.numbers.specs.Work.Text.{signed}
 use Rattle.numbers.proofs.Laws.Signs.{back, read-back, signed-fits}
-use Rattle.numbers.proofs.Laws.Values.{size}
+use Rattle.numbers.proofs.Laws.Values.{size-most}
 use Rattle.numbers.proofs.byte_values.of_twos.Statement.{statement}
 use Rattle.numbers.proofs.byte_values.of_twos.Tie as tie
 
 small : (c : tie.After-all) → c .all .result - c .before .before .before .args .n < 2 ^ 48
-small c = omega (arith, c .all .ensures, size (c .before .before .before .pre .0) .large)
+small c = omega (arith, c .all .ensures, size-most (c .before .before .before .pre .0))
 
 stands-below-zero-requires : tie.Need-stands-below-zero-requires
 stands-below-zero-requires c κs = search needs

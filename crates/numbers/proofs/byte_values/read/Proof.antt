@@ -13,7 +13,7 @@ use Rattle.digits.proofs.Laws.Tests.{told, untold}
 use Rattle.digits.proofs.Laws.Reads.{answered}
 use Rattle.numbers.specs.Work.ByteValues.{ofTwos}
 use Rattle.numbers.proofs.Laws.Signs.{raw-fits, back, read-back}
-use Rattle.numbers.proofs.Laws.Values.{size, in-raw, of-twos}
+use Rattle.numbers.proofs.Laws.Values.{size, size-most, in-raw, of-twos}
 use Rattle.numbers.proofs.Laws.Reading.{unknown-width, other-count, value-read}
 use Rattle.numbers.proofs.byte_values.read.Statement.{statement}
 use Rattle.numbers.proofs.byte_values.read.Tie as tie
@@ -62,7 +62,7 @@ returns-4 c =
     let same = c .before .before .before .before .before .if2 .left in
     let small = subst (λ (k : ℕ). n < 256 ^ k) same (is-read v .0 .below) in
     value-read w (s .args .signed) (s .args .s .now) known n same small (is-read v .1)
-    (ap back (c .of-twos .ensures) ∙ read-back (ofTwos w (s .args .signed) n) (raw-fits (ofTwos w (s .args .signed) n) (in-raw (size known) (of-twos (size known) (s .args .signed) n small .0))))
+    (ap back (c .of-twos .ensures) ∙ read-back (ofTwos w (s .args .signed) n) (raw-fits (ofTwos w (s .args .signed) n) (in-raw (size known) (size-most known) (of-twos (size known) (s .args .signed) n small .0))))
 
 pub read-spec : {M : Type 1} → statement M
 read-spec =

@@ -12,7 +12,7 @@ use Rattle.digits.proofs.Laws.LowFirst.{width-most, length-low}
 use Rattle.digits.proofs.Laws.Tests.{told, untold}
 use Rattle.numbers.specs.Paper.ByteValues.{twos, HeldBy}
 use Rattle.numbers.proofs.Laws.Signs.{back, read-back, said}
-use Rattle.numbers.proofs.Laws.Values.{size, held-in, in-raw, in-size}
+use Rattle.numbers.proofs.Laws.Values.{size, size-most, held-in, in-raw, in-size}
 use Rattle.numbers.proofs.Laws.Writing.{value-part, bad-width, not-held, value-fronted}
 use Rattle.numbers.proofs.byte_values.write.Statement.{statement}
 use Rattle.numbers.proofs.byte_values.write.Tie as tie
@@ -47,7 +47,7 @@ in-twos-requires c κs =
     let s = c .before .before .before .before .before in
     let z = size (known c) in
     let i = held-in z (s .args .signed) (back (s .args .raw)) (told (c .before .holds .ensures) (not-false _ (c .if2 .left))) in
-    (known c, in-raw z i, in-size z i)
+    (known c, in-raw z (size-most (known c)) i, in-size z i)
 
 four-requires : tie.Need-four-requires
 four-requires c κs = search needs

@@ -6,8 +6,17 @@ use crate::contents::{self, HEX};
 use crate::random::Random;
 
 pub fn digits() -> Vec<Function> {
-    const REFUSALS: [&str; 8] = [
-        "NoFrame", "Kind", "Place", "Room", "Limits", "Above", "Form", "Book",
+    const REFUSALS: [&str; 10] = [
+        "NoFrame",
+        "Kind",
+        "Place",
+        "Room",
+        "Limits",
+        "Above",
+        "Form",
+        "Book",
+        "NoRegister",
+        "BadSheet",
     ];
     vec![
         function("digits::hex::digit", 2, &["ok"], |r| words([number(8, r)])),
@@ -54,7 +63,7 @@ pub fn digits() -> Vec<Function> {
             "digits::refusal::number",
             2,
             &[
-                "ok 1", "ok 2", "ok 3", "ok 4", "ok 5", "ok 6", "ok 7", "ok 8",
+                "ok 1", "ok 2", "ok 3", "ok 4", "ok 5", "ok 6", "ok 7", "ok 8", "ok 9", "ok 10",
             ],
             |r| words([r.pick(&REFUSALS).to_string()]),
         ),

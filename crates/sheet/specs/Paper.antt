@@ -1,0 +1,5 @@
+pub mod Sheet
+pub mod Map
+pub mod Split
+pub mod Fault
+pub mod Answers

@@ -1,0 +1,4 @@
+pub mod Carried
+pub mod Lines
+pub mod Maps
+pub mod Pairs
