@@ -33,7 +33,7 @@ static void list_ours(void) { by_proof = bolsterweft_book_list(full, full_size, 
 
 static void list_theirs(void) {
     struct bolsterweft_entries o = book_open_in_c(full, full_size);
-    by_c = (struct bolsterweft_count){o.refusal, o.refusal ? 0 : (usize)(put_book_lines(in_c, full, o.count) - in_c)};
+    by_c = (struct bolsterweft_count){o.refusal, o.refusal ? 0 : (usize)(put_book_lines(in_c, full, o.count, no_map) - in_c)};
 }
 
 static int same(void) {

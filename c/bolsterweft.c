@@ -26,6 +26,7 @@ static const char usage_text[] =
     "       bolsterweft frame KIND < FRAME            whether it is one frame: where its payload is, and the payload in hex\n"
     "       bolsterweft why KIND PLACE [FILE]         the first test that a frame at that place of a capture fails\n"
     "       bolsterweft acknowledge < FRAME           the acknowledgement of a Homiq frame\n"
+    "       bolsterweft sheet [FILE]                  the registers of a register sheet, with type and decimals\n"
     "       bolsterweft text RAW DECIMALS             the text of a raw number\n"
     "       bolsterweft number TEXT                   the raw number and the decimals of a text\n"
     "       bolsterweft value RAW WIDTH SIGN          a raw number as bytes, in hex; SIGN is signed or unsigned\n"
@@ -38,7 +39,7 @@ static const char usage_text[] =
     "       bolsterweft book list FILE                a line of JSON for each entry\n"
     "       bolsterweft version                       the versions of header and archive\n"
     "KIND is nikobus, nest-command, nest-response, nibe or homiq, or its number 1 to 5.\n"
-    "Without FILE the capture of `why` is read from standard input. It may have 65,536 bytes.\n";
+    "Without FILE the capture of `why`, or the sheet, is read from standard input. A capture may have 65,536 bytes, a sheet 6,000.\n";
 
 static int misused(const char *what, const char *word) {
     fprintf(stderr, "bolsterweft: %s: %s\n%s", what, word, usage_text);
@@ -323,6 +324,28 @@ static int print_why(uint32_t kind, size_t place, const char *path) {
     return DONE;
 }
 
+/* A register sheet is read into a map once, and the map is what says a register's type. Of a sheet that is refused, the line that is wrong. */
+static int print_sheet(const char *path) {
+    static const char *const types[] = {"u8", "s8", "u16", "s16", "u32", "s32"};
+    static const char *const tests[] = {"right",        "not three fields",    "not a register", "not a type",
+                                        "not decimals", "not a next register", "the 501st line", "no LF at its end"};
+    static uint8_t text[BOLSTERWEFT_SHEET_MOST], map[BOLSTERWEFT_MAP_ROOM];
+    size_t length, reg;
+    struct bolsterweft_count written;
+    if ((path ? read_file(path, text, sizeof text, &length) : read_input(text, sizeof text, &length)) != DONE)
+        return FAILED;
+    written = bolsterweft_sheet_map(text, length, map, sizeof map);
+    if (written.refusal != 0) {
+        struct bolsterweft_fault fault = bolsterweft_sheet_fault(text, length);
+        fprintf(stderr, "bolsterweft: line %lu of the sheet: %s\n", (unsigned long)fault.line, tests[fault.test]);
+        return refused("sheet", written.refusal);
+    }
+    for (reg = 0; reg < written.length; reg++)
+        if (map[reg] != 0)
+            printf("%lu %s %u\n", (unsigned long)reg, types[(map[reg] - 1) / 4], (unsigned)(map[reg] - 1) % 4);
+    return DONE;
+}
+
 static int acknowledge(void) {
     uint8_t frame[BOLSTERWEFT_FRAME_MOST], room[BOLSTERWEFT_ACKNOWLEDGE_ROOM];
     size_t length;
@@ -583,6 +606,8 @@ static int do_book(char **words) {
     return read_kind(words[2], &kind) ? book_add(words[1], kind) : misused("not a kind", words[2]);
 }
 
+static int do_sheet(char **words) { return print_sheet(words[0]); }
+
 static int do_version(char **words) {
     (void)words;
     printf("header %u archive %u\n", (unsigned)BOLSTERWEFT_VERSION, (unsigned)bolsterweft_version());
@@ -598,7 +623,7 @@ static const struct command {
     {"acknowledge", 0, 0, do_acknowledge}, {"text", 2, 2, do_text},         {"number", 1, 1, do_number},
     {"value", 3, 3, do_value},             {"value-of", 3, 3, do_value_of}, {"fits", 1, 1, do_fits},
     {"panel", 1, 1, do_panel},             {"climate", 2, 2, do_climate},   {"book", 2, 3, do_book},
-    {"version", 0, 0, do_version},
+    {"sheet", 0, 1, do_sheet},             {"version", 0, 0, do_version},
 };
 
 static int run(int count, char **words) {

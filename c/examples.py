@@ -20,6 +20,7 @@ static const uint8_t nibe[] = {0xC0, 0x69, 0x02, 0x64, 0x00, 0x66};
 static const uint8_t homiq[] = {'<', ';', 'I', '.', '3', ';', '1', ';', '0', 'H', ';', '0', ';', '4', '2', ';', 's', ';', '1', '3', '4', ';', '>', '\r', '\n'};
 static const uint8_t book[] = {2, 9, 0, 0xD5, 0xAA, 0x96, 0xFF, 0, 0, 0, 0xA3, 0x4B, 0, 0, 0, 0, 1, 0, 10, 0, 0, 0};
 static uint8_t room[BOLSTERWEFT_LINE_ROOM];
+static uint8_t map[BOLSTERWEFT_MAP_ROOM];
 
 """
 

@@ -37,7 +37,8 @@
  *
  * In the examples below `capture` is an array of the bytes C0 69 C0 69 02 64 00 66; `nibe` of its last six, which are a frame;
  * `homiq` of the frame `<;I.3;1;0H;0;42;s;134;>` CR LF; `book` of a book that has the frame D5 AA 96 FF 00 00 00 A3 4B as its only
- * entry. `room` is `uint8_t room[BOLSTERWEFT_LINE_ROOM]`. The comment at an example's end is what it prints.
+ * entry. `room` is `uint8_t room[BOLSTERWEFT_LINE_ROOM]`, and `map` is `uint8_t map[BOLSTERWEFT_MAP_ROOM]`. The comment at an
+ * example's end is what it prints.
  */
 #ifndef BOLSTERWEFT_H
 #define BOLSTERWEFT_H
@@ -51,7 +52,7 @@ extern "C" {
 
 /* The version that this header is of: 10000 * major + 100 * minor + patch. Compare it with `bolsterweft_version()` once, as the
  * program starts: if they differ, header and archive are not a pair, and the structs below may not be those of the archive. */
-#define BOLSTERWEFT_VERSION 10200
+#define BOLSTERWEFT_VERSION 10300
 
 /* The kinds: a bus and a direction. */
 enum bolsterweft_kind {
@@ -62,7 +63,7 @@ enum bolsterweft_kind {
     BOLSTERWEFT_HOMIQ = 5          /* the Homiq line */
 };
 
-/* The refusals. `bolsterweft_refusal_text` has a sentence for each. No call for C refuses with 6 today. */
+/* The refusals. `bolsterweft_refusal_text` has a sentence for each. No call for C refuses with 6 or 9 today. */
 enum bolsterweft_refusal {
     BOLSTERWEFT_NO_FRAME = 1,      /* no frame from that place on */
     BOLSTERWEFT_NO_KIND = 2,       /* the kind is not 1 to 5 */
@@ -71,7 +72,9 @@ enum bolsterweft_refusal {
     BOLSTERWEFT_OUT_OF_LIMITS = 5, /* a frame, a book or a number is outside its limits */
     BOLSTERWEFT_CONTENT_ABOVE = 6, /* a message has the content of one above it in the table */
     BOLSTERWEFT_BAD_FORM = 7,      /* a width, decimals or a number text are not as they must be */
-    BOLSTERWEFT_NO_BOOK = 8        /* the bytes are not a capture book */
+    BOLSTERWEFT_NO_BOOK = 8,       /* the bytes are not a capture book */
+    BOLSTERWEFT_NO_REGISTER = 9,   /* a register is not in the register sheet, or data end inside a value */
+    BOLSTERWEFT_BAD_SHEET = 10     /* the bytes are not a register sheet */
 };
 
 /* Sizes that are always enough, and limits. */
@@ -88,7 +91,10 @@ enum bolsterweft_size {
     BOLSTERWEFT_INPUT_MOST = 65536,        /* the longest input of `bolsterweft_list` */
     BOLSTERWEFT_LIST_ROOM = 2097202,       /* room for any listing: 32 bytes for each of the input's, and 50 more */
     BOLSTERWEFT_BOOK_MOST = 65536,         /* the longest book */
-    BOLSTERWEFT_ENTRIES_MOST = 1000        /* the most entries of a book */
+    BOLSTERWEFT_ENTRIES_MOST = 1000,       /* the most entries of a book */
+    BOLSTERWEFT_SHEET_MOST = 6000,         /* the longest register sheet */
+    BOLSTERWEFT_SHEET_LINES_MOST = 500,    /* the most lines of a register sheet */
+    BOLSTERWEFT_MAP_ROOM = 65536           /* a register map: a byte for each register */
 };
 
 
@@ -105,7 +111,7 @@ enum bolsterweft_size {
  *
  *     if (bolsterweft_version() != BOLSTERWEFT_VERSION)
  *         abort();
- *     printf("%u\n", (unsigned)bolsterweft_version()); // 10200
+ *     printf("%u\n", (unsigned)bolsterweft_version()); // 10300
  */
 uint32_t bolsterweft_version(void);
 
@@ -242,6 +248,71 @@ struct bolsterweft_count {
 struct bolsterweft_count bolsterweft_acknowledge(const uint8_t *frame, size_t frame_length, uint8_t *room, size_t room_length);
 
 
+/* ---- the register sheet -------------------------------------------------------------------------------------------------- */
+
+/* The installer's register sheet says what the values of the Nibe pump's registers are. It has up to 500 lines
+ * `register,type,decimals`, each with LF. The type is u8, s8, u16, s16, u32 or s32. The registers rise, and no number has leading
+ * zeros. It is read once, into a register map, and the map is what other calls take. A map has one byte for each register: 0 for one
+ * that is not in the sheet, and otherwise 1 + 4 * type + decimals, the types being 0 to 5 in the order above. */
+
+/* Reads a register sheet into a register map.
+ *
+ *   text, text_length  the sheet; without a byte it is a sheet without lines
+ *   map, map_length    BOLSTERWEFT_MAP_ROOM bytes are always enough, and fewer are too few
+ *
+ * Answers: how many bytes were written: BOLSTERWEFT_MAP_ROOM.
+ * Refuses, in this order:
+ *   10  if the bytes are not a sheet; `bolsterweft_sheet_fault` tells which line is wrong.
+ *   4  if the map is too short.
+ * Cost: linear in text_length, and BOLSTERWEFT_MAP_ROOM bytes are set.
+ * Stack: 192 bytes.
+ *
+ * Example:
+ *
+ *     struct bolsterweft_count c = bolsterweft_sheet_map((const uint8_t *)"40004,s16,1\n", 12, map, sizeof map);
+ *     if (c.refusal == 0)
+ *         printf("%zu %u %u\n", c.length, (unsigned)map[40004], (unsigned)map[40005]); // 65536 14 0
+ */
+struct bolsterweft_count bolsterweft_sheet_map(const uint8_t *text, size_t text_length, uint8_t *map, size_t map_length);
+
+/* The tests of a register sheet's line, in their order. */
+enum bolsterweft_sheet_test {
+    BOLSTERWEFT_SHEET_PASSED = 0,     /* no test failed: the bytes are a sheet */
+    BOLSTERWEFT_SHEET_FORM = 1,       /* the line has not three fields with a comma between each two */
+    BOLSTERWEFT_SHEET_REGISTER = 2,   /* the register is not 0 to 65535, or has leading zeros */
+    BOLSTERWEFT_SHEET_TYPE = 3,       /* the type is none of the six */
+    BOLSTERWEFT_SHEET_DECIMALS = 4,   /* the decimals are not 0 to 3 */
+    BOLSTERWEFT_SHEET_NOT_RISING = 5, /* the register is not above that of the line before */
+    BOLSTERWEFT_SHEET_OVER_500 = 6,   /* the line is the 501st */
+    BOLSTERWEFT_SHEET_NO_LAST_LF = 7  /* the line has no LF */
+};
+
+/* The first line of a register sheet that is wrong, counted from 1, and the first test that it fails, of
+ * `enum bolsterweft_sheet_test`. Both are 0 if the bytes are a sheet. */
+struct bolsterweft_fault {
+    uint32_t refusal;
+    uint32_t test;
+    size_t line;
+};
+
+/* Tells which line of a register sheet is wrong, and why.
+ *
+ *   text, text_length  the sheet
+ *
+ * Answers: the line and the test. They are 0 exactly if the bytes are a sheet.
+ * Refuses: never.
+ * Cost: linear in text_length.
+ * Stack: 192 bytes.
+ *
+ * Example:
+ *
+ *     struct bolsterweft_fault f = bolsterweft_sheet_fault((const uint8_t *)"40004,s16,1\n40004,u8,0\n", 23);
+ *     if (f.test == BOLSTERWEFT_SHEET_NOT_RISING)
+ *         printf("line %zu\n", f.line); // line 2
+ */
+struct bolsterweft_fault bolsterweft_sheet_fault(const uint8_t *text, size_t text_length);
+
+
 /* ---- lines of JSON ------------------------------------------------------------------------------------------------------ */
 
 /* Writes the line of one frame: a JSON object and LF, and no NUL.
@@ -267,6 +338,31 @@ struct bolsterweft_count bolsterweft_acknowledge(const uint8_t *frame, size_t fr
  */
 struct bolsterweft_count bolsterweft_line(uint32_t kind, const uint8_t *frame, size_t frame_length, size_t at, uint8_t *room,
                                           size_t room_length);
+
+/* Writes the line of one frame by a register map.
+ *
+ *   kind                 enum bolsterweft_kind
+ *   frame, frame_length  the frame
+ *   at                   the line's first member: any number, usually the frame's place in its capture
+ *   map, map_length      what `bolsterweft_sheet_map` writes; without a byte it is no sheet
+ *   room, room_length    26 bytes for each of the frame's, and 96 more, are always enough
+ *
+ * Answers: how many bytes were written. docs/LINES.md describes them.
+ * Refuses, in this order:
+ *   2  if the kind is not 1 to 5.
+ *   5  if the bytes are not one frame.
+ *   4  if the room is too short.
+ * Cost: linear in frame_length.
+ * Stack: 576 bytes.
+ *
+ * Example:
+ *
+ *     struct bolsterweft_count c = bolsterweft_line_with(BOLSTERWEFT_NIBE, nibe, sizeof nibe, 14, map, sizeof map, room, sizeof room);
+ *     if (c.refusal == 0)
+ *         fwrite(room, 1, c.length, stdout); // {"at":14,"len":6,"msg":"ask","reg":100}
+ */
+struct bolsterweft_count bolsterweft_line_with(uint32_t kind, const uint8_t *frame, size_t frame_length, size_t at, const uint8_t *map,
+                                               size_t map_length, uint8_t *room, size_t room_length);
 
 /* A frame in a capture, and its line: the frame has `length` bytes from capture[start] on, and its line is the first `line_length`
  * bytes of the room. */
@@ -303,6 +399,33 @@ struct bolsterweft_listed {
 struct bolsterweft_listed bolsterweft_line_next(uint32_t kind, const uint8_t *capture, size_t capture_length, size_t place, uint8_t *room,
                                                 size_t room_length);
 
+/* Finds the next frame, and writes its line by a register map.
+ *
+ *   kind                     enum bolsterweft_kind
+ *   capture, capture_length  the bytes to be searched
+ *   place                    the first byte at which a frame may begin
+ *   map, map_length          what `bolsterweft_sheet_map` writes; without a byte it is no sheet
+ *   room, room_length        26 bytes for each of the frame's, and 96 more, are always enough
+ *
+ * Answers: the frame's place in the capture, which is also the line's `at`, its length, and how many bytes were written.
+ * The next call begins at start + length.
+ * Refuses, in this order:
+ *   2  if the kind is not 1 to 5.
+ *   3  if the place is beyond capture_length.
+ *   4  if there is a frame, and the room is too short for its line.
+ *   1  if no frame starts at or after the place.
+ * Cost: that of the search, and linear in the frame's length.
+ * Stack: 832 bytes.
+ *
+ * Example:
+ *
+ *     struct bolsterweft_listed l = bolsterweft_line_next_with(BOLSTERWEFT_NIBE, capture, sizeof capture, 0, map, sizeof map, room, sizeof room);
+ *     if (l.refusal == 0)
+ *         fwrite(room, 1, l.line_length, stdout); // {"at":2,"len":6,"msg":"ask","reg":100}
+ */
+struct bolsterweft_listed bolsterweft_line_next_with(uint32_t kind, const uint8_t *capture, size_t capture_length, size_t place,
+                                                     const uint8_t *map, size_t map_length, uint8_t *room, size_t room_length);
+
 /* Writes the whole listing of an input, as bin/list prints it: lines of JSON with LF, and no NUL.
  *
  *   input, input_length  a digit 1 to 5 for the kind, LF, then the capture: BOLSTERWEFT_INPUT_MOST bytes at most
@@ -322,6 +445,28 @@ struct bolsterweft_listed bolsterweft_line_next(uint32_t kind, const uint8_t *ca
  *         fwrite(room, 1, c.length, stdout); // {"frames":0,"skipped":5}
  */
 struct bolsterweft_count bolsterweft_list(const uint8_t *input, size_t input_length, uint8_t *room, size_t room_length);
+
+/* Writes the whole listing of an input by a register map, as bin/list prints it with the map's sheet.
+ *
+ *   input, input_length  a digit 1 to 5 for the kind, LF, then the capture: BOLSTERWEFT_INPUT_MOST bytes at most
+ *   map, map_length      what `bolsterweft_sheet_map` writes; without a byte it is no sheet
+ *   room, room_length    32 bytes for each of the input's, and 50 more, are always enough, as are BOLSTERWEFT_LIST_ROOM
+ *
+ * Answers: how many bytes were written. An input that is not as described is answered, too: with the one line
+ * {"refused":2} or {"refused":5}.
+ * Refuses, in this order:
+ *   4  if the room is too short.
+ * Cost: that of searching the capture; twice that if the room is shorter than what is always enough.
+ * Stack: 640 bytes.
+ *
+ * Example:
+ *
+ *     struct bolsterweft_count c = bolsterweft_list_with((const uint8_t *)"4\nnoise", 7, map, sizeof map, room, sizeof room);
+ *     if (c.refusal == 0)
+ *         fwrite(room, 1, c.length, stdout); // {"frames":0,"skipped":5}
+ */
+struct bolsterweft_count bolsterweft_list_with(const uint8_t *input, size_t input_length, const uint8_t *map, size_t map_length,
+                                               uint8_t *room, size_t room_length);
 
 
 /* ---- numbers ------------------------------------------------------------------------------------------------------------ */
@@ -573,7 +718,7 @@ struct bolsterweft_entry bolsterweft_book_entry(const uint8_t *book, size_t book
  *   3  if it has no entry of that number.
  *   4  if the room is too short.
  * Cost: linear in book_length.
- * Stack: 16,576 bytes.
+ * Stack: 16,704 bytes.
  *
  * Example:
  *
@@ -583,6 +728,31 @@ struct bolsterweft_entry bolsterweft_book_entry(const uint8_t *book, size_t book
  */
 struct bolsterweft_count bolsterweft_book_line(const uint8_t *book, size_t book_length, uint32_t number, uint8_t *room,
                                                size_t room_length);
+
+/* Writes the line of an entry's frame by a register map.
+ *
+ *   book, book_length  the book
+ *   number             the entry's number, counted from 0
+ *   map, map_length    what `bolsterweft_sheet_map` writes; without a byte it is no sheet
+ *   room, room_length  26 bytes for each of the frame's, and 96 more, are always enough
+ *
+ * Answers: how many bytes were written. The line's `at` is the entry's offset.
+ * Refuses, in this order:
+ *   8  if the bytes are not a book.
+ *   3  if it has no entry of that number.
+ *   4  if the room is too short.
+ * Cost: linear in book_length.
+ * Stack: 16,704 bytes.
+ *
+ * Example:
+ *
+ *     struct bolsterweft_count c = bolsterweft_book_line_with(book, sizeof book, 0, map, sizeof map, room, sizeof room);
+ *     if (c.refusal == 0)
+ *         fwrite(room, 1, c.length, stdout); // {"at":0,"len":9,"msg":"command","id":255,"data":""}
+ */
+struct bolsterweft_count bolsterweft_book_line_with(const uint8_t *book, size_t book_length, uint32_t number,
+                                                    const uint8_t *map, size_t map_length, uint8_t *room,
+                                                    size_t room_length);
 
 /* Writes the lines of all entries in order, each with LF, and no NUL.
  *
@@ -594,7 +764,7 @@ struct bolsterweft_count bolsterweft_book_line(const uint8_t *book, size_t book_
  *   8  if the bytes are not a book.
  *   4  if the room is too short.
  * Cost: linear in book_length.
- * Stack: 16,768 bytes.
+ * Stack: 16,896 bytes.
  *
  * Example:
  *
@@ -603,6 +773,28 @@ struct bolsterweft_count bolsterweft_book_line(const uint8_t *book, size_t book_
  *         fwrite(room, 1, c.length, stdout); // {"at":0,"len":9,"msg":"command","id":255,"data":""}
  */
 struct bolsterweft_count bolsterweft_book_list(const uint8_t *book, size_t book_length, uint8_t *room, size_t room_length);
+
+/* Writes the lines of all entries by a register map.
+ *
+ *   book, book_length  the book
+ *   map, map_length    what `bolsterweft_sheet_map` writes; without a byte it is no sheet
+ *   room, room_length  26 bytes for each of the book's are always enough
+ *
+ * Answers: how many bytes were written.
+ * Refuses, in this order:
+ *   8  if the bytes are not a book.
+ *   4  if the room is too short.
+ * Cost: linear in book_length.
+ * Stack: 16,896 bytes.
+ *
+ * Example:
+ *
+ *     struct bolsterweft_count c = bolsterweft_book_list_with(book, sizeof book, map, sizeof map, room, sizeof room);
+ *     if (c.refusal == 0)
+ *         fwrite(room, 1, c.length, stdout); // {"at":0,"len":9,"msg":"command","id":255,"data":""}
+ */
+struct bolsterweft_count bolsterweft_book_list_with(const uint8_t *book, size_t book_length, const uint8_t *map,
+                                                    size_t map_length, uint8_t *room, size_t room_length);
 
 /* Writes a new book: the old one, with a frame as a new last entry.
  *
@@ -662,6 +854,10 @@ static inline const char *bolsterweft_refusal_text(uint32_t refusal) {
         return "A width, decimals or a number text are not as they must be.";
     case BOLSTERWEFT_NO_BOOK:
         return "The bytes are not a capture book.";
+    case BOLSTERWEFT_NO_REGISTER:
+        return "A register is not in the register sheet, or the data end inside a value.";
+    case BOLSTERWEFT_BAD_SHEET:
+        return "The bytes are not a register sheet.";
     default:
         return "There is no refusal of this number.";
     }
@@ -698,6 +894,11 @@ BOLSTERWEFT_AT(bolsterweft_verdict, refusal, 0);
 BOLSTERWEFT_AT(bolsterweft_verdict, test, 4);
 BOLSTERWEFT_AT(bolsterweft_verdict, found, 8);
 BOLSTERWEFT_AT(bolsterweft_verdict, expected, 12);
+
+BOLSTERWEFT_SIZE(bolsterweft_fault, 16);
+BOLSTERWEFT_AT(bolsterweft_fault, refusal, 0);
+BOLSTERWEFT_AT(bolsterweft_fault, test, 4);
+BOLSTERWEFT_AT(bolsterweft_fault, line, 8);
 
 BOLSTERWEFT_SIZE(bolsterweft_count, 16);
 BOLSTERWEFT_AT(bolsterweft_count, refusal, 0);

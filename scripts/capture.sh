@@ -1,7 +1,9 @@
-# To be sourced by the commands in bin/ that read a capture, behind scripts/command.sh: the kinds, and how a capture is read.
+# To be sourced by the commands in bin/ that read a capture, behind scripts/command.sh: the kinds, and how a capture and a sheet are read.
 
 # The longest capture that is read. A program is given one byte more, so that it sees what is too long.
 most=65534
+# The longest register sheet: 500 lines of twelve bytes. Of a sheet, too, one byte more is handed on.
+most_sheet=6000
 
 kinds='  1  nikobus         the Nikobus serial line
   2  nest-command    what is sent to the Nest backplate
@@ -38,13 +40,30 @@ open_capture() {
     { exec <"$file"; } 2>"$room/said" || fail "cannot read $file: $(reason)"
 }
 
+# Where the program is run: in the caller's folder, if this is empty.
+folder=
+
+# give_sheet FILE: the program is run in a folder in which this file is sheet.txt. What is wrong with the sheet, the program says.
+give_sheet() {
+    folder=$room/folder
+    mkdir -- "$folder" || fail "there is no folder for the sheet: TMPDIR must name one that can be written"
+    [ ! -d "$1" ] || fail "cannot read $1: Is a directory"
+    { head -c "$((most_sheet + 1))" <"$1" >"$folder/sheet.txt"; } 2>"$room/said" || fail "cannot read $1: $(reason)"
+}
+
 # give_capture HEAD PROGRAM: gives the program a line HEAD and then the capture, and keeps what it writes in $room/lines.
 give_capture() {
     local ended
-    { printf '%s\n' "$1" && head -c "$((most + 1))" 2>"$room/said"; } | run "$2" >"$room/lines"
+    { printf '%s\n' "$1" && head -c "$((most + 1))" 2>"$room/said"; } | run_in_folder "$2" >"$room/lines"
     ended=("${PIPESTATUS[@]}")
     [ "${ended[1]}" -eq 0 ] || fail "the program ended with status ${ended[1]}"
     [ "${ended[0]}" -eq 0 ] || fail "cannot read ${file/#-/standard input}: $(reason)"
+}
+
+# run_in_folder PROGRAM: to be called in a process of its own.
+run_in_folder() {
+    [ -z "$folder" ] || cd -- "$folder" || exit
+    run "$1"
 }
 
 # kept PATTERN..: fails unless the last line that the program wrote, with its LF, is as one of the patterns: it then wrote all. Sets `last`.

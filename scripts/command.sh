@@ -2,7 +2,7 @@
 #
 # Exit status: 0 done, 1 refused or failed, 2 usage error. The reason is on standard error.
 # Options come before all other arguments: --help (or -h) and --version; `--` ends them. A command defines `usage`, which prints its
-# help, and may define `about`, which prints what --version says behind the version.
+# help. It may define `about`, which prints what --version says behind the version, and `option`, which takes an option of its own.
 set -uo pipefail
 . "$root/scripts/say.sh"
 
@@ -17,6 +17,9 @@ misused() {
 }
 
 about() { :; }
+
+# option ARGUMENTS..: takes the option that they begin with, and sets `words` to the arguments behind it.
+option() { misused "unknown option: $1"; }
 
 # options ARGUMENTS..: answers --help and --version; sets `words` to the arguments behind the options.
 options() {
@@ -34,6 +37,6 @@ options() {
         exit
         ;;
     --) words=("${@:2}") ;;
-    -?*) misused "unknown option: $1" ;;
+    -?*) option "$@" ;;
     esac
 }

@@ -56,31 +56,40 @@ static inline struct bolsterweft_entry book_entry_in_c(const u8 *s, usize n, u32
     return (struct bolsterweft_entry){0, s[at], at, at + 3, u16_at(s + at + 1)};
 }
 
-static inline struct bolsterweft_count book_line_in_c(const u8 *s, usize n, u32 number, u8 *room, usize m) {
+static inline struct bolsterweft_count book_line_by_map_in_c(const u8 *s, usize n, u32 number, struct map map, u8 *room, usize m) {
     static u8 line[LINE_ROOM];
     struct bolsterweft_entry e = book_entry_in_c(s, n, number);
     if (e.refusal)
         return (struct bolsterweft_count){e.refusal, 0};
-    return all_or_none(line, (usize)(put_line(line, (u8)e.kind, s + e.frame_start, e.frame_length, e.offset) - line), room, m);
+    return all_or_none(line, (usize)(put_line(line, (u8)e.kind, s + e.frame_start, e.frame_length, e.offset, map) - line), room, m);
+}
+
+static inline struct bolsterweft_count book_line_in_c(const u8 *s, usize n, u32 number, u8 *room, usize m) {
+    return book_line_by_map_in_c(s, n, number, no_map, room, m);
 }
 
 /* The lines of a valid book with this number of entries, into a room that is long enough. */
-static u8 *put_book_lines(u8 *p, const u8 *s, usize count) {
+static u8 *put_book_lines(u8 *p, const u8 *s, usize count, struct map map) {
     usize at = 0;
     for (usize i = 0; i < count; i++) {
         usize k = u16_at(s + at + 1);
-        p = put_line(p, s[at], s + at + 3, k, at);
+        p = put_line(p, s[at], s + at + 3, k, at, map);
         at += 3 + k;
     }
     return p;
 }
 
-static inline struct bolsterweft_count book_list_in_c(const u8 *s, usize n, u8 *room, usize m) {
-    static u8 lines[LINES_ROOM];
+/* A map makes lines longer, but not as long as a listing can be. */
+static inline struct bolsterweft_count book_list_by_map_in_c(const u8 *s, usize n, struct map map, u8 *room, usize m) {
+    static u8 lines[BOLSTERWEFT_LIST_ROOM];
     struct bolsterweft_entries o = book_open_in_c(s, n);
     if (o.refusal)
         return (struct bolsterweft_count){o.refusal, 0};
-    return all_or_none(lines, (usize)(put_book_lines(lines, s, o.count) - lines), room, m);
+    return all_or_none(lines, (usize)(put_book_lines(lines, s, o.count, map) - lines), room, m);
+}
+
+static inline struct bolsterweft_count book_list_in_c(const u8 *s, usize n, u8 *room, usize m) {
+    return book_list_by_map_in_c(s, n, no_map, room, m);
 }
 
 static inline struct bolsterweft_count book_add_in_c(const u8 *s, usize n, u32 kind, const u8 *f, usize k, u8 *room, usize m) {

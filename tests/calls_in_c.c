@@ -1,6 +1,7 @@
 /* The calls of bolsterweft.h in plain C, in place of the archive: for tests/host_wrong, which puts mistakes into them. */
 #include "book_in_c.h"
 #include "numbers_in_c.h"
+#include "sheet_in_c.h"
 
 u32 bolsterweft_version(void) { return BOLSTERWEFT_VERSION; }
 
@@ -36,6 +37,13 @@ struct bolsterweft_count bolsterweft_list(const u8 *input, usize n, u8 *room, us
     return c;
 }
 
+struct bolsterweft_count bolsterweft_sheet_map(const u8 *text, usize n, u8 *map, usize m) {
+    struct bolsterweft_count c = sheet_map_in_c(text, n, map, m);
+    return c;
+}
+
+struct bolsterweft_fault bolsterweft_sheet_fault(const u8 *text, usize n) { return sheet_fault_in_c(text, n); }
+
 struct bolsterweft_count bolsterweft_text(i64 raw, u32 decimals, u8 *room, usize m) { return text_in_c(raw, decimals, room, m); }
 
 struct bolsterweft_reading bolsterweft_number(const u8 *text, usize n) { return number_in_c(text, n); }
@@ -63,7 +71,15 @@ struct bolsterweft_count bolsterweft_book_line(const u8 *s, usize n, u32 number,
     return book_line_in_c(s, n, number, room, m);
 }
 
+struct bolsterweft_count bolsterweft_book_line_with(const u8 *s, usize n, u32 number, const u8 *map, usize k, u8 *room, usize m) {
+    return book_line_by_map_in_c(s, n, number, (struct map){map, k}, room, m);
+}
+
 struct bolsterweft_count bolsterweft_book_list(const u8 *s, usize n, u8 *room, usize m) { return book_list_in_c(s, n, room, m); }
+
+struct bolsterweft_count bolsterweft_book_list_with(const u8 *s, usize n, const u8 *map, usize k, u8 *room, usize m) {
+    return book_list_by_map_in_c(s, n, (struct map){map, k}, room, m);
+}
 
 struct bolsterweft_count bolsterweft_book_add(const u8 *s, usize n, u32 kind, const u8 *f, usize k, u8 *room, usize m) {
     struct bolsterweft_count c = book_add_in_c(s, n, kind, f, k, room, m);

@@ -74,7 +74,7 @@ static int list(u8 kind) {
         n += (usize)k;
     while (at < n) {
         usize k = length_in_c(kind, capture + at, n - at);
-        if (k && put_all(line, (usize)(put_line(line, kind, capture + at, k, at) - line)))
+        if (k && put_all(line, (usize)(put_line(line, kind, capture + at, k, at, no_map) - line)))
             return 1;
         frames += k > 0;
         inside += k;

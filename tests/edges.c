@@ -46,6 +46,8 @@ static void try_empty_bytes(const u8 *p) {
     expect("nothing is no book", bolsterweft_book_open(p, 0).refusal == 8 && bolsterweft_book_entry(p, 0, 0).refusal == 8);
     expect("nothing has no lines", bolsterweft_book_line(p, 0, 0, room, 100).refusal == 8 && bolsterweft_book_list(p, 0, room, 100).refusal == 8);
     expect("nothing is not added to", bolsterweft_book_add(p, 0, 4, ask, 6, room, 100).refusal == 8);
+    expect("nothing is a sheet, whose map needs more room", bolsterweft_sheet_map(p, 0, room, 100).refusal == 4);
+    expect("nothing has no fault", !bolsterweft_sheet_fault(p, 0).test && !bolsterweft_sheet_fault(p, 0).line);
     expect("none of it is written", only_written(0, 100));
     struct bolsterweft_count c = bolsterweft_list(p, 0, room, 100);
     expect("the listing of nothing", !c.refusal && c.length == 14 && !memcmp(room, "{\"refused\":2}\n", 14) && only_written(14, 100));
@@ -62,11 +64,24 @@ static void try_empty_room(u8 *p) {
     expect("a listing without a room", bolsterweft_list(ask, 6, p, 0).refusal == 4);
     expect("an acknowledgement without a room", bolsterweft_acknowledge(homiq, n, p, 0).refusal == 4);
     expect("a book without a room", bolsterweft_book_add(empty_book, 6, 4, ask, 6, p, 0).refusal == 4);
+    expect("a sheet without a room", bolsterweft_sheet_map((const u8 *)"1,u8,0\n", 7, p, 0).refusal == 4);
+    expect("no sheet, without a room", bolsterweft_sheet_map((const u8 *)"1,u8,0", 6, p, 0).refusal == 10);
     struct bolsterweft_count c = bolsterweft_book_list(empty_book, 6, p, 0);
     expect("no lines need no room", !c.refusal && c.length == 0);
 }
 
 /* ---- the sizes */
+
+/* The longest sheet: lines of the longest type, with five digits each. */
+static void try_sheet(void) {
+    static char sheet[BOLSTERWEFT_SHEET_MOST + 1];
+    u8 *map = lend_room(BOLSTERWEFT_MAP_ROOM);
+    usize n = 0;
+    for (u32 i = 0; i < BOLSTERWEFT_SHEET_LINES_MOST; i++)
+        n += (usize)snprintf(sheet + n, sizeof sheet - n, "%u,s32,3\n", (unsigned)(65536 - BOLSTERWEFT_SHEET_LINES_MOST + i));
+    struct bolsterweft_count c = bolsterweft_sheet_map((const u8 *)sheet, n, map, BOLSTERWEFT_MAP_ROOM);
+    expect("the longest sheet", n == BOLSTERWEFT_SHEET_MOST && !c.refusal && c.length == BOLSTERWEFT_MAP_ROOM && map[65535] == 24 && !map[0]);
+}
 
 static void try_texts(void) {
     u8 *room = lend_room(BOLSTERWEFT_TEXT_ROOM);
@@ -147,6 +162,7 @@ int main(int count, char **words) {
         try_empty_room(pointers[i]);
     }
     try_texts();
+    try_sheet();
     try_frames();
     try_lines();
     try_listings();

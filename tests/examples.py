@@ -1,8 +1,8 @@
 #!/usr/bin/env python3
 """The captures of examples/, made from the bytes that the bus documents print, with the check values that document 01's rules give.
 
-tests/examples.py --write   writes examples/*.bin, their listings examples/*.json, what bin/why prints of them (examples/*.why) and
-                            examples/README.md
+tests/examples.py --write   writes examples/*.bin, their listings examples/*.json, what bin/why prints of them (examples/*.why), the
+                            register sheet examples/pump.sheet and examples/README.md
 tests/examples.py --check   whether these files are what this script writes
 """
 import os
@@ -13,6 +13,7 @@ sys.dont_write_bytecode = True  # or Python leaves a folder beside those that ar
 import faults
 import lines
 import paper
+import sheet
 import table
 
 FOLDER = os.path.join(os.path.dirname(os.path.abspath(__file__)), "..", "examples")
@@ -152,6 +153,42 @@ FAULTS = [
     (printed("#N4ECB1A"), "press: a button", "000, 5.2, example 1"),
     (b"$1E150747FF", "length: cut off", "000, 5.1, example 1, its beginning"),
 ]
+# the sheet is not called sheet.txt: in examples/ that would be opened for all captures
+SHEET = b"""\
+40004,s16,1
+40005,s16,1
+40008,s16,1
+43005,s32,1
+43420,u32,0
+45001,s8,0
+47011,u8,0
+47043,s16,1
+"""
+ROWS = sheet.rows(SHEET)
+
+
+def pumped(command, *pairs):
+    """A message of register and value pairs."""
+    return paper.nibe(command, sheet.joined(ROWS, pairs))
+
+
+DATA = nibe("C0 68 0C 44 9C EB 00 45 9C 23 01 48 9C 83 FF 00")
+PUMP = [
+    (DATA, "nibe: three temperatures, 23.5, 29.1 and -12.5", "002, Unsolicited Data; the last four bytes ours"),
+    (pumped(0x68, (47011, 10), (43420, 16777217), (43005, -6001)), "nibe: values of one and of four bytes", "ours"),
+    (b"\x06", "no frame: a single byte", "002, Acknowledgment"),
+    (pumped(0x62, (45001, -3), (40004, -125)), "nibe: RMU data", "002, Command Types, `0x62`; the pairs ours"),
+    (nibe("C0 62 00 00"), "nibe: RMU data, empty, so no values", "002, Command Types, `0x62`" + FRAMED),
+    (paper.nibe(0x68, DATA[3:-2]), "nibe: the data end inside a pair, so they are not split", "ours, from the first"),
+    (paper.nibe(0x68, DATA[3:-1] + words(100, 0)), "nibe: register 100 is not listed, so the data are not split", "ours, from the first"),
+    (paper.nibe(0x60, DATA[3:-1]), "nibe: the same data under 60, which is not split", "ours, from the first"),
+    (ASKED, "ask: register 100", "002, Example Messages, request: its check is right"),
+    (nibe("C0 6A 04 64 00 EB 00 8E"), "reply: 235, as in 01: register 100 is not listed", "002, Example Messages, response" + RIGHT),
+    (nibe("C0 6A 04 44 9C EB 00 2E"), "reply: 23.5", "002, Response Format (0x6A)" + RIGHT),
+    (nibe("C0 6A 06 44 9C 83 FF 00 00 00"), "reply: four bytes, as in 01: the sheet says two", "ours"),
+    (nibe("C0 6B 04 C3 B7 F4 01 BC"), "put: 50.0 into 47043", "002, Write Hot Water Setpoint; 47043 is B7C3" + RIGHT),
+    (nibe("C0 6B 03 A3 B7 14 5B"), "put: 20 into 47011", "002, Enable Modbus in Pump; 47011 is B7A3" + RIGHT),
+]
 # by kind: the file's name, how a reader knows the bus, and what stands there
 CAPTURES = [
     ("nikobus", "Nikobus", NIKOBUS),
@@ -195,6 +232,14 @@ def readme():
         yield ""
         yield from rows_of(kind, pieces)
     yield ""
+    yield "## pump.bin: Nibe (kind 4), with a register sheet"
+    yield ""
+    yield "`bin/list --sheet examples/pump.sheet nibe examples/pump.bin` prints what is in pump.json. The sheet says of each register its"
+    yield "type and its decimals, as `40004,s16,1`. A sheet that is called `sheet.txt` is read without `--sheet` too, by a command in its"
+    yield "folder; this one has another name, so that it is not read for the other captures."
+    yield ""
+    yield from rows_of(4, PUMP)
+    yield ""
     yield "## faults.bin: Nikobus (kind 1), one fault of each sort"
     yield ""
     yield "`bin/why nikobus examples/faults.bin` says what is wrong, and prints what is in faults.why."
@@ -209,6 +254,11 @@ def files():
         yield name + ".bin", capture
         yield name + ".json", lines.listing(b"%d\n" % kind + capture)
         yield name + ".why", faults.through(kind, capture)
+    capture = b"".join(data for data, _, _ in PUMP)
+    yield "pump.bin", capture
+    yield "pump.sheet", SHEET
+    yield "pump.json", lines.listing(b"4\n" + capture, SHEET)
+    yield "pump.why", faults.through(4, capture)
     capture = b"".join(data for data, _, _ in FAULTS)
     yield "faults.bin", capture
     yield "faults.why", faults.through(1, capture)
@@ -216,8 +266,8 @@ def files():
 
 
 def as_said():
-    """Whether each piece is the message that it is said to be, or none."""
-    for kind, (name, _, pieces) in enumerate(CAPTURES, 1):
+    """Whether each piece is the message that it is said to be, or none; and whether each piece of the pump's data is split or not."""
+    for kind, (name, _, pieces) in [*enumerate(CAPTURES, 1), (4, ("pump", "", PUMP))]:
         found = dict(lines.frames(kind, b"".join(data for data, _, _ in pieces)))
         at = 0
         for data, what, _ in pieces:
@@ -226,6 +276,10 @@ def as_said():
             yield "%s at %d: %s" % (name, at, what), what.split(":")[0] == said
             at += len(data)
         yield "%s: frames that are no piece" % name, not found
+    for data, what, _ in PUMP:
+        if what.startswith("nibe"):
+            is_split = '"values":' in lines.line(4, 0, data, ROWS)
+            yield "pump: %s" % what, is_split == ("not split" not in what)
     at, capture = 0, b"".join(data for data, _, _ in FAULTS)
     for data, what, _ in FAULTS:
         test = paper.why(1, capture, at)[0]

@@ -272,6 +272,21 @@ static void list(void) {
         answer_count(bolsterweft_list(first.at, first.length, room, room_length));
 }
 
+static void sheet_map(void) {
+    read_bytes(&first);
+    lend_room();
+    if (complete())
+        answer_count(bolsterweft_sheet_map(first.at, first.length, room, room_length));
+}
+
+static void sheet_fault(void) {
+    read_bytes(&first);
+    if (!complete())
+        return;
+    struct bolsterweft_fault f = bolsterweft_sheet_fault(first.at, first.length);
+    answer(f.refusal, 2, f.test, (int64_t)f.line, 0, 0);
+}
+
 static void text(void) {
     int64_t raw = i64();
     uint32_t decimals = u32();
@@ -372,14 +387,69 @@ static void book_add(void) {
         answer_count(bolsterweft_book_add(first.at, first.length, kind, second.at, second.length, room, room_length));
 }
 
+/* ---- the same by a register map */
+
+static void line_with(void) {
+    uint32_t kind = u32();
+    read_bytes(&first);
+    size_t at = size();
+    read_bytes(&second);
+    lend_room();
+    if (complete())
+        answer_count(bolsterweft_line_with(kind, first.at, first.length, at, second.at, second.length, room, room_length));
+}
+
+static void line_next_with(void) {
+    uint32_t kind = u32();
+    read_bytes(&first);
+    size_t place = size();
+    read_bytes(&second);
+    lend_room();
+    if (!complete())
+        return;
+    struct bolsterweft_listed l = bolsterweft_line_next_with(kind, first.at, first.length, place, second.at, second.length, room, room_length);
+    answer(l.refusal, 3, (int64_t)l.start, (int64_t)l.length, (int64_t)l.line_length, 0);
+}
+
+static void list_with(void) {
+    read_bytes(&first);
+    read_bytes(&second);
+    lend_room();
+    if (complete())
+        answer_count(bolsterweft_list_with(first.at, first.length, second.at, second.length, room, room_length));
+}
+
+static void book_line_with(void) {
+    read_bytes(&first);
+    uint32_t wanted = u32();
+    read_bytes(&second);
+    lend_room();
+    if (complete())
+        answer_count(bolsterweft_book_line_with(first.at, first.length, wanted, second.at, second.length, room, room_length));
+}
+
+static void book_list_with(void) {
+    read_bytes(&first);
+    read_bytes(&second);
+    lend_room();
+    if (complete())
+        answer_count(bolsterweft_book_list_with(first.at, first.length, second.at, second.length, room, room_length));
+}
+
 static const struct {
     const char *name;
     void (*run)(void);
 } calls[] = {
+    {"line_with", line_with},
+    {"line_next_with", line_next_with},
+    {"list_with", list_with},
+    {"book_line_with", book_line_with},
+    {"book_list_with", book_list_with},
     {"search", search},         {"why", why},             {"one_frame", one_frame}, {"acknowledge", acknowledge}, {"line", write_line},
     {"line_next", line_next},   {"list", list},           {"text", text},           {"number", number},           {"value", value},
     {"value_read", value_read}, {"fits", fits},           {"panel", panel},         {"climate", climate},         {"book_open", book_open},
-    {"book_entry", book_entry}, {"book_line", book_line}, {"book_list", book_list}, {"book_add", book_add},
+    {"book_entry", book_entry}, {"book_line", book_line}, {"book_list", book_list}, {"book_add", book_add},       {"sheet_map", sheet_map},
+    {"sheet_fault", sheet_fault},
 };
 
 static void run(void) {

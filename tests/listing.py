@@ -4,7 +4,8 @@ reader, from which the frame's bytes must come back.
 
 tests/listing.py [SEED]       proves and builds the program if that has not been done, runs it on all cases and compares; with no
                               seed, a fixed one and a new one, which is printed
-tests/listing.py --case FILE  runs it on one input, as a failing test left it, and shows the first line that differs
+tests/listing.py --case FILE  runs it on one input, as a failing test left it, with FILE.sheet as `sheet.txt` if that is there, and shows
+                              the first line that differs
 
 BOLSTERWEFT_LISTING names another program to be held to the same. The last line is `N passed, M failed`: a test is a sort of input or
 a sort of line, over all its cases.
@@ -32,6 +33,7 @@ import lines
 import paper
 import proved
 import rows
+import sheet
 import table
 
 ROOT = os.path.realpath(os.path.join(os.path.dirname(os.path.abspath(__file__)), ".."))
@@ -46,6 +48,7 @@ class Case(NamedTuple):
     given: bytes
     slow: bool = False  # through a pipe, in pieces
     stored: Optional[bytes] = None  # what a file says that it prints
+    sheet: Optional[bytes] = None  # what is in sheet.txt; none if there is no such file
 
 
 def divided(name, message):
@@ -257,6 +260,151 @@ def example_cases():
     for kind, (name, _, _) in enumerate(examples.CAPTURES, 1):
         base = os.path.join(examples.FOLDER, name)
         yield Case("example " + name, captured(kind, read(base + ".bin")), stored=read(base + ".json"))
+    base = os.path.join(examples.FOLDER, "pump")
+    yield Case("example pump", captured(4, read(base + ".bin")), stored=read(base + ".json"), sheet=read(base + ".sheet"))
+
+
+# ---- with a register sheet
+
+TYPES = [(width, signed, decimals) for width, signed in sheet.TYPES.values() for decimals in range(4)]
+PAIRED = (0x62, 0x68, 0x68)
+BAD_SHEET = b'{"refused":10}\n'
+
+
+def limits(width, signed):
+    """The least and the most that a type holds, their neighbours, and some between."""
+    most = (1 << 8 * width - signed) - 1
+    least = -most - 1 if signed else 0
+    return [raw for raw in (least, least + 1, -1, 0, 1, 125, most // 2, most - 1, most, 16777216, 16777217) if least <= raw <= most]
+
+
+def many_rows(count, first):
+    """A sheet of so many lines, each of twelve bytes if the first register has five digits."""
+    return {first + i: TYPES[8 + i % 16 if first > 9999 else i % 24] for i in range(count)}
+
+
+def type_cases():
+    """Each type with each number of decimals, at its limits: as pairs, and as values whose width agrees or does not."""
+    found = {1000 + i: sort for i, sort in enumerate(TYPES)}
+    pairs, valued = [], []
+    for register, (width, signed, _) in found.items():
+        for raw in limits(width, signed):
+            data = sheet.joined(found, [(register, raw)])
+            pairs.append(data)
+            valued += [paper.nibe(command, data) for command in (0x6A, 0x6B)]
+            valued += [paper.nibe(0x6A, (data + bytes(4))[: 2 + other]) for other in (1, 2, 4) if other != width]
+    single = [paper.nibe(command, data) for command in PAIRED for data in pairs]
+    several = [paper.nibe(0x68, b"".join(pairs[i : i + 40])) for i in range(0, len(pairs), 40)]
+    for frames in (single, several, valued):
+        yield Case("each type of a sheet", captured(4, *frames), sheet=sheet.written(found))
+
+
+def sheet_size_cases():
+    """500 lines and 501, 6,000 bytes and 6,001."""
+    pump = paper.nibe(0x68, bytes.fromhex("102701000000")) + paper.nibe(0x62, b"")
+    full = sheet.written(many_rows(500, 10000))
+    assert len(full) == sheet.MOST_BYTES
+    texts = [b"", full, full[:-1], full + b"\n", full + b"1", full[12:], sheet.written(many_rows(501, 10000)), full * 12]
+    texts += [sheet.written(many_rows(count, 0)) for count in (499, 500, 501)]
+    for text in texts:
+        for kind in (4, 1):
+            yield Case("sheets of all lengths", captured(kind, pump, paper.TAILED), sheet=text)
+
+
+def dense_sheet_cases():
+    """64 KiB of pairs of u8, and of replies."""
+    found = {register: (1, False, 3) for register in range(500)}
+    pairs = paper.nibe(0x68, b"".join(struct.pack("<HB", i, 255 - i) for i in range(85)))
+    replies = b"".join(paper.nibe(0x6A, struct.pack("<HB", i, i & 255)) for i in range(500))
+    for frames in (pairs, replies):
+        yield Case("64 KiB with a sheet", captured(4, (frames * (FULL // len(frames) + 1))[:FULL]), sheet=sheet.written(found))
+
+
+WRONG_LINES = (
+    b"|,|,,|,,,|1|1,u8|1,u8,|1,,0|,u8,0|1,u8,0,|1,u8,0,0|01,u8,0|00,u8,0|65536,u8,0|-1,u8,0|+1,u8,0|1 ,u8,0|4294967297,u8,0|1;u8;0|"
+    b"1,U8,0|1,u08,0|1,u64,0|1,i16,0|1, u8,0|1,u8,4|1,u8,00|1,u8,-1|1,u8,0 |1,u8,0\r|register,type,decimals|\0|1,u8,\xff"
+).split(b"|")
+
+
+def bad_sheet_cases():
+    """Each sort of wrong line, first, between good ones, last and without LF; with captures of each kind; after 01's refusals."""
+    pump = captured(4, paper.nibe(0x68, b"\x00\x00\x01"))
+    for line in WRONG_LINES:
+        for text in (line + b"\n", b"0,u8,0\n" + line + b"\n9,u8,0\n", b"0,u8,0\n" + line):
+            yield Case("wrong lines of a sheet", pump, sheet=text)
+    for text in (b"0,u8,0", b"0,u8,0\r\n", b"1,u8,0\n1,u8,0\n", b"2,u8,0\n1,u8,0\n", b"\n", b"0,u8,0\n\n", b"\xef\xbb\xbf0,u8,0\n"):
+        yield Case("sheets that are none", pump, sheet=text)
+        for kind in KINDS:
+            yield Case("sheets that are none, any kind", captured(kind, GOOD[kind]), sheet=text)
+        for given in (b"", b"4", b"6\n", b"4\r", captured(4, bytes(FULL + 1)), b"6\n" + bytes(FULL + 1)):
+            yield Case("01's refusals before the sheet's", given, sheet=text)
+    for kind in KINDS:
+        yield Case("a sheet and any kind", captured(kind, GOOD[kind] * 3), sheet=b"0,u8,0\n40004,s16,1\n")
+
+
+def any_rows(rng):
+    drawn = rng.randrange(20)
+    if drawn == 0:
+        return {}
+    if drawn == 1:
+        return many_rows(500, rng.choice((0, 10000, 65036)))
+    pool = rng.choice((range(40), range(40000, 40040), range(65536)))
+    return {register: rng.choice(TYPES) for register in sorted(rng.sample(pool, rng.randint(1, 8)))}
+
+
+def any_raw(width, signed, rng):
+    if rng.randrange(2):
+        return rng.choice(limits(width, signed))
+    return int.from_bytes(rng.randbytes(width), "little", signed=signed)
+
+
+def any_pairs(found, rng):
+    """Data of pairs; cut, or with a register that is not listed, now and then."""
+    most = rng.choice((1, 3, 6, 90))
+    registers = rng.choices(list(found), k=rng.randint(0, most)) if found else []
+    data = sheet.joined(found, [(register, any_raw(*found[register][:2], rng)) for register in registers])
+    drawn = rng.randrange(8)
+    if drawn == 0:
+        data = data[: rng.randrange(len(data) + 1)]
+    elif drawn == 1:
+        data += struct.pack("<H", rng.randrange(65536)) + rng.randbytes(rng.randrange(4))
+    elif drawn == 2:
+        data = struct.pack("<HB", rng.randrange(65536), 7) + data
+    return data[:255]
+
+
+def any_pumped(found, rng):
+    """A frame of Nibe that a sheet says something of, or nearly so."""
+    drawn = rng.randrange(10)
+    if drawn == 0 or not found:
+        return any_piece(4, rng)
+    if drawn < 6:
+        return paper.nibe(rng.choice((0x60, *PAIRED)), any_pairs(found, rng))
+    register = rng.choice(list(found)) if rng.randrange(6) else rng.randrange(65536)
+    width, signed, _ = found.get(register, (2, False, 0))
+    value = any_raw(width, signed, rng).to_bytes(width, "little", signed=signed)
+    if rng.randrange(4) == 0:
+        value = rng.randbytes(rng.choice((1, 2, 4)))
+    return paper.nibe(rng.choice((0x6A, 0x6B)), struct.pack("<H", register) + value)
+
+
+def spoilt(text, rng):
+    """A sheet with a byte changed, lost or put in; it may still be one."""
+    at = rng.randrange(len(text) + 1)
+    byte = bytes([rng.choice(b"0123456789,us\n\r ")])
+    return text[:at] + rng.choice((byte + text[at:], byte + text[at + 1 :], text[at + 1 :]))
+
+
+def random_sheet_cases(seed):
+    rng = random.Random("sheets %d" % seed)
+    test = "random captures with sheets, seed %d" % seed
+    for _ in range(1000):
+        found = any_rows(rng)
+        text = sheet.written(found)
+        if rng.randrange(6) == 0:
+            text = spoilt(text, rng)
+        capture = b"".join(any_pumped(found, rng) for _ in range(rng.randint(1, 20)))
+        yield Case(test, captured(4 if rng.randrange(12) else rng.choice(KINDS), capture), sheet=text)
 
 
 # ---- random ones
@@ -327,6 +475,8 @@ def fixed_cases():
         yield from cases()
     yield from slow_cases()
     yield from example_cases()
+    for cases in (type_cases, sheet_size_cases, dense_sheet_cases, bad_sheet_cases):
+        yield from cases()
 
 
 # ---- each line read from outside
@@ -354,7 +504,7 @@ ORDER = {
     **{name: "cmd,val,src,dst,id,type" for name in table.HOMIQ},
 }
 WHOLE = {"at", "len", "group", "third", "id", "reg", "width", "frames", "skipped", "refused"}
-DECIMALS = {"temp": 2, "hum": 1, "vin": 2, "vop": 3, "vbat": 3, "value": 0}
+DECIMALS = {"temp": 2, "hum": 1, "vin": 2, "vop": 3, "vbat": 3}
 
 
 class Wrong(Exception):
@@ -382,12 +532,12 @@ def parsed(line):
     return found
 
 
-def hold_reading(name, r):
-    """Whether raw, decimals, text and f32 say one number."""
+def hold_reading(name, r, decimals):
+    """Whether raw, decimals, text and f32 say one number, of so many decimals."""
     hold(isinstance(r, dict) and ",".join(r) == "raw,dec,text,f32", name, "is no reading:", r)
     raw, dec, text, f32 = r.values()
     hold(type(raw) is int and type(dec) is int and type(text) is str and type(f32) is bool, name, "has another sort:", r)
-    hold(dec == DECIMALS[name], name, "has other decimals:", r)
+    hold(dec == decimals, name, "has other decimals:", r)
     sign, digits, exponent = Decimal(text).as_tuple()
     hold(-exponent == dec and len(digits) >= 1, name, "has other digits behind the point:", r)
     hold(Decimal(text) == Decimal(raw).scaleb(-dec) and bool(sign) == (raw < 0), name, "has another text:", r)
@@ -397,7 +547,7 @@ def hold_reading(name, r):
 
 def hold_sort(name, msg, v):
     if name in DECIMALS:
-        hold_reading(name, v)
+        hold_reading(name, v, DECIMALS[name])
     elif name == "ok":
         hold(type(v) is bool, name, "is not true or false")
     elif name in WHOLE or (name, msg) == ("cmd", "nibe"):
@@ -420,9 +570,11 @@ def said(m):
         fields["out"] = bytes.fromhex(m["out"])
     if "ok" in m:
         fields["ok"] = int(m["ok"])
-    for name, field in (("temp", "temperature"), ("hum", "humidity"), ("value", "value")):
+    for name, field in (("temp", "temperature"), ("hum", "humidity")):
         if name in m:
             fields[field] = m[name]["raw"]
+    if "value" in m:
+        fields["value"] = m["value"]["raw"] % (1 << 8 * m["width"])
     if "data" in m:
         content = m["data"].encode() if msg == "link" else bytes.fromhex(m["data"])
     if msg == "text":
@@ -432,13 +584,38 @@ def said(m):
     return fields, content
 
 
-def hold_line(kind, capture, m):
-    """One frame's line: its members, and the frame that they say."""
+def hold_values(m, found):
+    """The pairs of a line, by a sheet: each a register and a reading of its decimals, and together the data."""
+    hold(type(m["values"]) is list and m["cmd"] in sheet.SPLIT, "no list of values, or not of 62 or 68:", m)
+    for pair in m["values"]:
+        hold(list(pair) == ["reg", "value"] and pair["reg"] in found, "no pair, or of another register:", pair)
+        hold_reading("value", pair["value"], found[pair["reg"]][2])
+    pairs = [(pair["reg"], pair["value"]["raw"]) for pair in m["values"]]
+    hold(sheet.joined(found, pairs) == bytes.fromhex(m["data"]), "values that the data have not:", m)
+
+
+def hold_valued(m, found):
+    """The value of a reply or put, by a sheet if the width agrees."""
+    width, signed, decimals = found.get(m["reg"], (0, False, 0))
+    if width != m["width"]:
+        signed, decimals = False, 0
+    hold_reading("value", m["value"], decimals)
+    hold(paper.held(m["value"]["raw"], m["width"], signed) is not None, "no value of the type:", m)
+
+
+def hold_line(kind, capture, m, found):
+    """One frame's line, by the rows of a sheet if there is one: its members, and the frame that they say."""
     msg = m.get("msg")
     hold(msg in table.OF_KIND[kind], "no message of the kind:", m)
-    hold(list(m) == ["at", "len", "msg", *filter(None, ORDER[msg].split(","))], "other members, or in another order:", m)
+    more = ["values"] if msg == "nibe" and "values" in m and found is not None else []
+    hold(list(m) == ["at", "len", "msg", *filter(None, ORDER[msg].split(",")), *more], "other members, or in another order:", m)
     for name, v in m.items():
-        hold_sort(name, msg, v)
+        if name not in ("value", "values"):
+            hold_sort(name, msg, v)
+    if "value" in m:
+        hold_valued(m, found or {})
+    if more:
+        hold_values(m, found)
     fields, content = said(m)
     if msg == "state":
         volts = [m[name]["raw"] for name in ("vin", "vop", "vbat")]
@@ -454,8 +631,8 @@ def hold_last(m, capture, count, inside):
     hold(inside + m["skipped"] == len(capture), inside, "bytes in frames of", len(capture), "and", m["skipped"], "skipped")
 
 
-def outside(given, written):
-    """What each line is a test of, and what is wrong with it, or none."""
+def outside(given, written, text):
+    """What each line is a test of, and what is wrong with it, or none; `text` is that of a sheet, if there is one."""
     hold(written.endswith(b"\n"), "no LF at the end")
     hold(re.fullmatch(rb"[\n -~]*", written), "a byte outside 0x20 to 0x7E")
     texts = written.decode("ascii").split("\n")[:-1]
@@ -465,9 +642,10 @@ def outside(given, written):
         yield "refusal", None
         return
     kind, capture, end = given[0] - 0x30, given[2:], 0
+    by = None if text is None else sheet.rows(text)
     for m in found[:-1]:
         try:
-            hold_line(kind, capture, m)
+            hold_line(kind, capture, m, by)
             hold(end <= m["at"], "begins in the frame before it:", m)
             end = m["at"] + m["len"]
             yield m["msg"], None
@@ -486,6 +664,17 @@ PAPER_OUTPUT = b"""\
 """
 
 
+SHEET = b"40004,s16,1\n47011,u8,0\n"
+SHEET_FRAMES = "C06807449C83FFA3B70ABD C06A04449C83FFA0 C06A06449C83FF0000A2"
+SHEET_LINES = [
+    '{"at":0,"len":11,"msg":"nibe","cmd":104,"data":"449C83FFA3B70A","values":['
+    '{"reg":40004,"value":{"raw":-125,"dec":1,"text":"-12.5","f32":true}},'
+    '{"reg":47011,"value":{"raw":10,"dec":0,"text":"10","f32":true}}]}',
+    '{"at":11,"len":8,"msg":"reply","reg":40004,"width":2,"value":{"raw":-125,"dec":1,"text":"-12.5","f32":true}}',
+    '{"at":19,"len":10,"msg":"reply","reg":40004,"width":4,"value":{"raw":65411,"dec":0,"text":"65411","f32":true}}',
+]
+
+
 def own(expected):
     """Each with what it is; of the cases' expected listings, that they have everything."""
     yield "01's whole example", lines.listing(PAPER_INPUT) == PAPER_OUTPUT
@@ -500,21 +689,28 @@ def own(expected):
     yield "check values against divisions", all(quick(name, s) == divided(name, s) for name in paper.CHECKS for s in strings)
     for name in table.NAMES:
         yield "a case has " + name, any(b'"msg":"%s"' % name.encode() in text for text in expected)
-    for refusal in (2, 5):
+    for refusal in (2, 5, 10):
         yield "a case is refused with %d" % refusal, b'{"refused":%d}\n' % refusal in expected
+    yield "K2's sheet", sheet.rows(SHEET) == {40004: (2, True, 1), 47011: (1, False, 0)}
+    yield "K2's lines", lines.listing(captured(4, bytes.fromhex(SHEET_FRAMES)), SHEET).decode().splitlines()[:3] == SHEET_LINES
+    for what in (b'"values":[{"reg":', b'"values":[]', b'"value":{"raw":-'):
+        yield "a case has " + what.decode(), any(what in text for text in expected)
     longest = max(map(len, expected))
     yield "a listing is long, and within the program's room", 1000000 < longest <= 32 * lines.MOST + 50
 
 
 # ---- running
 
-# the inputs whose numbers end in these digits; what comes in pieces stands in files of its own
+# the inputs whose numbers end in these digits; what comes in pieces stands in files of its own. Each is run in its folder, which has the
+# sheet, or in an empty one.
 SCRIPT = """
 . scripts/x86-64.sh
 for f in "$1"/*["$3"].in; do
     [ -e "$f" ] || continue
+    cd "${f%.in}.folder" 2>/dev/null || cd "$1/empty" || exit
     run "$2" <"$f" >"${f%.in}.out" 2>"${f%.in}.err" || echo "status $?" >>"${f%.in}.err"
 done
+cd "$1/empty" || exit
 for f in "$1"/*["$3"].slow; do
     [ -e "$f" ] || continue
     { head -c 1 "$f"; sleep 0.02; head -c 4000 "$f" | tail -c +2; sleep 0.02; tail -c +4001 "$f"; } 2>"${f%.slow}.ignored" |
@@ -541,17 +737,29 @@ def write(path, data):
 
 
 def run(cases, asked):
-    """What a program writes, for each case; on Arm under the kit's emulator. What it says on standard error comes behind that."""
+    """What a program writes on standard output and on standard error, for each case; on Arm under the kit's emulator."""
     os.makedirs(os.path.join(ROOT, "target"), exist_ok=True)
     with tempfile.TemporaryDirectory(dir=os.path.join(ROOT, "target"), prefix="listing-") as folder:
+        os.mkdir(os.path.join(folder, "empty"))
         for i, case in enumerate(cases):
             write(os.path.join(folder, "%05d.%s" % (i, "slow" if case.slow else "in")), case.given)
+            if case.sheet is not None:
+                os.mkdir(os.path.join(folder, "%05d.folder" % i))
+                write(os.path.join(folder, "%05d.folder" % i, "sheet.txt"), case.sheet)
         shells = [subprocess.Popen(["bash", "-c", SCRIPT, "listing.py", folder, asked, digits], cwd=ROOT) for digits in ("02468", "13579")]
         for shell in shells:
             if shell.wait() != 0:
                 sys.exit("the program could not be run")
         bases = [os.path.join(folder, "%05d" % i) for i in range(len(cases))]
-        return [read(base + ".out") + read(base + ".err") for base in bases]
+        return [(read(base + ".out"), read(base + ".err")) for base in bases]
+
+
+def unsaid(case, said):
+    """What standard error does not say of a bad sheet, or none: it names the line. A sheet that is too long is not read whole."""
+    line, test = sheet.fault(case.sheet)
+    if len(case.sheet) > sheet.MOST_BYTES:
+        return None if said else "nothing is said of a sheet that is too long"
+    return None if re.search(rb"\bline %d\b" % line, said) else "line %d (%s) of the sheet is not named: %r" % (line, test, said)
 
 
 def first_difference(expected, written):
@@ -570,11 +778,13 @@ def shown(text, at):
     return (".." if start else "") + text[start : at + 60].decode("latin-1") + (".." if len(text) > at + 60 else "")
 
 
-def kept(test, given):
-    """Writes a failing case's input, so that it can be run again."""
+def kept(test, case):
+    """Writes a failing case's input, and its sheet, so that it can be run again."""
     os.makedirs(FAILED, exist_ok=True)
     path = os.path.join(FAILED, "".join(c if c.isalnum() else "-" for c in test) + ".in")
-    write(path, given)
+    write(path, case.given)
+    if case.sheet is not None:
+        write(path + ".sheet", case.sheet)
     return os.path.relpath(path, ROOT)
 
 
@@ -585,16 +795,23 @@ def compare(cases, answers, listings):
     def tell(test, case, what):
         wrong[test] = wrong.get(test, 0) + 1
         if wrong[test] == 1:
-            print("%s: %s\n  again: tests/listing.py --case %s" % (test, what, kept(test, case.given)))
+            print("%s: %s\n  again: tests/listing.py --case %s" % (test, what, kept(test, case)))
 
-    for case, written, expected in zip(cases, answers, listings):
+    for case, (written, said), expected in zip(cases, answers, listings):
         tests.add(case.test)
+        if expected == BAD_SHEET:
+            tests.add("what is said of a bad sheet")
+            missing = unsaid(case, said)
+            if missing:
+                tell("what is said of a bad sheet", case, missing)
+        else:
+            written += said
         if written != expected:
             tell(case.test, case, first_difference(expected, written))
         elif case.stored not in (None, written):
             tell(case.test, case, "the stored listing differs: " + first_difference(case.stored, written))
         try:
-            for sort, what in outside(case.given, written):
+            for sort, what in outside(case.given, written, case.sheet):
                 tests.add("JSON: " + sort)
                 if what is not None:
                     tell("JSON: " + sort, case, what)
@@ -608,10 +825,10 @@ def compare(cases, answers, listings):
 
 def one(path):
     """A single input."""
-    case = Case(path, read(path))
-    written, expected = run([case], program())[0], lines.listing(case.given)
-    print(first_difference(expected, written))
-    tests, wrong = compare([case], [written], [expected])
+    case = Case(path, read(path), sheet=read(path + ".sheet") if os.path.exists(path + ".sheet") else None)
+    answer, expected = run([case], program())[0], lines.listing(case.given, case.sheet)
+    print(first_difference(expected, answer[0]))
+    tests, wrong = compare([case], [answer], [expected])
     print("%d passed, %d failed" % (len(tests) - len(wrong), len(wrong)))
     return 1 if wrong else 0
 
@@ -624,8 +841,9 @@ def main(arguments):
         return 2
     shutil.rmtree(FAILED, ignore_errors=True)
     seeds = [int(word) for word in arguments] or [1, random.SystemRandom().randrange(1 << 32)]
-    cases = [*fixed_cases(), *(case for seed in seeds for case in random_cases(seed))]
-    expected = [lines.listing(case.given) for case in cases]
+    drawn = (case for seed in seeds for cases in (random_cases, random_sheet_cases) for case in cases(seed))
+    cases = [*fixed_cases(), *drawn]
+    expected = [lines.listing(case.given, case.sheet) for case in cases]
     print("seeds %s, %d inputs, %d lines" % (" ".join(map(str, seeds)), len(cases), sum(text.count(b"\n") for text in expected)))
     tests, wrong = compare(cases, run(cases, program()), expected)
     mine = list(own(expected))

@@ -18,6 +18,7 @@ sys.dont_write_bytecode = True  # or Python leaves a folder beside those that ar
 import calls
 import lines
 import paper
+import sheet
 from calls import answer, in_room, request
 from paper import ASK, ASK_E, COMMAND_D, HOMIQ_G, HOMIQ_H, LINK_A, LINK_B, PREAMBLES, PRESSED, REPLY, REPLY_CLIMATE, RESET, TAILED
 from paper import HIGHEST, LOWEST, homiq, link, nest, nibe
@@ -486,24 +487,25 @@ def test_cases():
 # ---- the next line of a capture
 
 
-def next_line(kind, place, s):
+def next_line(kind, place, s, rows=None):
     """The next frame's start, its length and its line; or the refusal's number."""
     found = paper.search(kind, s, place)
     if isinstance(found, int):
         return found
     start, length = found[:2]
-    return start, length, lines.line(kind, start, s[start : start + length]).encode("ascii") + b"\n"
+    return start, length, lines.line(kind, start, s[start : start + length], rows).encode("ascii") + b"\n"
 
 
-def line_cases(kind, place, s):
-    """Measured; and put if it just fits, if a byte more or less is left, in no room, and beyond the room."""
-    found = next_line(kind, place, s)
+def line_cases(kind, place, s, rows=None):
+    """Measured; and put if it just fits, if a byte more or less is left, in no room, and beyond the room. Without rows the map is empty."""
+    found = next_line(kind, place, s, rows)
     refused = isinstance(found, int)
     start, length, line = (0, 0, found) if refused else found
     size = 0 if refused else len(line)
-    yield request("lines::measure", kind, s, place), answer(found if refused else (start, length, size))
+    of_map = b"" if rows is None else sheet.mapped(rows)
+    yield request("lines::measure", kind, s, place, of_map), answer(found if refused else (start, length, size))
     for room, to in ((size, 0), (size + 1, 0), (size + 3, 3), (size + 2, 3), (max(size - 1, 0), 0), (0, 0), (size, size + 1), (9, 2**64 - 1)):
-        yield request("lines::next", kind, s, place, room, to), in_room(line, room, to, (start, length, to + size))
+        yield request("lines::next", kind, s, place, of_map, room, to), in_room(line, room, to, (start, length, to + size))
 
 
 def next_cases():
@@ -514,6 +516,109 @@ def next_cases():
             yield from line_cases(kind, place, s)
     for kind, place in ((0, 0), (6, 0), (255, 7), (4, 2**64 - 1)):
         yield from line_cases(kind, place, ASK)
+
+
+# ---- the register sheet
+
+SHEET = b"40004,s16,1\n47011,u8,0\n"
+ROWS = {0: (1, False, 0), 1: (1, True, 1), 2: (2, False, 2), 3: (2, True, 3), 4: (4, False, 0), 5: (4, True, 1)}
+# the second of these is the empty sheet, and good
+OTHER_SHEETS = b"x||1,u8,0|01,u8,0\n|65536,u8,0\n|1,u8,0\r\n|1,u8\n|1,U8,0\n|1,u8,4\n|1,u8,0\n1,u8,0\n|2,u8,0\n1,u8,0\n|\n|1,u8,0\n\n"
+OTHER_SHEETS = OTHER_SHEETS.split(b"|")
+
+
+def splits_case(command, text, data, room):
+    """The pairs, in a room of this length; 5, 10 and 9 go before the room."""
+    found = sheet.rows(text)
+    if command not in sheet.SPLIT or found is None:
+        made = 5 if command not in sheet.SPLIT else 10
+    else:
+        pairs = sheet.split(found, data)
+        made = 9 if pairs is None else b"".join(pair_bytes(*pair) for pair in pairs)
+    return request("sheet::split", command, data, text, room), in_room(made, room)
+
+
+def pair_bytes(register, raw):
+    return register.to_bytes(2, "little") + raw.to_bytes(8, "little", signed=True)
+
+
+def joins_case(text, pairs, room):
+    """The data of pairs that are right, but for values that are not held and for registers that are not listed."""
+    found = sheet.rows(text)
+    given = b"".join(pair_bytes(*pair) for pair in pairs)
+    if any(register not in found for register, _ in pairs):
+        made = 9
+    elif any(paper.held(raw, *found[register][:2]) is None for register, raw in pairs):
+        made = 5
+    else:
+        made = sheet.joined(found, pairs)
+    return request("sheet::join", 0x68, given, text, room), in_room(5 if isinstance(made, bytes) and len(made) > 255 else made, room)
+
+
+def sheet_cases():
+    """K2's examples; each type at its limits; each fault; the refusals in their order."""
+    for text in (SHEET, sheet.written(ROWS), *OTHER_SHEETS):
+        found = sheet.rows(text)
+        yield request("sheet::open", text), answer(10 if found is None else (len(found),))
+        yield request("sheet::fault", text), answer(sheet.fault(text))
+        for register in (0, 1, 40004, 47011, 65535):
+            listed = 10 if found is None else found.get(register, 9)
+            yield request("sheet::type_of", text, register), answer(listed)
+        yield splits_case(0x68, text, b"", 0)
+        yield splits_case(0x6A, text, b"\x01", 0)
+    data = bytes.fromhex("449CEB00A3B70A")
+    for end in range(len(data) + 1):
+        yield splits_case(0x68, SHEET, data[:end], 20)
+    for command, room in ((0x62, 20), (0x68, 19), (0x68, 21), (0x60, 20), (0x6A, 20)):
+        yield splits_case(command, SHEET, data, room)
+    text = sheet.written(ROWS)
+    for register, (width, signed, _) in ROWS.items():
+        most = (1 << 8 * width - signed) - 1
+        for raw in (-most - 2, -most - 1, -1, 0, most, most + 1, 2**63 - 1, -(2**63)):
+            yield joins_case(text, [(register, raw)], 2 + width)
+            if paper.held(raw, width, signed) is not None:
+                yield splits_case(0x68, text, sheet.joined(ROWS, [(register, raw)]), 10)
+    for count in (85, 86):
+        yield joins_case(text, [(0, 7)] * count, 300)
+    for of_map in (b"", b"\x00", bytes(range(30)), sheet.mapped(ROWS)):
+        for register in range(32):
+            byte = of_map[register : register + 1] or b"\x00"
+            sort = [*sheet.TYPES.values()][(byte[0] - 1) // 4] if 1 <= byte[0] <= 24 else None
+            yield request("sheet::type_in", of_map, register), answer(9 if sort is None else (*sort, (byte[0] - 1) % 4))
+    for end in range(len(data) + 1):
+        by_map = sheet.split(ROWS, b"\x02\x00" + data[:end]) is not None
+        yield request("sheet::splits", sheet.mapped(ROWS), b"\x02\x00" + data[:end]), answer((by_map,))
+    for n in (0, 1, 255, 2**32, 2**63, 2**64 - 1):
+        yield request("digits::low_first::eight", n), answer((n.to_bytes(8, "little"),))
+
+
+def line_with(kind, frame, text):
+    """A frame's line by a sheet, or the refusal's number."""
+    found = paper.one_frame(kind, frame)
+    if isinstance(found, int):
+        return found
+    rows = sheet.rows(text)
+    return 10 if rows is None else lines.line(kind, 7, frame, rows).encode("ascii") + b"\n"
+
+
+def sheet_line_cases():
+    """K2's lines, by the text and by a map; and the refusals in their order."""
+    pairs = [(register, raw) for register, raw in zip(ROWS, (255, -128, 65535, -32768, 4294967295, -2147483648))]
+    data = sheet.joined(ROWS, pairs)
+    frames = [nibe(command, data[:end]) for command in (0x60, 0x62, 0x68) for end in (0, 3, len(data) - 1, len(data))]
+    frames += [nibe(command, sheet.joined(ROWS, [pair])) for command in (0x6A, 0x6B) for pair in pairs]
+    frames += [nibe(0x6A, b"\x01\x00\xff\xff"), nibe(0x6A, b"\x09\x00\xff\xff"), nibe(0x69, b"\x01\x00")]
+    text = sheet.written(ROWS)
+    for frame in frames:
+        yield request("lines::write_with", 4, frame, 7, text, 900), in_room(line_with(4, frame, text), 900)
+        yield from line_cases(4, 0, frame, ROWS)
+        for of_map, rows in ((sheet.mapped(ROWS), ROWS), (b"\x00", {}), (b"", None)):
+            line = lines.line(4, 7, frame, rows).encode("ascii") + b"\n"
+            yield request("lines::write_mapped", 4, frame, 7, of_map, 900), in_room(line, 900)
+    for kind, frame in ((0, TAILED), (6, TAILED), (1, TAILED), (4, TAILED), (5, HOMIQ_G)):
+        for text in (b"", b"x", SHEET):
+            yield request("lines::write_with", kind, frame, 7, text, 300), in_room(line_with(kind, frame, text), 300)
+            yield request("lines::write_with", kind, frame, 7, text, 0), in_room(line_with(kind, frame, text), 0)
 
 
 # ---- the requests themselves
@@ -594,10 +699,19 @@ NO_REQUESTS = [
     "messages::allowed tail",
     "lines::of tail 0 4 40 0",
     # a room for what writes nothing
-    "lines::measure 4 C06902640066 0 80 0",
+    "lines::measure 4 C06902640066 0 - 80 0",
+    # no map; no sheet; a register that there is not
+    "lines::measure 4 C06902640066 0",
+    "lines::next 4 C06902640066 0 80 0",
+    "lines::write_with 4 C06902640066 0 80",
+    "sheet::open",
+    "sheet::type_of - 65536",
+    "sheet::type_in 01 -1",
+    "sheet::split 256 - - 0",
+    "digits::low_first::eight 18446744073709551616",
     # a content without its payload; a tag that is none, or without what it has, or with more than its type holds
     "messages::of tail",
-    "lines::put_content tail 0 4 40 0",
+    "lines::put_content tail - 0 4 40 0",
     "messages::of Tail -",
     "messages::of input 492E333B313B30483B303B34323B73",
     "messages::of read 1 18183 -",
@@ -642,6 +756,8 @@ SUBJECTS = [
     begin_cases,
     test_cases,
     next_cases,
+    sheet_cases,
+    sheet_line_cases,
     no_request_cases,
 ]
 

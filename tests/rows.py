@@ -98,7 +98,7 @@ def pairs(case):
         yield request("messages::of", *calls.tag(name, fields), content), told(table.of(name, fields, content))
     elif asked == "content line":
         made = content_line(name, fields, content, at, length)
-        yield request("lines::put_content", *calls.tag(name, fields), content, at, length, room, to), clipped(made, room, to)
+        yield request("lines::put_content", *calls.tag(name, fields), content, at, length, b"", room, to), clipped(made, room, to)
     elif asked == "payload":
         yield request("layouts::homiq::is_payload", content), answer((paper.is_payload(content),))
     elif asked == "allowed":

@@ -6,7 +6,8 @@
 enum { STACK = 1 << 16, PAINT = 0xA5 };
 
 static u8 stack[STACK] __attribute__((aligned(64)));
-static u8 room[BOLSTERWEFT_LIST_ROOM], bytes[BOLSTERWEFT_INPUT_MOST], book[BOLSTERWEFT_BOOK_MOST];
+static u8 room[BOLSTERWEFT_LIST_ROOM], bytes[BOLSTERWEFT_INPUT_MOST], book[BOLSTERWEFT_BOOK_MOST], map[BOLSTERWEFT_MAP_ROOM];
+static const u8 sheet[] = "0,u8,0\n1,s8,1\n10,u16,2\n40004,s16,3\n65534,u32,0\n65535,s32,1\n";
 static usize length, size, room_length;
 static u32 kind;
 static i64 raw;
@@ -39,8 +40,13 @@ static void why(void) { refusals += bolsterweft_why(kind, bytes, length, 2).test
 static void one_frame(void) { refusals += bolsterweft_one_frame(kind, piece.frame, piece.length).refusal; }
 static void acknowledge(void) { refusals += bolsterweft_acknowledge(piece.frame, piece.length, room, room_length).refusal; }
 static void line(void) { refusals += bolsterweft_line(kind, piece.frame, piece.length, ~(usize)0, room, room_length).refusal; }
+static void line_with(void) { refusals += bolsterweft_line_with(kind, piece.frame, piece.length, ~(usize)0, map, sizeof map, room, room_length).refusal; }
+static void line_next_with(void) { refusals += bolsterweft_line_next_with(kind, bytes, length, 0, map, sizeof map, room, room_length).refusal; }
+static void list_with(void) { refusals += bolsterweft_list_with(bytes, length, map, sizeof map, room, room_length).refusal; }
 static void line_next(void) { refusals += bolsterweft_line_next(kind, bytes, length, 0, room, room_length).refusal; }
 static void list(void) { refusals += bolsterweft_list(bytes, length, room, room_length).refusal; }
+static void sheet_map(void) { refusals += bolsterweft_sheet_map(sheet, sizeof sheet - 1, room, room_length).refusal; }
+static void sheet_fault(void) { refusals += bolsterweft_sheet_fault(sheet, sizeof sheet - 1).test; }
 static void text(void) { refusals += bolsterweft_text(raw, 3, room, 12).refusal; }
 static void number(void) { refusals += bolsterweft_number((const u8 *)"-1234567.89", 11).refusal; }
 static void value(void) { refusals += bolsterweft_value(raw, 4, 1, room, 4).refusal; }
@@ -52,6 +58,8 @@ static void book_open(void) { refusals += bolsterweft_book_open(book, size).refu
 static void book_entry(void) { refusals += bolsterweft_book_entry(book, size, 0).refusal; }
 static void book_line(void) { refusals += bolsterweft_book_line(book, size, 0, room, room_length).refusal; }
 static void book_list(void) { refusals += bolsterweft_book_list(book, size, room, room_length).refusal; }
+static void book_line_with(void) { refusals += bolsterweft_book_line_with(book, size, 0, map, sizeof map, room, room_length).refusal; }
+static void book_list_with(void) { refusals += bolsterweft_book_list_with(book, size, map, sizeof map, room, room_length).refusal; }
 static void book_add(void) { refusals += bolsterweft_book_add(book, size, piece.kind, piece.frame, piece.length, room, room_length).refusal; }
 
 static const struct {
@@ -62,6 +70,8 @@ static const struct {
     {"line", line},           {"line_next", line_next},   {"list", list},           {"text", text},           {"number", number},
     {"value", value},         {"value_read", value_read}, {"fits", fits},           {"panel", panel},         {"climate", climate},
     {"book_open", book_open}, {"book_entry", book_entry}, {"book_line", book_line}, {"book_list", book_list}, {"book_add", book_add},
+    {"sheet_map", sheet_map}, {"sheet_fault", sheet_fault},
+    {"line_with", line_with}, {"line_next_with", line_next_with}, {"list_with", list_with}, {"book_line_with", book_line_with}, {"book_list_with", book_list_with},
 };
 
 enum { CALLS = sizeof calls / sizeof *calls, TRIALS = 200 };
@@ -88,6 +98,7 @@ static void make(int trial) {
 
 int main(void) {
     state = 1;
+    memset(map, 2 + 4 * 3, sizeof map); /* every register is an s16 with a decimal */
     for (int trial = 0; trial < TRIALS; trial++)
         for (kind = 1; kind <= 5; kind++) {
             make(trial);

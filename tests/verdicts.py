@@ -120,13 +120,13 @@ def main(arguments):
     print("seed %d" % seed)
     asked = [*cases(count, random.Random(1)), *cases(count, random.Random(seed)), *fixed()]
     inputs = [listing.Case(test, head.encode() + b"\n" + given) for test, head, given, _ in asked]
-    written = listing.run(inputs, str(proved.program("verdicts")))
+    written = [out + err for out, err in listing.run(inputs, str(proved.program("verdicts")))]
     seen = {str(kind): set() for kind in VERDICTS}
     holds = {}
     for (test, head, given, must), does in zip(asked, written):
         if does != must and holds.get(test, True):
             print("%s: %s\n%s" % (test, head, listing.first_difference(must, does)))
-            print("  again: the program on " + listing.kept(test, head.encode() + b"\n" + given))
+            print("  again: the program on " + listing.kept(test, listing.Case(test, head.encode() + b"\n" + given)))
         holds[test] = holds.get(test, True) and does == must
         if does == must:
             seen.get(head[:1], set()).update(word.decode() for word in VERDICT.findall(does))

@@ -4,6 +4,7 @@ use crate::digits;
 use crate::frames;
 use crate::lines;
 use crate::refusal::Refusal;
+use crate::sheet::{self, Lookup};
 
 pub const MOST_ENTRIES: usize = 1_000;
 pub const MOST_BYTES: usize = 65_536;
@@ -95,23 +96,35 @@ pub fn entry(book: &[u8], number: u64) -> Result<Entry, Refusal> {
 }
 
 /// The line of an entry: 8, 3.
-pub fn line(book: &[u8], number: u64) -> Result<Vec<u8>, Refusal> {
-    line_of(book, &entry(book, number)?)
+pub fn line(book: &[u8], number: u64, by: Option<&dyn Lookup>) -> Result<Vec<u8>, Refusal> {
+    line_of(book, &entry(book, number)?, by)
+}
+
+/// The same with a sheet: 8, 3, 10.
+pub fn line_with(book: &[u8], number: u64, text: &[u8]) -> Result<Vec<u8>, Refusal> {
+    let entry = entry(book, number)?;
+    line_of(book, &entry, Some(&sheet::open(text)?))
 }
 
 /// The lines of all entries: 8.
-pub fn list(book: &[u8]) -> Result<Vec<u8>, Refusal> {
+pub fn list(book: &[u8], by: Option<&dyn Lookup>) -> Result<Vec<u8>, Refusal> {
     let mut lines = Vec::new();
     for entry in open(book)? {
-        lines.extend(line_of(book, &entry)?);
+        lines.extend(line_of(book, &entry, by)?);
     }
     Ok(lines)
 }
 
+/// The same with a sheet: 8, 10.
+pub fn list_with(book: &[u8], text: &[u8]) -> Result<Vec<u8>, Refusal> {
+    open(book)?;
+    list(book, Some(&sheet::open(text)?))
+}
+
 /// `at` is the entry's offset.
-fn line_of(book: &[u8], entry: &Entry) -> Result<Vec<u8>, Refusal> {
+fn line_of(book: &[u8], entry: &Entry, by: Option<&dyn Lookup>) -> Result<Vec<u8>, Refusal> {
     let frame = &book[entry.begins..entry.ends];
-    lines::line(entry.kind, frame, entry.offset as u64)
+    lines::line(entry.kind, frame, entry.offset as u64, by)
 }
 
 /// The book with one entry more: 8, 2, 5.

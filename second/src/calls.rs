@@ -10,6 +10,7 @@ use crate::list;
 use crate::messages::{self, Message};
 use crate::numbers;
 use crate::refusal::Refusal;
+use crate::sheet::{self, Map, Type};
 use crate::words::{Room, Words};
 
 #[path = "calls_in_c.rs"]
@@ -71,6 +72,7 @@ fn called(request: &[u8]) -> Option<Answer> {
         "lines" => in_lines(function, &mut words),
         "book" => in_book(function, &mut words),
         "list" => in_list(function, &mut words),
+        "sheet" => in_sheet(function, &mut words),
         _ => None,
     }?;
     words.end()?;
@@ -266,6 +268,7 @@ fn in_digits(function: &str, words: &mut Words) -> Option<Answer> {
         "low_first::one" => says(shown(&words.number::<u8>()?.to_le_bytes())),
         "low_first::two" => says(shown(&words.number::<u16>()?.to_le_bytes())),
         "low_first::four" => says(shown(&words.number::<u32>()?.to_le_bytes())),
+        "low_first::eight" => says(shown(&words.number::<u64>()?.to_le_bytes())),
         "low_first::number_of" => tries(digits::low_first(&words.bytes()?)),
         "slices::same" => says(words.bytes()? == words.bytes()?),
         "refusal::number" => says(Refusal::named(words.word()?)?.number()),
@@ -512,11 +515,24 @@ fn in_commands(function: &str, words: &mut Words) -> Option<Answer> {
 fn in_lines(function: &str, words: &mut Words) -> Option<Answer> {
     match function {
         "write" => {
-            let line = lines::line(words.number()?, &words.bytes()?, words.number()?);
+            let line = lines::line(words.number()?, &words.bytes()?, words.number()?, None);
+            writes(words.room()?, line)
+        }
+        "write_with" => {
+            let (kind, frame, at) = (words.number()?, words.bytes()?, words.number()?);
+            let line = lines::line_with(kind, &frame, at, &words.bytes()?);
+            writes(words.room()?, line)
+        }
+        "write_mapped" => {
+            let (kind, frame, at) = (words.number()?, words.bytes()?, words.number()?);
+            let map = words.bytes()?;
+            let line = lines::line(kind, &frame, at, sheet::unless_empty(&Map(&map)));
             writes(words.room()?, line)
         }
         "next" => {
-            let next = lines::next(words.number()?, &words.bytes()?, words.number()?);
+            let (kind, capture, place) = (words.number()?, words.bytes()?, words.number()?);
+            let map = words.bytes()?;
+            let next = lines::next(kind, &capture, place, sheet::unless_empty(&Map(&map)));
             let mut room = words.room()?;
             let to = words.number()?;
             let result = next.and_then(|(found, line)| {
@@ -529,7 +545,9 @@ fn in_lines(function: &str, words: &mut Words) -> Option<Answer> {
             })
         }
         "measure" => {
-            let next = lines::next(words.number()?, &words.bytes()?, words.number()?);
+            let (kind, capture, place) = (words.number()?, words.bytes()?, words.number()?);
+            let map = words.bytes()?;
+            let next = lines::next(kind, &capture, place, sheet::unless_empty(&Map(&map)));
             tries(next.map(|(found, line)| {
                 let size = line.len();
                 format!("{} {} {size}", found.start, found.length)
@@ -542,7 +560,8 @@ fn in_lines(function: &str, words: &mut Words) -> Option<Answer> {
         }
         "put_content" => {
             let (tag, payload) = (words.tag()?, words.bytes()?);
-            let line = lines::of_content(tag, &payload, words.number()?, words.number()?);
+            let (at, len, map) = (words.number()?, words.number()?, words.bytes()?);
+            let line = lines::of_content(tag, &payload, at, len, sheet::unless_empty(&Map(&map)));
             let (room, to) = (words.room()?, words.number()?);
             match line {
                 Ok(line) => puts(room, to, &line),
@@ -574,10 +593,30 @@ fn in_book(function: &str, words: &mut Words) -> Option<Answer> {
             part(entry.map(|entry| &bytes[entry.begins..entry.ends]))
         }
         "line" => {
-            let line = book::line(&bytes, words.number()?);
+            let line = book::line(&bytes, words.number()?, None);
             writes(words.room()?, line)
         }
-        "list" => writes(words.room()?, book::list(&bytes)),
+        "line_with" => {
+            let line = book::line_with(&bytes, words.number()?, &words.bytes()?);
+            writes(words.room()?, line)
+        }
+        "line_mapped" => {
+            let (number, map) = (words.number()?, words.bytes()?);
+            let line = book::line(&bytes, number, sheet::unless_empty(&Map(&map)));
+            writes(words.room()?, line)
+        }
+        "list" => writes(words.room()?, book::list(&bytes, None)),
+        "list_with" => {
+            let list = book::list_with(&bytes, &words.bytes()?);
+            writes(words.room()?, list)
+        }
+        "list_mapped" => {
+            let map = words.bytes()?;
+            writes(
+                words.room()?,
+                book::list(&bytes, sheet::unless_empty(&Map(&map))),
+            )
+        }
         "add" => {
             let longer = book::add(&bytes, words.number()?, &words.bytes()?);
             writes(words.room()?, longer)
@@ -587,11 +626,70 @@ fn in_book(function: &str, words: &mut Words) -> Option<Answer> {
 }
 
 fn in_list(function: &str, words: &mut Words) -> Option<Answer> {
-    if function != "write" {
-        return None;
-    }
-    let listing = list::listing(&words.bytes()?);
+    let input = words.bytes()?;
+    let listing = match function {
+        "write" => list::listing(&input, None),
+        "write_with" => list::listing_with(&input, &words.bytes()?),
+        "write_mapped" => {
+            let map = words.bytes()?;
+            list::listing(&input, sheet::unless_empty(&Map(&map)))
+        }
+        _ => return None,
+    };
     writes(words.room()?, Ok(listing))
+}
+
+fn in_sheet(function: &str, words: &mut Words) -> Option<Answer> {
+    match function {
+        "open" => tries(sheet::open(&words.bytes()?).map(|sheet| sheet.rows.len())),
+        "fault" => says(fault_text(sheet::fault(&words.bytes()?))),
+        "type_of" => {
+            let (sheet, register) = (sheet::open(&words.bytes()?), words.number()?);
+            typed(sheet.and_then(|sheet| sheet::type_of(&sheet, register)))
+        }
+        "type_in" => {
+            let (map, register) = (words.bytes()?, words.number()?);
+            typed(sheet::type_of(&Map(&map), register))
+        }
+        "split" => {
+            let pairs = sheet::split(words.number()?, &words.bytes()?, &words.bytes()?);
+            writes(words.room()?, pairs)
+        }
+        "join" => {
+            let data = sheet::join(words.number()?, &words.bytes()?, &words.bytes()?);
+            writes(words.room()?, data)
+        }
+        "map" => {
+            let map = sheet::open(&words.bytes()?).map(|sheet| sheet::map(&sheet));
+            writes(words.room()?, map)
+        }
+        "splits" => {
+            let (map, data) = (words.bytes()?, words.bytes()?);
+            says(sheet::pairs(&data, &Map(&map)).is_ok())
+        }
+        "unsolicited" => says(sheet::is_split(words.number()?)),
+        _ => None,
+    }
+}
+
+/// A type: width, whether it has a sign, decimals.
+fn typed(result: Result<Type, Refusal>) -> Option<Answer> {
+    tries(result.map(|listed| {
+        let Type {
+            width,
+            signed,
+            decimals,
+        } = listed;
+        format!("{width} {signed} {decimals}")
+    }))
+}
+
+/// The line of a sheet that is wrong and the test that it fails; `0 none` for a sheet.
+fn fault_text(fault: Option<sheet::Fault>) -> String {
+    let Some(sheet::Fault { line, test }) = fault else {
+        return "0 none".to_string();
+    };
+    format!("{line} {}", test.name())
 }
 
 #[cfg(test)]

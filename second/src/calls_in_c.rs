@@ -9,7 +9,8 @@ use crate::lines;
 use crate::list;
 use crate::numbers;
 use crate::refusal::Refusal;
-use crate::words::Words;
+use crate::sheet::{self, Map};
+use crate::words::{Room, Words};
 
 /// None if this is no request.
 pub fn called(request: &[u8]) -> Option<Answer> {
@@ -18,6 +19,8 @@ pub fn called(request: &[u8]) -> Option<Answer> {
     let answer = match name.strip_prefix("bolsterweft_")? {
         "search" | "why" | "one_frame" => in_frames(name, &mut words),
         "line" | "line_next" | "list" | "acknowledge" => in_lines(name, &mut words),
+        function if function.ends_with("_with") => by_map(name, &mut words),
+        function if function.starts_with("sheet_") => in_sheet(name, &mut words),
         function if function.starts_with("book_") => in_book(name, &mut words),
         _ => in_numbers(name, &mut words),
     }?;
@@ -67,23 +70,15 @@ fn in_frames(name: &str, words: &mut Words) -> Option<Answer> {
 fn in_lines(name: &str, words: &mut Words) -> Option<Answer> {
     match name {
         "bolsterweft_line" => {
-            let line = lines::line(kind(words)?, &words.bytes()?, words.number()?);
+            let line = lines::line(kind(words)?, &words.bytes()?, words.number()?, None);
             writes(words.room()?, line)
         }
         "bolsterweft_line_next" => {
-            let next = lines::next(kind(words)?, &words.bytes()?, words.number()?);
-            let mut room = words.room()?;
-            let result = next.and_then(|(found, line)| {
-                let length = room.write(&line)?;
-                Ok(format!("{} {} {length}", found.start, found.length))
-            });
-            Some(Answer {
-                result,
-                room: Some(room),
-            })
+            let found = lines::next(kind(words)?, &words.bytes()?, words.number()?, None);
+            next(words.room()?, found)
         }
         "bolsterweft_list" => {
-            let listing = list::listing(&words.bytes()?);
+            let listing = list::listing(&words.bytes()?, None);
             writes(words.room()?, Ok(listing))
         }
         _ => {
@@ -91,6 +86,58 @@ fn in_lines(name: &str, words: &mut Words) -> Option<Answer> {
             writes(words.room()?, answer)
         }
     }
+}
+
+/// Lines by a register map, which stands before the room; the empty map is no sheet.
+fn by_map(name: &str, words: &mut Words) -> Option<Answer> {
+    let kind = match name {
+        "bolsterweft_line_with" | "bolsterweft_line_next_with" => kind(words)?,
+        _ => 0,
+    };
+    let bytes = words.bytes()?;
+    let number = match name {
+        "bolsterweft_line_with" | "bolsterweft_line_next_with" => words.number()?,
+        "bolsterweft_book_line_with" => entry_number(words)?,
+        _ => 0,
+    };
+    let map = words.bytes()?;
+    let (map, room) = (Map(&map), words.room()?);
+    let by = sheet::unless_empty(&map);
+    match name {
+        "bolsterweft_line_with" => writes(room, lines::line(kind, &bytes, number, by)),
+        "bolsterweft_line_next_with" => next(room, lines::next(kind, &bytes, number, by)),
+        "bolsterweft_list_with" => writes(room, Ok(list::listing(&bytes, by))),
+        "bolsterweft_book_line_with" => writes(room, book::line(&bytes, number, by)),
+        "bolsterweft_book_list_with" => writes(room, book::list(&bytes, by)),
+        _ => None,
+    }
+}
+
+fn in_sheet(name: &str, words: &mut Words) -> Option<Answer> {
+    let text = words.bytes()?;
+    match name {
+        "bolsterweft_sheet_map" => {
+            let map = sheet::open(&text).map(|sheet| sheet::map(&sheet));
+            writes(words.room()?, map)
+        }
+        "bolsterweft_sheet_fault" => says(match sheet::fault(&text) {
+            Some(fault) => format!("{} {}", fault.test.number(), fault.line),
+            None => "0 0".to_string(),
+        }),
+        _ => None,
+    }
+}
+
+/// The next frame's start, its length and the length of its line, which is written.
+fn next(mut room: Room, next: Result<(frames::Found, Vec<u8>), Refusal>) -> Option<Answer> {
+    let result = next.and_then(|(found, line)| {
+        let length = room.write(&line)?;
+        Ok(format!("{} {} {length}", found.start, found.length))
+    });
+    Some(Answer {
+        result,
+        room: Some(room),
+    })
 }
 
 fn in_numbers(name: &str, words: &mut Words) -> Option<Answer> {
@@ -137,10 +184,10 @@ fn in_book(name: &str, words: &mut Words) -> Option<Answer> {
             }))
         }
         "bolsterweft_book_line" => {
-            let line = book::line(&bytes, entry_number(words)?);
+            let line = book::line(&bytes, entry_number(words)?, None);
             writes(words.room()?, line)
         }
-        "bolsterweft_book_list" => writes(words.room()?, book::list(&bytes)),
+        "bolsterweft_book_list" => writes(words.room()?, book::list(&bytes, None)),
         "bolsterweft_book_add" => {
             let longer = book::add(&bytes, kind(words)?, &words.bytes()?);
             writes(words.room()?, longer)
@@ -189,6 +236,28 @@ mod tests {
             "refused 2 room -+0",
         );
         answers("bolsterweft_book_sell -", "request?");
+        answers("bolsterweft_sell_with - - 0", "request?");
+        answers("bolsterweft_sheet_fault -", "ok 0 0");
+        answers("bolsterweft_sheet_fault 302C75382C300A0A", "ok 1 2");
+        answers("bolsterweft_sheet_fault 302C75382C30", "ok 7 1");
+        answers("bolsterweft_sheet_map 0A 0", "refused 10 room -+0");
+        answers("bolsterweft_sheet_map - 0", "refused 4 room -+0");
+        answers("bolsterweft_line_with 4 - 0 - 0", "refused 5 room -+0");
+        answers("bolsterweft_line_with 260 - 0 - 0", "refused 2 room -+0");
+        answers(
+            "bolsterweft_line_next_with 4 C0680000 0 00 61",
+            "refused 4 room -+61",
+        );
+        answers(
+            "bolsterweft_book_line_with 000006000000 65536 00 0",
+            "refused 3 room -+0",
+        );
+        answers(
+            "bolsterweft_book_list_with 000006000000 00 0",
+            "ok 0 room -+0",
+        );
+        // {"frames":0,"skipped":0} and LF
+        answers("bolsterweft_list_with 340A 00 24", "refused 4 room -+24");
         answers("frames::search 4 - 0", "request?");
     }
 }

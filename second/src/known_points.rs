@@ -260,8 +260,8 @@ fn book_of_the_reset_frame() {
     assert_eq!(book::entry(&book, 0), Ok(entry));
     assert_eq!(book::entry(&book, 1), Err(Refusal::Place));
     let line = b"{\"at\":0,\"len\":9,\"msg\":\"command\",\"id\":255,\"data\":\"\"}\n";
-    assert_eq!(book::list(&book), Ok(line.to_vec()));
-    assert_eq!(book::line(&book, 0), Ok(line.to_vec()));
+    assert_eq!(book::list(&book, None), Ok(line.to_vec()));
+    assert_eq!(book::line(&book, 0, None), Ok(line.to_vec()));
 }
 
 /// Every other value of every single byte.
@@ -388,13 +388,13 @@ fn refusals_in_order() {
         ("lines::write 0 - 0 0", "refused 2 room -+0"),
         ("lines::write 1 - 0 0", "refused 5 room -+0"),
         ("lines::write 1 2345310D 0 0", "refused 4 room -+0"),
-        ("lines::next 0 - 1 0 0", "refused 2 room -+0"),
-        ("lines::next 1 - 1 0 0", "refused 3 room -+0"),
-        ("lines::next 1 - 0 0 0", "refused 1 room -+0"),
-        ("lines::next 1 2345310D 0 29 0", "refused 4 room -+29"),
-        ("lines::measure 0 - 1", "refused 2"),
-        ("lines::measure 1 - 1", "refused 3"),
-        ("lines::measure 1 - 0", "refused 1"),
+        ("lines::next 0 - 1 - 0 0", "refused 2 room -+0"),
+        ("lines::next 1 - 1 - 0 0", "refused 3 room -+0"),
+        ("lines::next 1 - 0 - 0 0", "refused 1 room -+0"),
+        ("lines::next 1 2345310D 0 - 29 0", "refused 4 room -+29"),
+        ("lines::measure 0 - 1 -", "refused 2"),
+        ("lines::measure 1 - 1 -", "refused 3"),
+        ("lines::measure 1 - 0 -", "refused 1"),
         ("list::write - 13", "refused 4 room -+13"),
         (
             "list::write - 14",
@@ -648,33 +648,36 @@ fn each_function_answers() {
             "refused 5 room -+0",
         ),
         (
-            "lines::put_content tail 00 7 4 31 1",
+            "lines::put_content tail 00 7 4 - 31 1",
             "ok 31 room EE7B226174223A372C226C656E223A342C226D7367223A227461696C227D0A+0",
         ),
-        ("lines::put_content tail - 7 4 4 1", "ok 31 room EE7B2261+0"),
-        ("lines::put_content tail - 7 4 30 31", "ok 61 room -+30"),
         (
-            "lines::put_content tail - 7 4 1 18446744073709551615",
+            "lines::put_content tail - 7 4 - 4 1",
+            "ok 31 room EE7B2261+0",
+        ),
+        ("lines::put_content tail - 7 4 - 30 31", "ok 61 room -+30"),
+        (
+            "lines::put_content tail - 7 4 - 1 18446744073709551615",
             "ok 18446744073709551615 room -+1",
         ),
         (
-            "lines::put_content link 313230373437 7 16 9 0",
+            "lines::put_content link 313230373437 7 16 - 9 0",
             "ok 55 room 7B226174223A372C22+0",
         ),
         (
-            "lines::put_content press 344543423161 7 9 4 0",
+            "lines::put_content press 344543423161 7 9 - 4 0",
             "refused 5 room -+4",
         ),
-        ("lines::put_content tail 7 4 30 1", "request?"),
+        ("lines::put_content tail - 7 4 30 1", "request?"),
         (
-            "lines::next 1 002345310D 0 31 1",
+            "lines::next 1 002345310D 0 - 31 1",
             "ok 1 4 31 room EE7B226174223A312C226C656E223A342C226D7367223A227461696C227D0A+0",
         ),
-        ("lines::next 1 002345310D 0 30 1", "refused 4 room -+30"),
-        ("lines::next 1 002345310D 0 30 31", "refused 4 room -+30"),
-        ("lines::measure 1 002345310D 0", "ok 1 4 30"),
-        ("lines::measure 1 002345310D 2", "refused 1"),
-        ("lines::measure 1 002345310D 0 31", "request?"),
+        ("lines::next 1 002345310D 0 - 30 1", "refused 4 room -+30"),
+        ("lines::next 1 002345310D 0 - 30 31", "refused 4 room -+30"),
+        ("lines::measure 1 002345310D 0 -", "ok 1 4 30"),
+        ("lines::measure 1 002345310D 2 -", "refused 1"),
+        ("lines::measure 1 002345310D 0 - 31", "request?"),
     ];
     for (request, expected) in cases {
         assert_eq!(asked(request), expected, "{request}");

@@ -12,10 +12,13 @@ pub mod list;
 pub mod messages;
 pub mod numbers;
 pub mod refusal;
+pub mod sheet;
 pub mod words;
 
 #[cfg(test)]
 mod known_points;
+#[cfg(test)]
+mod known_splits;
 #[cfg(test)]
 mod known_verdicts;
 
@@ -29,7 +32,12 @@ pub fn answer_from_c(request: &[u8]) -> Vec<u8> {
     calls::answer_from_c(request)
 }
 
-/// What the listing program prints for its whole standard input.
+/// What the listing program prints for its whole standard input, if there is no sheet beside it.
 pub fn listing(input: &[u8]) -> Vec<u8> {
-    list::listing(input)
+    list::listing(input, None)
+}
+
+/// The same with the text of `sheet.txt`.
+pub fn listing_with(input: &[u8], text: &[u8]) -> Vec<u8> {
+    list::listing_with(input, text)
 }

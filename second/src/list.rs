@@ -3,23 +3,43 @@
 use crate::frames;
 use crate::lines::{self, Value};
 use crate::refusal::Refusal;
+use crate::sheet::{self, Lookup};
 
 /// A digit, LF and the capture, in all.
 pub const MOST_INPUT: usize = 65_536;
 
 /// A line a frame, and a last line with the frames and the bytes in no frame.
-pub fn listing(input: &[u8]) -> Vec<u8> {
+pub fn listing(input: &[u8], by: Option<&dyn Lookup>) -> Vec<u8> {
+    match capture(input) {
+        Ok((kind, capture)) => of_capture(kind, capture, by),
+        Err(refusal) => refused(refusal),
+    }
+}
+
+/// The same with the text of a sheet. A bad one is refused after document 01's two.
+pub fn listing_with(input: &[u8], text: &[u8]) -> Vec<u8> {
+    match capture(input).and_then(|capture| Ok((capture, sheet::open(text)?))) {
+        Ok(((kind, capture), sheet)) => of_capture(kind, capture, Some(&sheet)),
+        Err(refusal) => refused(refusal),
+    }
+}
+
+/// The kind and the capture of an input: 2, 5.
+fn capture(input: &[u8]) -> Result<(u8, &[u8]), Refusal> {
     let kind = match input {
         [digit, b'\n', ..] if frames::known(digit.wrapping_sub(b'0')) => digit - b'0',
-        _ => return refused(Refusal::Kind),
+        _ => return Err(Refusal::Kind),
     };
     if input.len() > MOST_INPUT {
-        return refused(Refusal::Limits);
+        return Err(Refusal::Limits);
     }
-    let capture = &input[2..];
+    Ok((kind, &input[2..]))
+}
+
+fn of_capture(kind: u8, capture: &[u8], by: Option<&dyn Lookup>) -> Vec<u8> {
     let mut lines = Vec::new();
     let (mut place, mut count, mut framed) = (0, 0, 0);
-    while let Ok((found, line)) = lines::next(kind, capture, place as u64) {
+    while let Ok((found, line)) = lines::next(kind, capture, place as u64, by) {
         lines.extend(line);
         place = found.start + found.length;
         count += 1;
@@ -46,7 +66,7 @@ mod tests {
     }
 
     fn last_line(input: &[u8]) -> String {
-        let text = String::from_utf8(listing(input)).expect("a listing is text");
+        let text = String::from_utf8(listing(input, None)).expect("a listing is text");
         text.lines().last().unwrap_or("").to_string()
     }
 

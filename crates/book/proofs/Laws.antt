@@ -9,6 +9,7 @@ pub mod Turns
 pub mod BookLines
 pub mod Listed
 pub mod EntryLines
+pub mod ByText
 pub mod Reading
 pub mod Opening
 pub mod Entries

@@ -1,6 +1,7 @@
 -- What the definition of a book comes to, for a reader.
 -- Assumes nothing.
 use mathlib.Core.List.{List, [], _∷_, _++_, append-assoc}
+use mathlib.Core.Option.{Option, none}
 use mathlib.Core.Path.{_≡_, refl, ap, _∙_, subst}
 use Prim.Native.Nat.{ℕ, _+_, _*_, _≤_, _<_}
 use native.Mathlib.Omega.{arith}
@@ -10,11 +11,14 @@ use Rattle.digits.specs.Paper.Bytes.{part}
 use Rattle.digits.specs.Paper.Part.{Ends, IsPart}
 use Rattle.digits.specs.Paper.Refusals as refusals
 use Rattle.digits.proofs.Laws.Refusals.{answered, cause-at, cause-of, one-first}
+use Rattle.lines.proofs.Laws.Types.{in-types}
 use Rattle.lines.proofs.Theorems.{has-line}
 use Rattle.puts.specs.Paper.Right.{WroteRight, wrote, refused}
 use Rattle.puts.specs.Paper.Wrote.{writtenRefusal, writtenCount}
 use Rattle.puts.specs.declared.Written.{Written}
 use Rattle.puts.proofs.Laws.Right.{written-right, rest-kept}
+use Rattle.sheet.specs.Paper.Map.{sheetIn}
+use Rattle.sheet.specs.Paper.Sheet.{Lookup}
 use Rattle.book.specs.Paper.Answers.{Counts, Opens, EntryOf, LocatesEntry, locationEnds, HandsFrame, EntryLine, WritesEntryLine, BookLines, ListCause, no-book, short, WritesBookLines, Adds, WritesAdded}
 use Rattle.book.specs.Paper.Book.{Entry, head, entryBytes, entries, book, counted, trailer, Within, Book, EntryAt}
 use Rattle.book.specs.declared.Located.{Located}
@@ -125,52 +129,65 @@ module _ {s room later : List ℕ} {es : List Entry} {e : Entry} (r : Written) (
   pub added-opens : (o : Opened) → Opens (take (writtenCount r) later) o → o ≡ Count (length es + 1)
   added-opens o a = opens-count added-book o a ∙ ap Count (length-append es (e ∷ []))
 
--- ---- THE LINES OF A BOOK
+-- ---- THE LINES OF A BOOK, by the sheet that there is
 
 -- every book has lines, and only those
-pub book-lines : {s : List ℕ} {es : List Entry} → Book s es → (t : List ℕ) × BookLines s t
+pub book-lines : {sheet : Option Lookup} {s : List ℕ} {es : List Entry} → Book s es → (t : List ℕ) × BookLines sheet s t
 book-lines = lines.book-lines
 
-pub one-book-lines : {s a b : List ℕ} → BookLines s a → BookLines s b → a ≡ b
+pub one-book-lines : {sheet : Option Lookup} {s a b : List ℕ} → BookLines sheet s a → BookLines sheet s b → a ≡ b
 one-book-lines = lines.one-book-lines
 
 -- every entry has a line
-pub entry-line : {s : List ℕ} {es : List Entry} {number : ℕ} {e : Entry} {at : ℕ} → Book s es → EntryAt es number e at → (l : List ℕ) × EntryLine s number l
+pub entry-line : {sheet : Option Lookup} {s : List ℕ} {es : List Entry} {number : ℕ} {e : Entry} {at : ℕ} → Book s es → EntryAt es number e at
+    → (l : List ℕ) × EntryLine sheet s number l
 entry-line {es = es} {e = e} {at = at} b n =
     let l = has-line at (its.numbered-frame b n) in
     (l .0, record { all = es; valid = b; entry = e; offset = at; numbered = n; line = l .1 })
 
 -- and it stands in the lines of the book
-pub line-in : {s t l : List ℕ} {number : ℕ} → BookLines s t → EntryLine s number l → (x : List ℕ) × (y : List ℕ) × (t ≡ x ++ (l ++ y))
+pub line-in : {sheet : Option Lookup} {s t l : List ℕ} {number : ℕ} → BookLines sheet s t → EntryLine sheet s number l → (x : List ℕ) × (y : List ℕ) × (t ≡ x ++ (l ++ y))
 line-in = lines.line-in
 
 -- WHAT IS WRITTEN ARE THE LINES: where nothing is refused, they stand in the room's front, and the rest is as it was
-pub written-lines : {s room later : List ℕ} (r : Written) → WritesBookLines s room r later → writtenRefusal r ≡ 0 → BookLines s (take (writtenCount r) later)
+pub written-lines : {sheet : Option Lookup} {s room later : List ℕ} (r : Written) → WritesBookLines sheet s room r later → writtenRefusal r ≡ 0
+    → BookLines sheet s (take (writtenCount r) later)
 written-lines r w z = written-right w z
 
-pub behind-lines : {s room later : List ℕ} (r : Written) → WritesBookLines s room r later → drop (writtenCount r) later ≡ drop (writtenCount r) room
+pub behind-lines : {sheet : Option Lookup} {s room later : List ℕ} (r : Written) → WritesBookLines sheet s room r later
+    → drop (writtenCount r) later ≡ drop (writtenCount r) room
 behind-lines r w = rest-kept w
 
-pub written-entry : {s room later : List ℕ} {number : ℕ} (r : Written) → WritesEntryLine s number room r later → writtenRefusal r ≡ 0
-    → EntryLine s number (take (writtenCount r) later)
+pub written-entry : {sheet : Option Lookup} {s room later : List ℕ} {number : ℕ} (r : Written) → WritesEntryLine sheet s number room r later → writtenRefusal r ≡ 0
+    → EntryLine sheet s number (take (writtenCount r) later)
 written-entry r w z = written-right w z
 
-pub behind-entry : {s room later : List ℕ} {number : ℕ} (r : Written) → WritesEntryLine s number room r later
+pub behind-entry : {sheet : Option Lookup} {s room later : List ℕ} {number : ℕ} (r : Written) → WritesEntryLine sheet s number room r later
     → drop (writtenCount r) later ≡ drop (writtenCount r) room
 behind-entry r w = rest-kept w
 
--- ROOM ENOUGH: no lines of a book are longer than this, so a room of that size is never refused
-pub enough : {s room later : List ℕ} {es : List Entry} (r : Written) → Book s es → WritesBookLines s room r later → 8 * length s + 40 * length es ≤ length room
+-- ROOM ENOUGH: a room that no lines of the book are longer than is never refused
+module _ {sheet : Option Lookup} {s room later : List ℕ} {es : List Entry} (r : Written) (b : Book s es) (w : WritesBookLines sheet s room r later) where
+  count : Counts s (length es)
+  count = record { all = es; valid = b; is = refl }
+
+  roomy : ((t : List ℕ) → BookLines sheet s t → length t ≤ length room) → writtenRefusal r ≡ 0
+  roomy most = of w
+    where
+      no-cause : {no : ℕ} → ListCause sheet s (length room) no → ⊥
+      no-cause (no-book f) = f es b
+      no-cause (short {t = t} l g) = omega (arith, most t l)
+
+      of : {no n : ℕ} {later : List ℕ} → WroteRight (ListCause sheet s (length room)) (BookLines sheet s) room no n later → no ≡ 0
+      of (wrote f x) = refl
+      of (refused p f) = absurd (no-cause (cause-at f p))
+
+-- without a sheet
+pub enough : {s room later : List ℕ} {es : List Entry} (r : Written) → Book s es → WritesBookLines none s room r later → 8 * length s + 40 * length es ≤ length room
     → writtenRefusal r ≡ 0
-enough {s} {room} {es = es} r b w h = of w
-  where
-    count : Counts s (length es)
-    count = record { all = es; valid = b; is = refl }
+enough r b w h = roomy r b w (λ t l. omega (arith, lines.book-lines-most (count r b w) l))
 
-    no-cause : {no : ℕ} → ListCause s (length room) no → ⊥
-    no-cause (no-book f) = f es b
-    no-cause (short l g) = omega (arith, lines.book-lines-most count l)
-
-    of : {no n : ℕ} {later : List ℕ} → WroteRight (ListCause s (length room)) (BookLines s) room no n later → no ≡ 0
-    of (wrote f x) = refl
-    of (refused p f) = absurd (no-cause (cause-at f p))
+-- by the sheet that a map is
+pub enough-mapped : (map : List ℕ) {s room later : List ℕ} {es : List Entry} (r : Written) → Book s es → WritesBookLines (sheetIn map) s room r later
+    → 26 * length s ≤ length room → writtenRefusal r ≡ 0
+enough-mapped map r b w h = roomy r b w (λ t l. omega (arith, lines.sheet-lines-most (count r b w) (in-types map) l))

@@ -1,6 +1,7 @@
 -- For each public function: two answers that meet its promise are the same answer, and the rooms afterwards are the same.
 -- Assumes nothing.
 use mathlib.Core.List.{List, [], _∷_, _++_}
+use mathlib.Core.Option.{Option}
 use mathlib.Core.Path.{_≡_, refl, sym, ap, ap₂, _∙_, subst}
 use Prim.Native.Nat.{ℕ, _+_}
 use denote.Ref.{RefT, ptr, now}
@@ -8,16 +9,20 @@ use lib.ListN.{length}
 use Rattle.digits.specs.declared.refusal.Refusal.{Refusal}
 use Rattle.digits.proofs.Laws.Handed.{one-part}
 use Rattle.digits.proofs.Laws.Refusals.{same-answer, one-answer}
+use Rattle.lines.proofs.Laws.ByText.{one-line-by-text}
 use Rattle.lines.proofs.Theorems.{one-line}
 use Rattle.puts.specs.declared.Written.{Written}
 use Rattle.puts.proofs.Laws.Right.{one-wrote}
-use Rattle.book.specs.Paper.Answers.{Counts, openedRefusal, openedCount, Opens, Location, EntryOf, locatedRefusal, locatedValue, LocatesEntry, locationEnds, HandsFrame, EntryLine, WritesEntryLine, WritesBookLines, Adds, WritesAdded}
+use Rattle.sheet.specs.Paper.Sheet.{Lookup}
+use Rattle.book.specs.Paper.Answers.{Counts, openedRefusal, openedCount, Opens, Location, EntryOf, locatedRefusal, locatedValue, LocatesEntry, locationEnds, HandsFrame, Adds, WritesAdded}
+use Rattle.book.specs.Paper.Answers.{EntryLine, WritesEntryLine, EntryLineByText, WritesEntryLineByText, WritesBookLines, WritesBookLinesByText}
 use Rattle.book.specs.Paper.Book.{Entry, head, entryBytes, book, EntryAt}
 use Rattle.book.specs.declared.Located.{Located}
 use Rattle.book.specs.declared.Located.the-variants.{Is, Refused as NotLocated}
 use Rattle.book.specs.declared.Opened.{Opened}
 use Rattle.book.specs.declared.Opened.the-variants.{Count, Refused}
 use Rattle.book.proofs.Laws.BookLines.{one-book-lines}
+use Rattle.book.proofs.Laws.ByText.{the-line-by-text, one-lines-by-text}
 use Rattle.book.proofs.Laws.EntryLines.{the-line}
 use Rattle.book.proofs.Laws.One.{one-book, one-numbered}
 
@@ -69,19 +74,36 @@ entry-one r q a b = let e = one-answer told-one a b in located-answer r q (e .0)
 pub frame-one : {s : RefT (List ℕ)} {number : ℕ} (p q : RefT (List ℕ)) → HandsFrame s number p → HandsFrame s number q → (ptr p ≡ ptr q) × (now p ≡ now q)
 frame-one p q = one-part (λ d e x y. x .2 ∙ ap locationEnds (told-one (x .0) (y .0) (x .1) (y .1)) ∙ sym (y .2))
 
--- ---- book::line
+-- ---- book::line, book::line_mapped
 
-pub entry-line-one : {s : List ℕ} {number : ℕ} (t u : List ℕ) → EntryLine s number t → EntryLine s number u → t ≡ u
+pub entry-line-one : {sheet : Option Lookup} {s : List ℕ} {number : ℕ} (t u : List ℕ) → EntryLine sheet s number t → EntryLine sheet s number u → t ≡ u
 entry-line-one t u a b = one-line t u (the-line (b .valid) (b .numbered) a) (b .line)
 
-pub line-one : {s : List ℕ} {number : ℕ} {room later end : List ℕ} (r q : Written) → WritesEntryLine s number room r later → WritesEntryLine s number room q end
-    → (r ≡ q) × (later ≡ end)
+pub line-one : {sheet : Option Lookup} {s : List ℕ} {number : ℕ} {room later end : List ℕ} (r q : Written) → WritesEntryLine sheet s number room r later
+    → WritesEntryLine sheet s number room q end → (r ≡ q) × (later ≡ end)
 line-one r q a b = one-wrote entry-line-one a b
 
--- ---- book::list
+-- ---- book::line_with
 
-pub list-one : {s room later end : List ℕ} (r q : Written) → WritesBookLines s room r later → WritesBookLines s room q end → (r ≡ q) × (later ≡ end)
+pub entry-line-by-text-one : {s : List ℕ} {number : ℕ} {text : List ℕ} (t u : List ℕ) → EntryLineByText s number text t → EntryLineByText s number text u → t ≡ u
+entry-line-by-text-one t u a b =
+    let l = b .line in
+    one-line-by-text t u (the-line-by-text (l .valid) (l .numbered) a) (record { rows = b .rows; is = b .is; line = l .line })
+
+pub line-with-one : {s : List ℕ} {number : ℕ} {text room later end : List ℕ} (r q : Written) → WritesEntryLineByText s number text room r later
+    → WritesEntryLineByText s number text room q end → (r ≡ q) × (later ≡ end)
+line-with-one r q a b = one-wrote entry-line-by-text-one a b
+
+-- ---- book::list, book::list_mapped
+
+pub list-one : {sheet : Option Lookup} {s room later end : List ℕ} (r q : Written) → WritesBookLines sheet s room r later → WritesBookLines sheet s room q end → (r ≡ q) × (later ≡ end)
 list-one r q a b = one-wrote (λ t u x y. one-book-lines x y) a b
+
+-- ---- book::list_with
+
+pub list-with-one : {s text room later end : List ℕ} (r q : Written) → WritesBookLinesByText s text room r later → WritesBookLinesByText s text room q end
+    → (r ≡ q) × (later ≡ end)
+list-with-one r q a b = one-wrote one-lines-by-text a b
 
 -- ---- book::add
 

@@ -21,7 +21,20 @@ fn write(function: u64, x: u64, first: &[u8], s: &[u8], room: &mut [u8]) -> Writ
         1204 => book::line(s, x as usize, room),
         1205 => book::list(s, room),
         1206 => book::add(first, (x % 256) as u8, s, room),
-        _ => list::write(s, room),
+        1301 => list::write(s, room),
+        _ => by_sheet(function, x as usize, first, s, room),
+    }
+}
+
+// By a sheet or by a map.
+fn by_sheet(function: u64, number: usize, first: &[u8], sheet: &[u8], room: &mut [u8]) -> Written {
+    match function {
+        1207 => book::line_with(first, number, sheet, room),
+        1208 => book::line_mapped(first, number, sheet, room),
+        1209 => book::list_with(first, sheet, room),
+        1210 => book::list_mapped(first, sheet, room),
+        1302 => list::write_with(first, sheet, room),
+        _ => list::write_mapped(first, sheet, room),
     }
 }
 

@@ -10,17 +10,19 @@ use puts::Written;
 pub(crate) fn call(
     function: u64,
     values: &[u64; 8],
-    six: &[u8],
+    first: &[u8],
     s: &[u8],
     room: &mut [u8],
 ) -> Answer {
     let kind = (values[0] % 256) as u8;
     let place = values[1] as usize;
     match function {
-        1102 => listed(lines::next(kind, s, place, room, values[2] as usize)),
-        1103 => measured(lines::measure(kind, s, place)),
-        1105 => ended(put_content(values, s, room)),
-        _ => written(write(function, values, six, s, room)),
+        1102 => listed(lines::next(kind, first, place, s, room, values[2] as usize)),
+        1103 => measured(lines::measure(kind, first, place, s)),
+        1105 => ended(put_content(values, first, s, room)),
+        1106 => written(lines::write_with(kind, first, place, s, room)),
+        1107 => written(lines::write_mapped(kind, first, place, s, room)),
+        _ => written(write(function, values, first, s, room)),
     }
 }
 
@@ -38,11 +40,11 @@ fn write(function: u64, values: &[u64; 8], six: &[u8], s: &[u8], room: &mut [u8]
     }
 }
 
-fn put_content(values: &[u64; 8], s: &[u8], room: &mut [u8]) -> Ended {
+fn put_content(values: &[u64; 8], payload: &[u8], map: &[u8], room: &mut [u8]) -> Ended {
     let at = values[5] as usize;
     let len = values[6] as usize;
     let to = values[7] as usize;
-    lines::put_content(message::tag(values), s, at, len, room, to)
+    lines::put_content(message::tag(values), payload, at, len, map, room, to)
 }
 
 pub(crate) fn written(r: Written) -> Answer {

@@ -1,5 +1,5 @@
 // The functions: a row each, with its name, its number and the types of its parameters. The numbers of a library's functions begin with the
-// library's own, and by its number the program that has a function knows it. There are four tables, since one of all rows would take long
+// library's own, and by its number the program that has a function knows it. There are five tables, since one of all rows would take long
 // to look through.
 use super::request;
 use super::table;
@@ -9,12 +9,13 @@ pub(crate) fn read(line: &[u8], words: &mut [u64; 14], store: &mut [u8]) {
     let n = table::until(line, b':');
     let library = table::number(
         &line[0..n],
-        b"digits\nchecks\nputs\njson\nnumbers\nlayouts\nbuilds\nframes\nmessages\ncommands\nlines\nbook\nlist\n",
+        b"digits\nchecks\nputs\njson\nnumbers\nlayouts\nbuilds\nframes\nmessages\ncommands\nlines\nbook\nlist\nsheet\n",
     );
     match library {
         1..=5 => of_values(line, words, store),
         6..=8 => of_frames(line, words, store),
         9..=11 => of_messages(line, words, store),
+        14 => of_sheets(line, words, store),
         _ => of_books(line, words, store),
     }
 }
@@ -35,6 +36,7 @@ fn of_values(line: &[u8], words: &mut [u64; 14], store: &mut [u8]) {
         digits::low_first::number_of 112 bytes\n\
         digits::slices::same 113 bytes bytes\n\
         digits::refusal::number 114 Refusal\n\
+        digits::low_first::eight 115 u64\n\
         checks::nikobus::Crc16::rule 201\n\
         checks::nikobus::Crc8::rule 202\n\
         checks::nest::Crc::rule 203\n\
@@ -114,10 +116,12 @@ fn of_messages(line: &[u8], words: &mut [u64; 14], store: &mut [u8]) {
         commands::encode 1001 u8 Message bytes room\n\
         commands::acknowledge 1002 bytes room\n\
         lines::write 1101 u8 bytes usize room\n\
-        lines::next 1102 u8 bytes usize room usize\n\
-        lines::measure 1103 u8 bytes usize\n\
+        lines::next 1102 u8 bytes usize bytes room usize\n\
+        lines::measure 1103 u8 bytes usize bytes\n\
         lines::of 1104 Message bytes usize usize room usize\n\
-        lines::put_content 1105 Tag bytes usize usize room usize\n";
+        lines::put_content 1105 Tag bytes usize usize bytes room usize\n\
+        lines::write_with 1106 u8 bytes usize bytes room\n\
+        lines::write_mapped 1107 u8 bytes usize bytes room\n";
     request::read(rows, line, words, store)
 }
 
@@ -129,6 +133,26 @@ fn of_books(line: &[u8], words: &mut [u64; 14], store: &mut [u8]) {
         book::line 1204 bytes usize room\n\
         book::list 1205 bytes room\n\
         book::add 1206 bytes u8 bytes room\n\
-        list::write 1301 bytes room\n";
+        book::line_with 1207 bytes usize bytes room\n\
+        book::line_mapped 1208 bytes usize bytes room\n\
+        book::list_with 1209 bytes bytes room\n\
+        book::list_mapped 1210 bytes bytes room\n\
+        list::write 1301 bytes room\n\
+        list::write_with 1302 bytes bytes room\n\
+        list::write_mapped 1303 bytes bytes room\n";
+    request::read(rows, line, words, store)
+}
+
+fn of_sheets(line: &[u8], words: &mut [u64; 14], store: &mut [u8]) {
+    let rows = b"\
+        sheet::open 1401 bytes\n\
+        sheet::fault 1402 bytes\n\
+        sheet::type_of 1403 bytes u16\n\
+        sheet::split 1404 u8 bytes bytes room\n\
+        sheet::join 1405 u8 bytes bytes room\n\
+        sheet::map 1406 bytes room\n\
+        sheet::type_in 1407 bytes u16\n\
+        sheet::splits 1408 bytes bytes\n\
+        sheet::unsolicited 1409 u8\n";
     request::read(rows, line, words, store)
 }

@@ -28,6 +28,7 @@ pub(crate) fn call(
         109 => answer::bytes(&low_first::one(value::small(x)), room),
         110 => answer::bytes(&low_first::two(value::word(x)), room),
         111 => answer::bytes(&low_first::four(value::long(x)), room),
+        115 => answer::bytes(&low_first::eight(x), room),
         _ => in_words(function, x, y, first, s),
     }
 }

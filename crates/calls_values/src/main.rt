@@ -1,10 +1,11 @@
-// Answers the records that ask for a function of `digits`, `checks`, `puts`, `json` or `numbers`, and passes all records on.
+// Answers the records that ask for a function of `digits`, `checks`, `puts`, `json`, `numbers` or `sheet`, and passes all records on.
 // crates/calls_read/src/request.rt says what a record is.
 mod answer;
 mod check_calls;
 mod digit_calls;
 mod number_calls;
 mod put_calls;
+mod sheet_calls;
 mod value;
 
 use answer::Answer;
@@ -51,10 +52,7 @@ fn answered(record: &mut [u8], room: &mut [u8]) {
     let split = number(record, 10) as usize;
     let end = number(record, 11) as usize;
     let lent = number(record, 12) as usize;
-    if function < 100 {
-        return;
-    }
-    if 599 < function {
+    if !asked(function) {
         return;
     }
     if room.len() < lent {
@@ -76,12 +74,21 @@ fn answered(record: &mut [u8], room: &mut [u8]) {
     put(r[3], record, c);
 }
 
+// Whether the function is of a library that this program has.
+fn asked(function: u64) -> bool {
+    match function / 100 {
+        1..=5 | 14 => true,
+        _ => false,
+    }
+}
+
 fn call(function: u64, x: u64, y: u64, z: u64, first: &[u8], s: &[u8], room: &mut [u8]) -> Answer {
     match function / 100 {
         1 => digit_calls::call(function, x, y, first, s, room),
         2 => check_calls::call(function, value::small(x), first, s),
         3 | 4 => put_calls::call(function, x, y, z, s, room),
-        _ => number_calls::call(function, x, y, z, s, room),
+        5 => number_calls::call(function, x, y, z, s, room),
+        _ => sheet_calls::call(function, x, first, s, room),
     }
 }
 

@@ -1,6 +1,6 @@
 // Answers as lines. An answer's form is a row of the tables below, and in it a mark stands for each value, in the order of the record:
 // `#` for a number, `~` for a signed one, as the bits of the float that it is, `?` for `true` (1) or `false`. `&` stands for the six
-// bytes that a number is, low byte first, `!` for a test of a frame, and `%` for that many bytes of the room.
+// bytes that a number is, low byte first, `!` for a test of a frame, `$` for one of a sheet, and `%` for that many bytes of the room.
 use super::float;
 use super::number;
 use super::part;
@@ -13,7 +13,7 @@ pub(crate) fn line(record: &[u8], room: &[u8], out: &mut [u8]) -> usize {
     if form == 0 {
         return puts::bytes(b"request?\n", out, 0);
     }
-    if 93 < form {
+    if 94 < form {
         return puts::bytes(b"request?\n", out, 0);
     }
     let said = say(form, record, room, out);
@@ -28,7 +28,7 @@ struct Spelt {
 }
 
 // Forms 1 to 22 are rows of this table. Of the next 23 each is a message, of the 23 behind them a message and two numbers, and of the 23
-// behind those four numbers and a message. The last two are verdicts.
+// behind those four numbers and a message. The last three are verdicts.
 fn say(form: u64, record: &[u8], room: &[u8], out: &mut [u8]) -> usize {
     let rows = b"\
         refused #;              ok;                     ok #;                   ok # #;                 \
@@ -36,7 +36,7 @@ fn say(form: u64, record: &[u8], room: &[u8], out: &mut [u8]) -> usize {
         ok false;               ok ~;                   ok ~ #;                 ok single ~;            \
         ok double ~;            ok single ~ single ~;   ok # # # high;          ok # # # low;           \
         ok nikobus;             ok nest-command;        ok nest-response;       ok nibe;                \
-        ok homiq;               ;                       ";
+        ok homiq;               ok # ? #;               ";
     let start = Spelt { at: 0, word: 1 };
     if form < 23 {
         return spell(row(rows, form), record, room, out, start).at;
@@ -53,10 +53,10 @@ fn say(form: u64, record: &[u8], room: &[u8], out: &mut [u8]) -> usize {
     verdict(form - 91, record, room, out)
 }
 
-// The test that failed and its values, alone or behind the three places of a frame.
+// The test that failed and its values, alone or behind the three places of a frame; a line of a sheet, and the test that failed.
 fn verdict(n: u64, record: &[u8], room: &[u8], out: &mut [u8]) -> usize {
     let rows = b"\
-        ok ! # #;               ok # # # ! # #;         ";
+        ok ! # #;               ok # # # ! # #;         ok # $;                 ";
     let start = Spelt { at: 0, word: 1 };
     spell(row(rows, n), record, room, out, start).at
 }
@@ -132,7 +132,7 @@ fn behind(c: u8, word: usize) -> usize {
         return word;
     }
     match c {
-        b'#' | b'~' | b'?' | b'&' | b'!' | b'%' => word + 1,
+        b'#' | b'~' | b'?' | b'&' | b'!' | b'$' | b'%' => word + 1,
         _ => word,
     }
 }
@@ -145,6 +145,7 @@ fn value(c: u8, n: u64, room: &[u8], out: &mut [u8], at: usize) -> usize {
         b'?' => truth(n, out, at),
         b'&' => six(n, out, at),
         b'!' => test(n, out, at),
+        b'$' => sheet_test(n, out, at),
         b'%' => bytes(part(room, 0, n as usize), out, at),
         _ => puts::byte(c, out, at),
     }
@@ -166,6 +167,20 @@ fn test(n: u64, out: &mut [u8], at: usize) -> usize {
         3 => puts::bytes(b"fields", out, at),
         4 => puts::bytes(b"first", out, at),
         _ => puts::bytes(b"second", out, at),
+    }
+}
+
+// The name of a sheet's test, by its place in the list of them.
+fn sheet_test(n: u64, out: &mut [u8], at: usize) -> usize {
+    match n {
+        0 => puts::bytes(b"none", out, at),
+        1 => puts::bytes(b"form", out, at),
+        2 => puts::bytes(b"register", out, at),
+        3 => puts::bytes(b"type", out, at),
+        4 => puts::bytes(b"decimals", out, at),
+        5 => puts::bytes(b"not-rising", out, at),
+        6 => puts::bytes(b"over-500", out, at),
+        _ => puts::bytes(b"no-last-LF", out, at),
     }
 }
 

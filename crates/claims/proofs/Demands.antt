@@ -34,7 +34,7 @@ use Rattle.messages.proofs.Laws.Decode.{is-frame}
 use Rattle.messages.proofs.Theorems.{has-message, one-message-of, stands-bytes}
 use Rattle.commands.specs.Paper.Answers.{Encodes}
 use Rattle.commands.proofs.Theorems.{same-bytes, encoded-decodes}
-use Rattle.lines.proofs.Theorems.{has-line, one-line, same-frame, written-line}
+use Rattle.lines.proofs.Theorems.{plain-line, has-line, one-line, same-frame, written-line}
 use Rattle.book.proofs.Theorems.{written-entry, written-lines}
 use Rattle.list.proofs.Theorems.{written-listing, its-length, adds-up, in-no-frame}
 use Rattle.claims.specs.Paper.Functions.{functions}
@@ -146,6 +146,7 @@ demand-2 =
       a-frame = is-frame;
       its-bytes = stands-bytes;
       decoded = decoded;
+      no-sheet = plain-line;
       a-line = has-line;
       one-line = one-line;
       of-one-frame = same-frame;
@@ -154,6 +155,8 @@ demand-2 =
       entry-line-written = written-entry;
       book-lines-written = written-lines;
       listing-written = written-listing;
+      listing-by-map = λ map. written-listing;
+      listing-by-text = λ text. written-listing;
       listed-length = its-length;
       listed-all = adds-up;
       skipped = in-no-frame;

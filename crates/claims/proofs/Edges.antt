@@ -67,6 +67,7 @@ use Rattle.list.specs.Paper.Listing.{Input, mostInput, refusedWith, lastLine, t
 use Rattle.list.proofs.Laws.Sizes.{refused-size}
 use Rattle.list.proofs.Laws.Some.{some-lists}
 use Rattle.list.proofs.Laws.Written.{last-line}
+use Rattle.list.proofs.Laws.One.{one-none}
 use Rattle.list.proofs.Theorems.{one-listing}
 use Rattle.book.specs.Paper.Book.{Entry, entries, book, Framed, none as no-entries, also, mostEntries, mostBytes, Within, EntryAt}
 use Rattle.book.proofs.Laws.Entries.{has-entry}
@@ -394,8 +395,8 @@ whole-size n = omega (arith, length-replicate {A = ℕ} n 0)
 short-enough : (n : ℕ) → n + 2 ≤ mostInput → Listed (wholeInput n)
 short-enough n h =
     let i = of-kind-1 n in
-    let l = some-lists (i .kind) (i .capture) (i .is-kind) in
-    record { text = l .0; listing = listed i (omega (arith, h, whole-size n)) (l .1); input = i; lists = l .1 }
+    let l = some-lists none (i .kind) (i .capture) (i .is-kind) in
+    record { text = l .0; listing = listed refl i (omega (arith, h, whole-size n)) (l .1); input = i; lists = l .1 }
 
 -- the last line is longer than a refusal
 last-long : (n m : ℕ) → 23 ≤ length (lastLine n m)
@@ -412,7 +413,7 @@ too-many n h r =
     let l = r .lists in
     let count = length (l .frames) in
     let skipped = length (r .input .capture) - inside (l .frames) in
-    let e : r .text ≡ refusedWith 5 = one-listing (r .listing) (too-long (of-kind-1 n) (omega (arith, h, whole-size n))) in
+    let e : r .text ≡ refusedWith 5 = one-listing one-none (r .listing) (too-long (of-kind-1 n) (omega (arith, h, whole-size n))) in
     omega (
       arith,
       ap length (sym e ∙ l .is),

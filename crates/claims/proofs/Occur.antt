@@ -3,6 +3,7 @@
 use mathlib.Core.Bool.{Bool, true, false, not}
 use mathlib.Core.List.{List, [], _∷_, _++_}
 use mathlib.Core.Logic.{_⊎_, inl, inr}
+use mathlib.Core.Option.{Option, none, some as the}
 use mathlib.Core.Path.{_≡_, refl, sym, ap, _∙_, subst}
 use Prim.Native.Nat.{ℕ, zero, suc, _+_, _≤_, _<_, _/_, _%_, _^_}
 use native.Mathlib.Omega.{arith}
@@ -53,16 +54,18 @@ use Rattle.messages.specs.declared.nibe.Nibe.the-variants.{Put}
 use Rattle.messages.proofs.Known as messages-known
 use Rattle.commands.specs.Paper.Answers.{EncodeCause, MessageCause}
 use Rattle.json.specs.Paper.Json.{object}
-use Rattle.lines.specs.Paper.Line.{line}
-use Rattle.lines.specs.Paper.Answers.{LineOf, LineCause, SaidCause, NextCause}
+use Rattle.lines.specs.Paper.WithSheet.{lineWith}
+use Rattle.lines.specs.Paper.Answers.{LineOf, LineCause, LineByTextCause, SaidCause, NextCause}
 use Rattle.lines.proofs.Theorems.{has-line, has-line-said}
-use Rattle.book.specs.Paper.Answers.{NoValidBook, OpenCause, EntryCause, EntryLine, EntryLineCause, BookLines, ListCause, AddCause}
+use Rattle.book.specs.Paper.Answers.{NoValidBook, OpenCause, EntryCause, EntryLine, EntryLineCause, EntryLineByTextCause, BookLines, ListCause, ListByTextCause, AddCause}
 use Rattle.book.specs.Paper.Book.{Entry, Book, Within, book}
 use Rattle.book.proofs.Laws.Layout.{length-book}
 use Rattle.book.proofs.Theorems.{has-entry, entry-line, book-lines, line-in, last-added, a-book}
 use Rattle.book.proofs.Known as book-known
 use Rattle.list.proofs.Known as list-known
 use Rattle.sheet.specs.Paper.Answers as sheet
+use Rattle.sheet.specs.Paper.Map.{sheetIn}
+use Rattle.sheet.specs.Paper.Sheet.{Lookup, find as listed-in}
 use Rattle.sheet.proofs.Known as sheet-known
 use Rattle.claims.specs.Paper.Causes as causes
 use Rattle.host.specs.Paper.Answers.{flag}
@@ -353,12 +356,12 @@ acknowledge = (
 abbrev reset : List ℕ
 reset = 0xD5 ∷ 0xAA ∷ 0x96 ∷ 0xFF ∷ 0x00 ∷ 0x00 ∷ 0x00 ∷ 0xA3 ∷ 0x4B ∷ []
 
-reset-line : (t : List ℕ) × LineOf 2 reset 0 t
+reset-line : {sheet : Option Lookup} → (t : List ℕ) × LineOf sheet 2 reset 0 t
 reset-line = has-line 0 (messages-known.c .frame)
 
 -- no line is empty
-some-line : {k at : ℕ} {f t : List ℕ} → LineOf k f at t → 0 < length t
-unfolding line object
+some-line : {sheet : Option Lookup} {k at : ℕ} {f t : List ℕ} → LineOf sheet k f at t → 0 < length t
+unfolding lineWith object
 some-line l = subst (λ (t : List ℕ). 0 < length t) (sym (l .is)) (omega arith)
 
 pub write : Occur (lines.write .Cause) (lines.write .refusals)
@@ -370,34 +373,61 @@ write = (
   ),
 )
 
+pub write-mapped : Occur (lines.write-mapped .Cause) (lines.write-mapped .refusals)
+write-mapped = (
+  (record { kind = 0; frame = []; at = 0; map = []; room = [] }, LineCause.no-kind unknown),
+  (
+    (record { kind = 1; frame = []; at = 0; map = []; room = [] }, LineCause.no-frame no-frame),
+    ((record { kind = 2; frame = reset; at = 0; map = []; room = [] }, LineCause.short (reset-line .1) (some-line (reset-line .1))), tt),
+  ),
+)
+
+pub write-with : Occur (lines.write-with .Cause) (lines.write-with .refusals)
+write-with = (
+  (record { kind = 0; frame = []; at = 0; text = []; room = [] }, LineByTextCause.no-kind unknown),
+  (
+    (record { kind = 1; frame = []; at = 0; text = []; room = [] }, LineByTextCause.no-frame no-frame),
+    (
+      (record { kind = 1; frame = []; at = 0; text = ascii "x"; room = [] }, LineByTextCause.bad-sheet sheet-known.no-sheet),
+      (
+        (
+          record { kind = 2; frame = reset; at = 0; text = []; room = [] },
+          LineByTextCause.short (record { rows = []; is = sheet-known.empty; line = reset-line .1 }) (some-line (reset-line .1)),
+        ),
+        tt,
+      ),
+    ),
+  ),
+)
+
 -- the reset frame in a capture, and its line
 reset-found : Leftmost 2 reset 0 (record { start = 0; len = 9; from = 7; to = 7 })
 reset-found = leftmost (subst (Searches 2 reset 0) frames-known.c (an-answer 2 reset 0))
 
 pub next : Occur (lines.next .Cause) (lines.next .refusals)
 next = (
-  (record { kind = 0; capture = []; place = 0; room = []; to = 0 }, NextCause.searched (unsearched .0)),
+  (record { kind = 0; capture = []; place = 0; map = []; room = []; to = 0 }, NextCause.searched (unsearched .0)),
   (
-    (record { kind = 1; capture = []; place = 1; room = []; to = 0 }, NextCause.searched (unsearched .1)),
+    (record { kind = 1; capture = []; place = 1; map = []; room = []; to = 0 }, NextCause.searched (unsearched .1)),
     (
       (
-        record { kind = 2; capture = reset; place = 0; room = []; to = 0 },
+        record { kind = 2; capture = reset; place = 0; map = []; room = []; to = 0 },
         NextCause.short reset-found (reset-line .1)
             (some-line (reset-line .1)),
       ),
-      ((record { kind = 4; capture = 0xC0 ∷ []; place = 1; room = []; to = 0 }, NextCause.searched (unsearched .2)), tt),
+      ((record { kind = 4; capture = 0xC0 ∷ []; place = 1; map = []; room = []; to = 0 }, NextCause.searched (unsearched .2)), tt),
     ),
   ),
 )
 
 pub measure : Occur (lines.measure .Cause) (lines.measure .refusals)
 measure = (
-  (record { kind = 0; capture = []; place = 0 }, unsearched .0),
-  ((record { kind = 1; capture = []; place = 1 }, unsearched .1), ((record { kind = 4; capture = 0xC0 ∷ []; place = 1 }, unsearched .2), tt)),
+  (record { kind = 0; capture = []; place = 0; map = [] }, unsearched .0),
+  ((record { kind = 1; capture = []; place = 1; map = [] }, unsearched .1), ((record { kind = 4; capture = 0xC0 ∷ []; place = 1; map = [] }, unsearched .2), tt)),
 )
 
 pub of-message : Occur (lines.of .Cause) (lines.of .refusals)
-unfolding line object
+unfolding lineWith object
 of-message = (
   (record { message = coded.Homiq Beat; content = []; at = 0; len = 0; room = []; to = 0 }, SaidCause.no-message (λ m g s. no-payload (s .payload))),
   (
@@ -411,7 +441,7 @@ of-message = (
 
 pub put-content : Occur (lines.put-content .Cause) (lines.put-content .refusals)
 put-content = (
-  (record { tag = tags.Homiq; payload = []; at = 0; len = 0; room = []; to = 0 }, MeantCause.no-message (λ m g w. no-payload (w .payload))),
+  (record { tag = tags.Homiq; payload = []; at = 0; len = 0; map = []; room = []; to = 0 }, MeantCause.no-message (λ m g w. no-payload (w .payload))),
   tt,
 )
 
@@ -424,11 +454,18 @@ no-book es b = let none : 0 ≡ length (book es) = ap length (b .is) in omega (a
 abbrev empty : List ℕ
 empty = 0x00 ∷ 0x00 ∷ 0x06 ∷ 0x00 ∷ 0x00 ∷ 0x00 ∷ []
 
-first-line : {s : List ℕ} {es : List Entry} → Book s es → 0 < length es → (t : List ℕ) × EntryLine s 0 t
+first-line : {sheet : Option Lookup} {s : List ℕ} {es : List Entry} → Book s es → 0 < length es → (t : List ℕ) × EntryLine sheet s 0 t
 first-line {es = es} b h = let n = has-entry es 0 h in entry-line b (n .1 .1)
 
-reset-entry : (t : List ℕ) × EntryLine book-known.resetBook 0 t
-reset-entry = first-line book-known.reset-alone (lit< tt)
+reset-entry : (sheet : Option Lookup) → (t : List ℕ) × EntryLine sheet book-known.resetBook 0 t
+reset-entry sheet = first-line book-known.reset-alone (lit< tt)
+
+some-lines : {sheet : Option Lookup} {t : List ℕ} → BookLines sheet book-known.resetBook t → 0 < length t
+some-lines {sheet} {t} l =
+    let e = reset-entry sheet in
+    let at = line-in l (e .1) in
+    let size : length t ≡ length (at .0 ++ (e .0 ++ at .1)) = ap length (at .2) in
+    omega (arith, size, length-append (at .0) (e .0 ++ at .1), length-append (e .0) (at .1), some-line (e .1 .line))
 
 pub opening : Occur (books.opening .Cause) (books.opening .refusals)
 opening = ((record { book = [] }, OpenCause.no-book no-book), tt)
@@ -446,20 +483,43 @@ book-frame = (
 )
 
 pub entry-line-of : Occur (books.line .Cause) (books.line .refusals)
-entry-line-of = (
-  (record { book = []; number = 0; room = [] }, EntryLineCause.no-book no-book),
-  (
-    (record { book = empty; number = 0; room = [] }, EntryLineCause.no-entry book-known.k (lit≤ tt)),
-    (
+entry-line-of =
+    let e = reset-entry none in (
+      (record { book = []; number = 0; room = [] }, EntryLineCause.no-book no-book),
       (
-        record { book = book-known.resetBook; number = 0; room = [] },
-        EntryLineCause.short (reset-entry .1)
-            (some-line (reset-entry .1 .line)),
+        (record { book = empty; number = 0; room = [] }, EntryLineCause.no-entry book-known.k (lit≤ tt)),
+        ((record { book = book-known.resetBook; number = 0; room = [] }, EntryLineCause.short (e .1) (some-line (e .1 .line))), tt),
       ),
-      tt,
-    ),
-  ),
-)
+    )
+
+pub entry-line-mapped : Occur (books.line-mapped .Cause) (books.line-mapped .refusals)
+entry-line-mapped =
+    let e = reset-entry (sheetIn []) in (
+      (record { book = []; number = 0; map = []; room = [] }, EntryLineCause.no-book no-book),
+      (
+        (record { book = empty; number = 0; map = []; room = [] }, EntryLineCause.no-entry book-known.k (lit≤ tt)),
+        ((record { book = book-known.resetBook; number = 0; map = []; room = [] }, EntryLineCause.short (e .1) (some-line (e .1 .line))), tt),
+      ),
+    )
+
+pub entry-line-with : Occur (books.line-with .Cause) (books.line-with .refusals)
+entry-line-with =
+    let e = reset-entry (the (listed-in [])) in (
+      (record { book = []; number = 0; text = []; room = [] }, EntryLineByTextCause.no-book no-book),
+      (
+        (record { book = empty; number = 0; text = []; room = [] }, EntryLineByTextCause.no-entry book-known.k (lit≤ tt)),
+        (
+          (record { book = []; number = 0; text = ascii "x"; room = [] }, EntryLineByTextCause.bad-sheet sheet-known.no-sheet),
+          (
+            (
+              record { book = book-known.resetBook; number = 0; text = []; room = [] },
+              EntryLineByTextCause.short (record { rows = []; is = sheet-known.empty; line = e .1 }) (some-line (e .1 .line)),
+            ),
+            tt,
+          ),
+        ),
+      ),
+    )
 
 pub list : Occur (books.list .Cause) (books.list .refusals)
 list =
@@ -467,19 +527,29 @@ list =
       (record { book = []; room = [] }, ListCause.no-book no-book),
       ((record { book = book-known.resetBook; room = [] }, ListCause.short (all .1) (some-lines (all .1))), tt),
     )
-  where
-    some-lines : {t : List ℕ} → BookLines book-known.resetBook t → 0 < length t
-    some-lines {t} l =
-        let at = line-in l (reset-entry .1) in
-        let size : length t ≡ length (at .0 ++ (reset-entry .0 ++ at .1)) = ap length (at .2) in
-        omega (
-          arith,
-          size,
-          length-append (at .0) (reset-entry .0 ++ at .1),
-          length-append (reset-entry .0) (at .1),
-          some-line
-              (reset-entry .1 .line),
-        )
+
+pub list-mapped : Occur (books.list-mapped .Cause) (books.list-mapped .refusals)
+list-mapped =
+    let all = book-lines book-known.reset-alone in (
+      (record { book = []; map = []; room = [] }, ListCause.no-book no-book),
+      ((record { book = book-known.resetBook; map = []; room = [] }, ListCause.short (all .1) (some-lines (all .1))), tt),
+    )
+
+pub list-with : Occur (books.list-with .Cause) (books.list-with .refusals)
+list-with =
+    let all = book-lines book-known.reset-alone in (
+      (record { book = []; text = []; room = [] }, ListByTextCause.no-book no-book),
+      (
+        (record { book = []; text = ascii "x"; room = [] }, ListByTextCause.bad-sheet sheet-known.no-sheet),
+        (
+          (
+            record { book = book-known.resetBook; text = []; room = [] },
+            ListByTextCause.short (record { rows = []; is = sheet-known.empty; lines = all .1 }) (some-lines (all .1)),
+          ),
+          tt,
+        ),
+      ),
+    )
 
 pub add : Occur (books.add .Cause) (books.add .refusals)
 add = (
@@ -503,6 +573,12 @@ add = (
 
 pub listing : Occur (lists.write .Cause) (lists.write .refusals)
 listing = ((record { input = []; room = [] }, causes.short list-known.no-bytes (lit< tt)), tt)
+
+pub listing-mapped : Occur (lists.write-mapped .Cause) (lists.write-mapped .refusals)
+listing-mapped = ((record { input = []; map = []; room = [] }, causes.short list-known.no-bytes (lit< tt)), tt)
+
+pub listing-with : Occur (lists.write-with .Cause) (lists.write-with .refusals)
+listing-with = ((record { input = []; text = []; room = [] }, causes.short list-known.no-bytes (lit< tt)), tt)
 
 -- ---- sheet
 
@@ -617,18 +693,48 @@ host-climate = ((record { temperature = pos 32768; humidity = 0 }, ClimateCause.
 pub host-line : Occur (host.line .Cause) (host.line .refusals)
 host-line = as-called lines.write host.line (λ a. record { kind = a .kind; frame = a .frame; at = a .at; room = a .room }) (λ a n c. c) write
 
+pub host-line-with : Occur (host.line-with .Cause) (host.line-with .refusals)
+host-line-with =
+    as-called lines.write-mapped host.line-with (λ a. record { kind = a .kind; frame = a .frame; at = a .at; map = a .map; room = a .room }) (λ a n c. c)
+    write-mapped
+
 -- what is left of a room is a room
+pub host-line-next-with : Occur (host.line-next-with .Cause) (host.line-next-with .refusals)
+host-line-next-with =
+    as-called lines.next host.line-next-with
+    (λ a. record { kind = a .kind; capture = a .capture; place = a .place; map = a .map; room = drop (a .to) (a .room) })
+    (λ a n c. subst (λ (left : ℕ). NextCause (sheetIn (a .map)) (a .kind) (a .capture) (a .place) left n) (sym (length-drop (a .to) (a .room))) c) next
+
+pub host-next-mapped : Occur (host.next-mapped .Cause) (host.next-mapped .refusals)
+host-next-mapped =
+    as-called lines.next host.next-mapped
+    (λ a. record { kind = a .kind; capture = a .capture; place = a .place; map = a .map; room = drop (a .to) (a .room) })
+    (λ a n c. subst (λ (left : ℕ). NextCause (sheetIn (a .map)) (a .kind) (a .capture) (a .place) left n) (sym (length-drop (a .to) (a .room))) c) next
+
 pub host-line-next : Occur (host.line-next .Cause) (host.line-next .refusals)
-host-line-next =
-    as-called lines.next host.line-next
-    (λ a. record { kind = a .kind; capture = a .capture; place = a .place; room = drop (a .to) (a .room) })
-    (λ a n c. subst (λ (left : ℕ). NextCause (a .kind) (a .capture) (a .place) left n) (sym (length-drop (a .to) (a .room))) c) next
+host-line-next = (
+  (record { kind = 0; capture = []; place = 0; room = [] }, NextCause.searched (unsearched .0)),
+  (
+    (record { kind = 1; capture = []; place = 1; room = [] }, NextCause.searched (unsearched .1)),
+    (
+      (record { kind = 2; capture = reset; place = 0; room = [] }, NextCause.short reset-found (reset-line .1) (some-line (reset-line .1))),
+      ((record { kind = 4; capture = 0xC0 ∷ []; place = 1; room = [] }, NextCause.searched (unsearched .2)), tt),
+    ),
+  ),
+)
 
 pub host-listing : Occur (host.listing .Cause) (host.listing .refusals)
 host-listing = as-called lists.write host.listing (λ a. record { input = a .input; room = a .room }) (λ a n c. c) listing
 
+pub host-listing-with : Occur (host.listing-with .Cause) (host.listing-with .refusals)
+host-listing-with =
+    as-called lists.write-mapped host.listing-with (λ a. record { input = a .input; map = a .map; room = a .room }) (λ a n c. c) listing-mapped
+
 pub host-acknowledge : Occur (host.acknowledge .Cause) (host.acknowledge .refusals)
 host-acknowledge = as-called commands.acknowledge host.acknowledge (λ a. record { frame = a .frame; room = a .room }) (λ a n c. c) acknowledge
+
+pub host-sheet-map : Occur (host.sheet-map .Cause) (host.sheet-map .refusals)
+host-sheet-map = as-called sheets.map host.sheet-map (λ a. record { text = a .text; map = a .map }) (λ a n c. c) sheet-map
 
 pub host-book-open : Occur (host.book-open .Cause) (host.book-open .refusals)
 host-book-open = as-called books.opening host.book-open (λ a. record { book = a .book }) (λ a n c. c) opening
@@ -639,8 +745,17 @@ host-book-entry = as-called books.entry host.book-entry (λ a. record { book = a
 pub host-book-line : Occur (host.book-line .Cause) (host.book-line .refusals)
 host-book-line = as-called books.line host.book-line (λ a. record { book = a .book; number = a .number; room = a .room }) (λ a n c. c) entry-line-of
 
+pub host-book-line-with : Occur (host.book-line-with .Cause) (host.book-line-with .refusals)
+host-book-line-with =
+    as-called books.line-mapped host.book-line-with (λ a. record { book = a .book; number = a .number; map = a .map; room = a .room }) (λ a n c. c)
+    entry-line-mapped
+
 pub host-book-list : Occur (host.book-list .Cause) (host.book-list .refusals)
 host-book-list = as-called books.list host.book-list (λ a. record { book = a .book; room = a .room }) (λ a n c. c) list
+
+pub host-book-list-with : Occur (host.book-list-with .Cause) (host.book-list-with .refusals)
+host-book-list-with =
+    as-called books.list-mapped host.book-list-with (λ a. record { book = a .book; map = a .map; room = a .room }) (λ a n c. c) list-mapped
 
 pub host-book-add : Occur (host.book-add .Cause) (host.book-add .refusals)
 host-book-add =

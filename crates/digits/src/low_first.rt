@@ -4,7 +4,7 @@ ghost use Prim.Native.Nat.{_≤_};
 ghost use lib.ListN.{length};
 ghost use Rattle.digits.specs.Paper.LowFirst.{lowByteFirst};
 ghost use Rattle.digits.specs.Paper.Answers.{ReadsNumber};
-ghost use Rattle.digits.specs.Work.LowFirst.{lowValue};
+ghost use Rattle.digits.specs.Paper.LowFirst.{lowValue};
 
 // What bytes are read as: a number, or `Width` if there are not 1, 2 or 4 of them.
 pub enum Number {

@@ -3,9 +3,11 @@ use book::Located;
 use book::Opened;
 use host::answers;
 use host::answers::Count;
+ghost use mathlib.Core.Option.{none};
 ghost use lib.ListN.{length};
 ghost use Rattle.digits.specs.Paper.Refusals.{Answers};
 ghost use Rattle.puts.specs.Paper.Right.{WroteRight};
+ghost use Rattle.sheet.specs.Paper.Map.{sheetIn};
 ghost use Rattle.book.specs.Paper.Answers.{OpenCause, Counts, zeroLocation, EntryCause, EntryOf, EntryLineCause, EntryLine, ListCause, BookLines, AddCause, Adds};
 ghost use Rattle.host_book.specs.Paper.Answers.{locationIn};
 
@@ -71,19 +73,42 @@ pub extern "C" fn bolsterweft_book_entry(book: &[u8], number: u32) -> Entry
 // Writes that entry's line from the front of the room: `book::line`.
 #[no_mangle]
 pub extern "C" fn bolsterweft_book_line(book: &[u8], number: u32, room: &mut [u8]) -> Count
-    ensures { λ r. ⌜ WroteRight (EntryLineCause (now (book .entry)) number (length (now (room .entry)))) (EntryLine (now (book .entry)) number) (now (room .entry)) (r .refusal) (r .length) (now (room .exit)) ⌝ }
+    ensures { λ r. ⌜ WroteRight (EntryLineCause none (now (book .entry)) number (length (now (room .entry)))) (EntryLine none (now (book .entry)) number) (now (room .entry)) (r .refusal) (r .length) (now (room .exit)) ⌝ }
 {
     let line = book::line(book, number as usize, room);
     answers::counted(line)
 }
 
+// The same by the sheet that a map is, the empty map being no sheet: `book::line_mapped`.
+#[no_mangle]
+pub extern "C" fn bolsterweft_book_line_with(
+    book: &[u8],
+    number: u32,
+    map: &[u8],
+    room: &mut [u8],
+) -> Count
+    ensures { λ r. ⌜ WroteRight (EntryLineCause (sheetIn (now (map .entry))) (now (book .entry)) number (length (now (room .entry)))) (EntryLine (sheetIn (now (map .entry))) (now (book .entry)) number) (now (room .entry)) (r .refusal) (r .length) (now (room .exit)) ⌝ }
+{
+    let by_map = book::line_mapped(book, number as usize, map, room);
+    answers::counted(by_map)
+}
+
 // Writes the lines of all entries from the front of the room: `book::list`.
 #[no_mangle]
 pub extern "C" fn bolsterweft_book_list(book: &[u8], room: &mut [u8]) -> Count
-    ensures { λ r. ⌜ WroteRight (ListCause (now (book .entry)) (length (now (room .entry)))) (BookLines (now (book .entry))) (now (room .entry)) (r .refusal) (r .length) (now (room .exit)) ⌝ }
+    ensures { λ r. ⌜ WroteRight (ListCause none (now (book .entry)) (length (now (room .entry)))) (BookLines none (now (book .entry))) (now (room .entry)) (r .refusal) (r .length) (now (room .exit)) ⌝ }
 {
     let lines = book::list(book, room);
     answers::counted(lines)
+}
+
+// The same by the sheet that a map is, the empty map being no sheet: `book::list_mapped`.
+#[no_mangle]
+pub extern "C" fn bolsterweft_book_list_with(book: &[u8], map: &[u8], room: &mut [u8]) -> Count
+    ensures { λ r. ⌜ WroteRight (ListCause (sheetIn (now (map .entry))) (now (book .entry)) (length (now (room .entry)))) (BookLines (sheetIn (now (map .entry))) (now (book .entry))) (now (room .entry)) (r .refusal) (r .length) (now (room .exit)) ⌝ }
+{
+    let all_by_map = book::list_mapped(book, map, room);
+    answers::counted(all_by_map)
 }
 
 // Writes the whole new book, with an entry more, from the front of the room: `book::add`.

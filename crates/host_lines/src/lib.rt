@@ -2,10 +2,12 @@
 use host::answers;
 use host::answers::Count;
 ghost use mathlib.Core.List.{List};
+ghost use mathlib.Core.Option.{none};
 ghost use lib.ListN.{length};
 ghost use Rattle.digits.specs.Paper.Refusals.{Answers};
 ghost use Rattle.puts.specs.Paper.Right.{WroteRight};
 ghost use Rattle.lines.specs.Paper.Answers.{LineCause, LineOf, zeroPlaced, NextCause, NextLine};
+ghost use Rattle.sheet.specs.Paper.Map.{sheetIn};
 ghost use Rattle.commands.specs.Paper.Acknowledge.{AcknowledgeCause, AcknowledgementOf};
 ghost use Rattle.host_lines.specs.Paper.Answers.{WroteNext};
 
@@ -21,7 +23,7 @@ pub struct Listed {
 // Writes the line of one frame, which stands at a place of a capture, from the front of the room: `lines::write`.
 #[no_mangle]
 pub extern "C" fn bolsterweft_line(kind: u32, frame: &[u8], at: usize, room: &mut [u8]) -> Count
-    ensures { λ r. ⌜ WroteRight (LineCause kind (now (frame .entry)) at (length (now (room .entry)))) (LineOf kind (now (frame .entry)) at) (now (room .entry)) (r .refusal) (r .length) (now (room .exit)) ⌝ }
+    ensures { λ r. ⌜ WroteRight (LineCause none kind (now (frame .entry)) at (length (now (room .entry)))) (LineOf none kind (now (frame .entry)) at) (now (room .entry)) (r .refusal) (r .length) (now (room .exit)) ⌝ }
 {
     answers::counted(lines::write(answers::kind_byte(kind), frame, at, room))
 }
@@ -34,9 +36,17 @@ pub extern "C" fn bolsterweft_line_next(
     place: usize,
     room: &mut [u8],
 ) -> Listed
-    ensures { λ r. ⌜ WroteNext kind (now (capture .entry)) place (now (room .entry)) r (now (room .exit)) ⌝ }
+    ensures { λ r. ⌜ WroteNext none kind (now (capture .entry)) place (now (room .entry)) r (now (room .exit)) ⌝ }
 {
-    match lines::next(answers::kind_byte(kind), capture, place, room, 0) {
+    next_mapped(kind, capture, place, &[], room)
+}
+
+// The same by a register map, for the call of another object of the archive: a function that one object calls twice is part of neither
+// caller.
+pub fn next_mapped(kind: u32, capture: &[u8], place: usize, map: &[u8], room: &mut [u8]) -> Listed
+    ensures { λ r. ⌜ WroteNext (sheetIn (now (map .entry))) kind (now (capture .entry)) place (now (room .entry)) r (now (room .exit)) ⌝ }
+{
+    match lines::next(answers::kind_byte(kind), capture, place, map, room, 0) {
         lines::Listed::At { start, len, behind } => Listed {
             refusal: 0,
             start,

@@ -1,10 +1,16 @@
+pub mod Put
+pub mod Types
+pub mod Typed
+pub mod SheetSizes
 pub mod Sizes
 pub mod Values
 pub mod Same
-pub mod Put
 pub mod Said
 pub mod Fields
 pub mod Next
 pub mod Placed
 pub mod Write
 pub mod Of
+pub mod Plain
+pub mod Pairs
+pub mod ByText

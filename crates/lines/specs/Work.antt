@@ -1,3 +1,4 @@
 pub mod Put
 pub mod Tried
 pub mod Values
+pub mod Pairs

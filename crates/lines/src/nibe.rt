@@ -1,31 +1,36 @@
-// Nibe: a line from the message's name to its last member.
+// Nibe: a line from the message's name to its last member, by the sheet that a map is.
 use super::members;
+use super::values;
+use digits::low_first;
 use json::Decimals;
 use messages::nibe::Nibe;
 use messages::nibe::Valued;
-ghost use mathlib.Core.List.{[], _∷_};
-ghost use lib.IntN.{pos};
-ghost use Rattle.digits.specs.Paper.Ascii.{ascii};
-ghost use Rattle.json.specs.Paper.Json as paper;
-ghost use Rattle.json.specs.Paper.Json.{_∶_};
-ghost use Rattle.messages.specs.Paper.Message.{ask, done, nibe};
+use sheet::Typed;
 ghost use Rattle.messages.specs.Paper.Says.{ofNibe};
 ghost use Rattle.puts.specs.Paper.Put.{Put};
-ghost use Rattle.lines.specs.Work.Put.{commaed, named};
+ghost use Rattle.sheet.specs.Paper.Map.{lookupIn, sheetIn};
+ghost use Rattle.lines.specs.Paper.WithSheet.{valueReading, valued as valuedMembers};
+ghost use Rattle.lines.specs.Work.Put.{commaed, namedWith};
 
 // The content are a message's data.
-pub(crate) fn name_and_members(message: Nibe, content: &[u8], room: &mut [u8], at: usize) -> usize
-    ensures { λ r. ⌜ Put (now (room .entry)) (now (room .exit)) at r (named (ofNibe message (now (content .entry)))) ⌝ }
+pub(crate) fn name_and_members(
+    message: Nibe,
+    content: &[u8],
+    map: &[u8],
+    room: &mut [u8],
+    at: usize,
+) -> usize
+    ensures { λ r. ⌜ Put (now (room .entry)) (now (room .exit)) at r (namedWith (sheetIn (now (map .entry))) (ofNibe message (now (content .entry)))) ⌝ }
 {
     match message {
         Nibe::Ask { register } => members::number(b"ask\",\"reg\":", register as u32, room, at),
         Nibe::Reply(valued) => {
             let a = puts::bytes(b"reply\"", room, at);
-            value(valued, room, a)
+            value(valued, map, room, a)
         }
         Nibe::Put(valued) => {
             let a = puts::bytes(b"put\"", room, at);
-            value(valued, room, a)
+            value(valued, map, room, a)
         }
         Nibe::Done { ok } => {
             let a = puts::bytes(b"done\",\"ok\":", room, at);
@@ -33,16 +38,32 @@ pub(crate) fn name_and_members(message: Nibe, content: &[u8], room: &mut [u8], a
         }
         Nibe::Other { command } => {
             let a = members::number(b"nibe\",\"cmd\":", command as u32, room, at);
-            members::hex(b",\"data\":", content, room, a)
+            let b = members::hex(b",\"data\":", content, room, a);
+            values::member(command, content, map, room, b)
         }
     }
 }
 
 // A register, the width of its value, and the value.
-fn value(valued: Valued, room: &mut [u8], at: usize) -> usize
-    ensures { λ r. ⌜ Put (now (room .entry)) (now (room .exit)) at r (commaed (ascii "reg" ∶ paper.number (valued .register) ∷ ascii "width" ∶ paper.number (valued .width) ∷ ascii "value" ∶ paper.reading (pos (valued .value)) 0 ∷ [])) ⌝ }
+fn value(valued: Valued, map: &[u8], room: &mut [u8], at: usize) -> usize
+    ensures { λ r. ⌜ Put (now (room .entry)) (now (room .exit)) at r (commaed (valuedMembers (sheetIn (now (map .entry))) (valued .register) (valued .width) (valued .value))) ⌝ }
 {
     let a = members::number(b",\"reg\":", valued.register as u32, room, at);
     let b = members::number(b",\"width\":", valued.width as u32, room, a);
-    members::reading(b",\"value\":", valued.value, Decimals::Zero, room, b)
+    let c = puts::bytes(b",\"value\":", room, b);
+    reading(valued, map, room, c)
+}
+
+// The value by the register's type, if it has one of the same width.
+fn reading(valued: Valued, map: &[u8], room: &mut [u8], at: usize) -> usize
+    ensures { λ r. ⌜ Put (now (room .entry)) (now (room .exit)) at r (valueReading (lookupIn (now (map .entry)) (valued .register)) (valued .width) (valued .value)) ⌝ }
+{
+    let Typed::Is(width, signed, decimals) = sheet::type_in(map, valued.register) else {
+        return json::unsigned(valued.value, Decimals::Zero, room, at);
+    };
+    if width != valued.width as usize {
+        return json::unsigned(valued.value, Decimals::Zero, room, at);
+    }
+    let four = low_first::four(valued.value);
+    values::typed(&four[0..width], signed, decimals, room, at)
 }

@@ -1,4 +1,5 @@
-// The whole listing of a capture.
+// The whole listing of a capture, by the installer's register sheet if there is one: a `map` is what `sheet::map` writes, and the empty map
+// is no sheet.
 use digits::refusal::Refusal;
 use frames::kinds;
 use lines::Listed;
@@ -9,9 +10,10 @@ ghost use Prim.Native.Nat.{_+_, min};
 ghost use lib.ListN.{length};
 ghost use Rattle.digits.specs.Paper.Read.{Decides};
 ghost use Rattle.puts.specs.Paper.Put.{Put, largestPlace};
+ghost use Rattle.sheet.specs.Paper.Map.{sheetIn};
 ghost use Rattle.list.specs.Paper.Answers.{WritesListing};
-ghost use Rattle.list.specs.Paper.Listing.{Input, lastLine};
-ghost use Rattle.list.specs.Work.Remaining.{Listable, WritesLists, Fits, SizedListing, Roomy, PutsLists};
+ghost use Rattle.list.specs.Paper.Listing.{Input, NoSheet, OfMap, OfText, lastLine};
+ghost use Rattle.list.specs.Work.Remaining.{NoSheetIn, Listable, WritesLists, Fits, SizedListing, Roomy, PutsLists};
 
 // The bound on a listing's length: `MOST` bytes, and `MOST_A_BYTE` more for each byte of the capture.
 const MOST: usize = 50;
@@ -20,7 +22,14 @@ const MOST_A_BYTE: usize = 32;
 
 // Writes the listing of an input from the front of the room. Refusals: 4 for a room that is too short; one of 2,097,202 bytes never is.
 pub fn write(input: &[u8], room: &mut [u8]) -> Written
-    ensures { λ r. ⌜ WritesListing (now (input .entry)) (now (room .entry)) r (now (room .exit)) ⌝ }
+    ensures { λ r. ⌜ WritesListing NoSheet (now (input .entry)) (now (room .entry)) r (now (room .exit)) ⌝ }
+{
+    write_mapped(input, &[], room)
+}
+
+// Writes the listing of an input by the sheet that a map is. Refusals: those of `write`.
+pub fn write_mapped(input: &[u8], map: &[u8], room: &mut [u8]) -> Written
+    ensures { λ r. ⌜ WritesListing (OfMap (now (map .entry))) (now (input .entry)) (now (room .entry)) r (now (room .exit)) ⌝ }
 {
     if !begins(input) {
         return puts::front(b"{\"refused\":2}\n", room);
@@ -28,7 +37,39 @@ pub fn write(input: &[u8], room: &mut [u8]) -> Written
     if 65536 < input.len() {
         return puts::front(b"{\"refused\":5}\n", room);
     }
-    capture(input[0] - b'0', &input[2..], room)
+    capture(input[0] - b'0', &input[2..], map, room)
+}
+
+// Writes the listing of an input by a sheet; a text that is no sheet is refused in the listing, with 10. Refusals: those of `write`.
+pub fn write_with(input: &[u8], text: &[u8], room: &mut [u8]) -> Written
+    ensures { λ r. ⌜ WritesListing (OfText (now (text .entry))) (now (input .entry)) (now (room .entry)) r (now (room .exit)) ⌝ }
+{
+    let mut map = [0u8; 65536];
+    write_opened(input, text, room, &mut map)
+}
+
+// The map is lent by its type, so that no proof has to count it.
+fn write_opened(input: &[u8], text: &[u8], room: &mut [u8], map: &mut [u8; 65536]) -> Written
+    ensures { λ r. ⌜ WritesListing (OfText (now (text .entry))) (now (input .entry)) (now (room .entry)) r (now (room .exit)) ⌝ }
+{
+    match sheet::map(text, map) {
+        Written::Bytes(n) => write_mapped(input, map, room),
+        Written::Refused(why) => write_refused(input, text, room),
+    }
+}
+
+// Writes the listing of an input if the text is no sheet.
+fn write_refused(input: &[u8], text: &[u8], room: &mut [u8]) -> Written
+    requires { ⌜ NoSheetIn (now text) ⌝ }
+    ensures { λ r. ⌜ WritesListing (OfText (now (text .entry))) (now (input .entry)) (now (room .entry)) r (now (room .exit)) ⌝ }
+{
+    if begins(input) {
+        if input.len() <= 65536 {
+            return puts::front(b"{\"refused\":10}\n", room);
+        }
+        return puts::front(b"{\"refused\":5}\n", room);
+    }
+    puts::front(b"{\"refused\":2}\n", room)
 }
 
 // Whether an input begins with a kind's digit and LF.
@@ -45,40 +86,40 @@ fn begins(input: &[u8]) -> bool
 }
 
 // Writes the listing of a capture: all of it, or nothing if the room is too short.
-fn capture(kind: u8, s: &[u8], room: &mut [u8]) -> Written
+fn capture(kind: u8, s: &[u8], map: &[u8], room: &mut [u8]) -> Written
     requires { ⌜ Listable kind (now s) ⌝ }
-    ensures { λ r. ⌜ WritesLists kind (now (s .entry)) (now (room .entry)) r (now (room .exit)) ⌝ }
+    ensures { λ r. ⌜ WritesLists (sheetIn (now (map .entry))) kind (now (s .entry)) (now (room .entry)) r (now (room .exit)) ⌝ }
 {
-    if !fits(kind, s, room.len()) {
+    if !fits(kind, s, map, room.len()) {
         return Written::Refused(Refusal::NoRoom);
     }
-    Written::Bytes(put(kind, s, room))
+    Written::Bytes(put(kind, s, map, room))
 }
 
 // Whether a room of `room` bytes has room for the listing. The listing is measured only if it might not.
-fn fits(kind: u8, s: &[u8], room: usize) -> bool
+fn fits(kind: u8, s: &[u8], map: &[u8], room: usize) -> bool
     requires { ⌜ Listable kind (now s) ⌝ }
-    ensures { λ r. ⌜ Fits kind (now (s .entry)) room r ⌝ }
+    ensures { λ r. ⌜ Fits (sheetIn (now (map .entry))) kind (now (s .entry)) room r ⌝ }
 {
     if MOST <= room {
         if s.len() <= (room - MOST) / MOST_A_BYTE {
             return true;
         }
     }
-    size(kind, s) <= room
+    size(kind, s, map) <= room
 }
 
 // How long the listing is, line by line.
-fn size(kind: u8, s: &[u8]) -> usize
+fn size(kind: u8, s: &[u8], map: &[u8]) -> usize
     requires { ⌜ Listable kind (now s) ⌝ }
-    ensures { λ r. ⌜ SizedListing kind (now (s .entry)) r ⌝ }
+    ensures { λ r. ⌜ SizedListing (sheetIn (now (map .entry))) kind (now (s .entry)) r ⌝ }
 {
     let mut place = 0;
     let mut frames = 0;
     let mut inside = 0;
     let mut sum = 0;
     loop {
-        match lines::measure(kind, s, place) {
+        match lines::measure(kind, s, place, map) {
             Measured::At { start, len, size } => {
                 place = start + len;
                 sum += size;
@@ -93,17 +134,17 @@ fn size(kind: u8, s: &[u8]) -> usize
 }
 
 // Puts a line a frame of the capture, and the last line, in a room that has room for them.
-fn put(kind: u8, s: &[u8], room: &mut [u8]) -> usize
+fn put(kind: u8, s: &[u8], map: &[u8], room: &mut [u8]) -> usize
     requires { ⌜ Listable kind (now s) ⌝ }
-    requires { ⌜ Roomy kind (now s) (length (now room)) ⌝ }
-    ensures { λ r. ⌜ PutsLists kind (now (s .entry)) (now (room .entry)) (now (room .exit)) r ⌝ }
+    requires { ⌜ Roomy (sheetIn (now map)) kind (now s) (length (now room)) ⌝ }
+    ensures { λ r. ⌜ PutsLists (sheetIn (now (map .entry))) kind (now (s .entry)) (now (room .entry)) (now (room .exit)) r ⌝ }
 {
     let mut place = 0;
     let mut frames = 0;
     let mut inside = 0;
     let mut next = 0;
     loop {
-        match lines::next(kind, s, place, room, next) {
+        match lines::next(kind, s, place, map, room, next) {
             Listed::At { start, len, behind } => {
                 place = start + len;
                 next = behind;

@@ -14,7 +14,7 @@ ghost use Prim.Native.Nat.{_-_, _≤_, _<_};
 ghost use lib.ListN.{length};
 ghost use Rattle.digits.specs.Paper.LowFirst.{Width, Held};
 ghost use Rattle.digits.specs.Paper.Read.{Decides};
-ghost use Rattle.digits.specs.Work.LowFirst.{lowValue};
+ghost use Rattle.digits.specs.Paper.LowFirst.{lowValue};
 ghost use Rattle.messages.specs.Paper.Allowed.{StandsSo};
 ghost use Rattle.messages.specs.Paper.Meant.{Means, NibeWith};
 ghost use Rattle.messages.specs.Paper.Message.{nibe, row as rowOf};

@@ -15,7 +15,7 @@ ghost use Rattle.puts.specs.Paper.Wrote.{Writes};
 ghost use Rattle.numbers.specs.Paper.Raw.{Raw};
 ghost use Rattle.numbers.specs.Paper.ByteValues.{least, most, HeldBy, twos, valueBytes};
 ghost use Rattle.numbers.specs.Paper.Answers.{ValueCause, AnswersValue};
-ghost use Rattle.numbers.specs.Work.ByteValues.{standsBelow, ofTwos};
+ghost use Rattle.numbers.specs.Paper.ByteValues.{standsBelow, ofTwos};
 
 // What bytes are read as.
 pub enum Value {

@@ -17,7 +17,7 @@ use Rattle.sheet.specs.Paper.Sheet.{Row, typeName, fields, sheet, Sheet,
 use Rattle.sheet.specs.Paper.Map.{typeNumber, typeByte, typeOfByte, inByte, lookupIn}
 use Rattle.sheet.specs.Paper.Split.{Pair, dataOf, Listed, Splits, pairBytes, Pairs}
 use Rattle.sheet.specs.Paper.Split as split
-use Rattle.sheet.specs.Paper.Answers.{Unsolicited}
+use Rattle.sheet.specs.Paper.Split.{Unsolicited}
 use Rattle.sheet.specs.Paper.Fault.{count, no-last-LF}
 use Rattle.sheet.proofs.Laws.Commands.{no-other}
 use Rattle.sheet.proofs.Laws.FirstPair.{tens-length}
@@ -79,7 +79,7 @@ unfolding lookupIn inByte
 not-in-map = refl
 
 pub no-command : Unsolicited 0 → ⊥
-no-command u = no-other (λ e. omega arith) (λ e. omega arith) u
+no-command u = u .is
 
 pub no-split : (pairs : List Pair) → Splits (find []) (0 ∷ []) pairs → ⊥
 no-split [] w = omega (arith, ap length (no-bytes w))

@@ -2,6 +2,8 @@ pub mod Chars
 pub mod Rows
 pub mod Carried
 pub mod Lines
+pub mod Cuts
+pub mod Below
 pub mod Scans
 pub mod Opens
 pub mod Bytes
@@ -21,3 +23,4 @@ pub mod Tens
 pub mod Holds
 pub mod Join
 pub mod Faults
+pub mod Computed

@@ -15,9 +15,9 @@ use Rattle.puts.specs.declared.Written.{Written}
 use Rattle.puts.proofs.Laws.Right.{first-of, written-right}
 use Rattle.sheet.specs.Paper.Sheet.{Row, LF, fields, sheet, Rising, done, next, Sheet, Lookup, find}
 use Rattle.sheet.specs.Paper.Map.{mapOf, lookupIn}
-use Rattle.sheet.specs.Paper.Split.{Pair, dataOf, Held, Splits, pairBytes, InTen, Pairs, Listed}
+use Rattle.sheet.specs.Paper.Split.{Unsolicited, Pair, dataOf, Held, Splits, pairBytes, InTen, Pairs, Listed}
 use Rattle.sheet.specs.Paper.Split as split
-use Rattle.sheet.specs.Paper.Answers.{mostData, Unsolicited, SplitCause, SplitsInto, IsSplit, JoinCause, Joins, IsJoin}
+use Rattle.sheet.specs.Paper.Answers.{mostData, SplitCause, SplitsInto, IsSplit, JoinCause, Joins, IsJoin}
 use Rattle.sheet.specs.Paper.Answers as paper
 use Rattle.sheet.specs.Paper.Fault.{Faulty}
 use Rattle.sheet.proofs.Laws.Faults as faults

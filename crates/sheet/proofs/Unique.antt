@@ -14,7 +14,7 @@ use Rattle.puts.specs.declared.Written.{Written}
 use Rattle.puts.proofs.Laws.Right.{one-wrote}
 use Rattle.sheet.specs.Paper.Sheet.{RegisterType, Row, Sheet, Lookup, find}
 use Rattle.sheet.specs.Paper.Map.{mapOf, lookupIn}
-use Rattle.sheet.specs.Paper.Split.{Pair, Splits, dataOf, pairBytes}
+use Rattle.sheet.specs.Paper.Split.{Unsolicited, Pair, Splits, dataOf, pairBytes}
 use Rattle.sheet.specs.Paper.Answers.{rowsRefusal, rowsCount, HasRows, Opens, typedRefusal, typedValue, TypesIn, HasType, Types, IsMap, Maps, IsSplit, SplitsInto, IsJoin, Joins, SomeSplit, testNumber, Faults}
 use Rattle.sheet.specs.declared.Rows.{Rows}
 use Rattle.sheet.specs.declared.Rows.the-variants.{Count, Refused as NoRows}
@@ -98,6 +98,11 @@ joined command bytes text room r q s t a b = one-wrote (λ u v x y. one-whole x 
 
 pub splits : (look : Lookup) (content : List ℕ) (r q : Bool) → Decides (SomeSplit look content) r → Decides (SomeSplit look content) q → r ≡ q
 splits look content r q a b = test a b
+
+-- ---- unsolicited
+
+pub unsolicited : (command : ℕ) (r q : Bool) → Decides (Unsolicited command) r → Decides (Unsolicited command) q → r ≡ q
+unsolicited command r q a b = test a b
 
 -- ---- fault
 

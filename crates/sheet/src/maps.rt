@@ -1,5 +1,5 @@
 // Register maps: one byte a register.
-use super::lines;
+use super::reader;
 ghost use mathlib.Core.Path.{_≡_};
 ghost use mathlib.Core.List.{List, _++_};
 ghost use Prim.Native.Nat.{_≤_};
@@ -9,14 +9,19 @@ ghost use Rattle.sheet.specs.Paper.Map.{inByte};
 ghost use Rattle.sheet.specs.Work.Lines.{RowsFrom};
 ghost use Rattle.sheet.specs.Work.Maps.{widthIn, signedIn, decimalsIn, Known, zeros, Filled};
 
-// Sets the first n bytes to 0.
-pub(crate) fn clear(room: &mut [u8], n: usize)
-    requires { ⌜ n ≤ length (now room) ⌝ }
-    ensures { λ _. ⌜ now (room .exit) ≡ zeros n ++ drop n (now (room .entry)) ⌝ }
+// Sets a byte for each register to 0: the first 256 bytes, and then each as the one 256 before it. With zeros throughout, the compiler would
+// fill the map by a call of C's `memset`.
+pub(crate) fn clear(room: &mut [u8])
+    requires { ⌜ 65536 ≤ length (now room) ⌝ }
+    ensures { λ _. ⌜ now (room .exit) ≡ zeros 65536 ++ drop 65536 (now (room .entry)) ⌝ }
 {
     let mut i = 0;
-    while i < n {
+    while i < 256 {
         room[i] = 0;
+        i += 1;
+    }
+    while i < 65536 {
+        room[i] = room[i - 256];
         i += 1;
     }
 }
@@ -30,7 +35,7 @@ pub(crate) fn fill(text: &[u8], map: &mut [u8])
     let mut least: u32 = 0;
     let mut number: usize = 1;
     while at < text.len() {
-        let line = lines::first(&text[at..], least, number);
+        let line = reader::first(&text[at..], least, number);
         let register = line.register as usize;
         map[register] = line.byte;
         at += line.length;

@@ -1,6 +1,7 @@
 -- The line of one entry, put at a place of a room.
 -- Assumes nothing.
 use mathlib.Core.List.{List}
+use mathlib.Core.Option.{Option}
 use mathlib.Core.Path.{_≡_, sym, _∙_, subst}
 use Prim.Native.Nat.{ℕ}
 use lib.ListN.{length}
@@ -17,6 +18,7 @@ use Rattle.messages.specs.declared.Tag.{Tag}
 use Rattle.messages.proofs.Laws.Decode.{the-part}
 use Rattle.messages.proofs.Laws.Frames.{one-content}
 use Rattle.messages.proofs.Theorems.{has-message}
+use Rattle.sheet.specs.Paper.Sheet.{Lookup}
 use Rattle.book.specs.Work.Contents.{Tagged}
 use Rattle.book.specs.Work.Writing.{PutsOne}
 
@@ -29,9 +31,9 @@ module _ {k : ℕ} {f : List ℕ} {from to : ℕ} (o : OneFrame k f (record { fr
       (subst (λ (c : Content). ContentWith tag (payloadIn c) c) same (x .is))
 
   -- so its line is not refused
-  pub line-one : {at : ℕ} {room later : List ℕ} {place n : ℕ} (w : Ended) → n ≡ endedPlace w
-      → PutsContent tag (part from to f) at (length f) room place w later → PutsOne k f at room later place n
-  line-one {at} {room} {later} {place} w z a = subst (PutsOne k f at room later place) (sym z) (go a)
+  pub line-one : {sheet : Option Lookup} {at : ℕ} {room later : List ℕ} {place n : ℕ} (w : Ended) → n ≡ endedPlace w
+      → PutsContent sheet tag (part from to f) at (length f) room place w later → PutsOne sheet k f at room later place n
+  line-one {sheet} {at} {room} {later} {place} w z a = subst (PutsOne sheet k f at room later place) (sym z) (go a)
     where
       never : {no : ℕ} → MeantCause (ContentWith tag (part from to f)) no → ⊥
       never (no-message g) =
@@ -39,7 +41,7 @@ module _ {k : ℕ} {f : List ℕ} {from to : ℕ} (o : OneFrame k f (record { fr
           g (own .0) (own .1 .good) (subst (ContentWith tag (part from to f)) (one-content (o .frame) (own .1 .frame) ∙ own .1 .content) says)
 
       go : {no : ℕ} {v : ℕ × List ℕ}
-          → Answers (0, room) (MeantCause (ContentWith tag (part from to f))) (λ v. PutContent tag (part from to f) at (length f) room place (v .0) (v .1)) no v
-          → PutsOne k f at room (v .1) place (v .0)
+          → Answers (0, room) (MeantCause (ContentWith tag (part from to f))) (λ v. PutContent sheet tag (part from to f) at (length f) room place (v .0) (v .1)) no v
+          → PutsOne sheet k f at room (v .1) place (v .0)
       go (answers c y) = record { text = y .text; right = content-of-frame (o .frame) tag (part from to f) says (y .line); put = y .put }
       go (refuses z c) = absurd (never (cause-at c z))

@@ -1,6 +1,7 @@
 -- The loop over a book's entries: what stands there in a turn, a line more behind it, and the end.
 -- Assumes nothing.
 use mathlib.Core.List.{List, [], _∷_, _++_, append-assoc, append-nil}
+use mathlib.Core.Option.{Option}
 use mathlib.Core.Path.{_≡_, refl, sym, ap, _∙_, subst, subst₂}
 use Prim.Native.Nat.{ℕ, _+_, _≤_, _<_}
 use native.Mathlib.Omega.{arith}
@@ -12,6 +13,7 @@ use Rattle.lines.specs.Paper.Answers.{LineOf}
 use Rattle.puts.specs.Paper.Put.{largestPlace}
 use Rattle.puts.proofs.Laws.Puts.{_then_}
 use Rattle.puts.proofs.Laws.Puts.{none as nothing}
+use Rattle.sheet.specs.Paper.Sheet.{Lookup}
 use Rattle.book.specs.Paper.Answers.{EntryLines, none, line, BookLines}
 use Rattle.book.specs.Paper.Book.{Entry, entryBytes, entries, Framed}
 use Rattle.book.specs.Work.Reading.{Heads, Noted, also as noted-also, Noting}
@@ -24,8 +26,8 @@ use Rattle.book.proofs.Laws.Reading.{headed}
 
 -- ---- the loop begins
 
-pub started : {s places : List ℕ} {count : ℕ} (room : List ℕ) → length room ≤ largestPlace → Noting s count places → Listing s places room room count 0 0 0
-started {s} room slice x =
+pub started : {sheet : Option Lookup} {s places : List ℕ} {count : ℕ} (room : List ℕ) → length room ≤ largestPlace → Noting s count places → Listing sheet s places room room count 0 0 0
+started {s = s} room slice x =
     let k = x .counts in
     let es = k .all in
     record {
@@ -50,7 +52,7 @@ first-noted (noted-also o n) = o
 rest-noted : {places : List ℕ} {i : ℕ} {e : Entry} {es : List Entry} → Noted places i (e ∷ es) → Noted places (i + 1) es
 rest-noted (noted-also o n) = n
 
-module _ {s places room room₀ : List ℕ} {next count i place : ℕ} (c : Listing s places room room₀ count next i place) where
+module _ {sheet : Option Lookup} {s places room room₀ : List ℕ} {next count i place : ℕ} (c : Listing sheet s places room room₀ count next i place) where
   abbrev end : ℕ
   end = place + length (entries (c .remaining))
 
@@ -110,17 +112,17 @@ module _ {s places room room₀ : List ℕ} {next count i place : ℕ} (c : List
 
       -- ---- its line
 
-      own : {t : List ℕ} → LineOf kind (part from behind s) place t → LineOf (entry .kind) (entry .frame) place t
-      own {t} = subst₂ (λ (k : ℕ) (f : List ℕ). LineOf k f place t) (says .0) (says .3)
+      own : {t : List ℕ} → LineOf sheet kind (part from behind s) place t → LineOf sheet (entry .kind) (entry .frame) place t
+      own {t} = subst₂ (λ (k : ℕ) (f : List ℕ). LineOf sheet k f place t) (says .0) (says .3)
 
       -- it completes the lines with those that are left
-      line-more : {t : List ℕ} (u : List ℕ) → LineOf kind (part from behind s) place t → EntryLines behind later u → BookLines s (c .done ++ (t ++ u))
+      line-more : {t : List ℕ} (u : List ℕ) → LineOf sheet kind (part from behind s) place t → EntryLines sheet behind later u → BookLines sheet s (c .done ++ (t ++ u))
       line-more {t} u l ls =
           c .completes (t ++ u)
-          (subst (λ (es : List Entry). EntryLines place es (t ++ u)) (sym (an-entry .is)) (line (own l) (subst (λ (a : ℕ). EntryLines a later u) (says .1) ls)))
+          (subst (λ (es : List Entry). EntryLines sheet place es (t ++ u)) (sym (an-entry .is)) (line (own l) (subst (λ (a : ℕ). EntryLines sheet a later u) (says .1) ls)))
 
-      module _ {now : List ℕ} {n : ℕ} (p : PutsOne kind (part from behind s) place room₀ now next n) where
-        pub turned : Listing s places room now count n (i + 1) behind
+      module _ {now : List ℕ} {n : ℕ} (p : PutsOne sheet kind (part from behind s) place room₀ now next n) where
+        pub turned : Listing sheet s places room now count n (i + 1) behind
         turned =
             let t = p .text in
             let m : length (c .remaining) ≡ length (entry ∷ later) = ap (λ (es : List Entry). length es) (an-entry .is) in
@@ -135,14 +137,14 @@ module _ {s places room room₀ : List ℕ} {next count i place : ℕ} (c : List
               bytes = ap (λ (e : ℕ). part behind e s) z ∙ says .4;
               done = c .done ++ t;
               put = c .put then p .put;
-              completes = λ u ls. subst (BookLines s) (sym (append-assoc (c .done) t u)) (line-more u (p .right) ls);
+              completes = λ u ls. subst (BookLines sheet s) (sym (append-assoc (c .done) t u)) (line-more u (p .right) ls);
             }
 
   -- no entry is left
-  pub ended : count ≤ i → Lists s room room₀ next
+  pub ended : count ≤ i → Lists sheet s room room₀ next
   ended h =
-      record { text = c .done; right = subst (BookLines s) (append-nil (c .done)) (c .completes [] (go (c .remaining) (c .left))); put = c .put }
+      record { text = c .done; right = subst (BookLines sheet s) (append-nil (c .done)) (c .completes [] (go (c .remaining) (c .left))); put = c .put }
     where
-      go : (es : List Entry) → i + length es ≡ count → EntryLines place es []
+      go : (es : List Entry) → i + length es ≡ count → EntryLines sheet place es []
       go [] e = none
       go (x ∷ es) e = absurd (omega arith)

@@ -1,7 +1,9 @@
--- The promises: opening a book, its entries, their lines, and adding one.
+-- The promises: opening a book, its entries, their lines, and adding one. Lines go by a sheet, if there is one: at
+-- `none` they are 01's.
 -- Assumes nothing.
 use mathlib.Core.Bool.{false}
 use mathlib.Core.List.{List, [], _∷_, _++_}
+use mathlib.Core.Option.{Option, some}
 use mathlib.Core.Path.{_≡_}
 use Prim.Native.Nat.{ℕ, _+_, _≤_, _<_}
 use denote.Ref.{RefT, now}
@@ -12,6 +14,7 @@ use Rattle.frames.specs.Paper.Kinds.{known, Frame}
 use Rattle.lines.specs.Paper.Answers.{LineOf}
 use Rattle.puts.specs.Paper.Right.{WritesRight}
 use Rattle.puts.specs.declared.Written.{Written}
+use Rattle.sheet.specs.Paper.Sheet.{Row, Sheet, Lookup, find}
 use Rattle.book.specs.Paper.Book.{Entry, head, entryBytes, book, mostEntries, mostBytes, Book, EntryAt}
 use Rattle.book.specs.declared.Opened.{Opened}
 use Rattle.book.specs.declared.Opened.the-variants.{Count, Refused}
@@ -95,51 +98,89 @@ HandsFrame s number r =
     HandsPart (EntryCause (now s) number)
     (λ e. (v : Location) × (EntryOf (now s) number v) × (e ≡ locationEnds v)) s r
 
--- ---- line: "A book's entries give the same lines, `at` being the entry's offset"
+-- ---- line, line_mapped: "A book's entries give the same lines, `at` being the entry's offset"
 
--- t is the line of the entry of that number
-pub record EntryLine (s : List ℕ) (number : ℕ) (t : List ℕ) : Type 0 where
+-- t is the line of the entry of that number, by the sheet that there is; `none` is no sheet
+pub record EntryLine (sheet : Option Lookup) (s : List ℕ) (number : ℕ) (t : List ℕ) : Type 0 where
   pub all : List Entry
   pub valid : Book s all
   pub entry : Entry
   pub offset : ℕ
   pub numbered : EntryAt all number entry offset
-  pub line : LineOf (entry .kind) (entry .frame) offset t
+  pub line : LineOf sheet (entry .kind) (entry .frame) offset t
 
 -- 8 "not a valid book"; 3 "entry number not below the count"; 4 "lent room too short for the answer"
-pub data EntryLineCause (s : List ℕ) (number room : ℕ) : ℕ → Type 0 where
-  no-book : NoValidBook s → EntryLineCause s number room 8
-  no-entry : {es : List Entry} → Book s es → length es ≤ number → EntryLineCause s number room 3
-  short : {t : List ℕ} → EntryLine s number t → room < length t → EntryLineCause s number room 4
+pub data EntryLineCause (sheet : Option Lookup) (s : List ℕ) (number room : ℕ) : ℕ → Type 0 where
+  no-book : NoValidBook s → EntryLineCause sheet s number room 8
+  no-entry : {es : List Entry} → Book s es → length es ≤ number → EntryLineCause sheet s number room 3
+  short : {t : List ℕ} → EntryLine sheet s number t → room < length t → EntryLineCause sheet s number room 4
 
 -- r is the right answer, and `later` the right room afterwards
-abbrev pub WritesEntryLine : List ℕ → ℕ → List ℕ → Written → List ℕ → Type 0
-WritesEntryLine s number room r later =
-    WritesRight (EntryLineCause s number (length room)) (EntryLine s number) room r later
+abbrev pub WritesEntryLine : Option Lookup → List ℕ → ℕ → List ℕ → Written → List ℕ → Type 0
+WritesEntryLine sheet s number room r later =
+    WritesRight (EntryLineCause sheet s number (length room)) (EntryLine sheet s number) room r later
 
--- ---- list: the lines of all entries, one behind the other
+-- ---- line_with
+
+-- t is the line of the entry of that number by the sheet that the text is
+pub record EntryLineByText (s : List ℕ) (number : ℕ) (text t : List ℕ) : Type 0 where
+  pub rows : List Row
+  pub is : Sheet text rows
+  pub line : EntryLine (some (find rows)) s number t
+
+-- 8 and 3 as above; 02, K2: 10 "sheet not as described"; 4
+pub data EntryLineByTextCause (s : List ℕ) (number : ℕ) (text : List ℕ) (room : ℕ) : ℕ → Type 0 where
+  no-book : NoValidBook s → EntryLineByTextCause s number text room 8
+  no-entry : {es : List Entry} → Book s es → length es ≤ number → EntryLineByTextCause s number text room 3
+  bad-sheet : ((rows : List Row) → Sheet text rows → ⊥) → EntryLineByTextCause s number text room 10
+  short : {t : List ℕ} → EntryLineByText s number text t → room < length t → EntryLineByTextCause s number text room 4
+
+abbrev pub WritesEntryLineByText : List ℕ → ℕ → List ℕ → List ℕ → Written → List ℕ → Type 0
+WritesEntryLineByText s number text room r later =
+    WritesRight (EntryLineByTextCause s number text (length room)) (EntryLineByText s number text) room r later
+
+-- ---- list, list_mapped: the lines of all entries, one behind the other
 
 -- t is the lines of these entries, of which the first stands at `at`
-pub data EntryLines : (at : ℕ) → List Entry → List ℕ → Type 0 where
-  none : {at : ℕ} → EntryLines at [] []
-  line : {at : ℕ} {e : Entry} {es : List Entry} {t rest : List ℕ} → LineOf (e .kind) (e .frame) at t
-      → EntryLines (at + length (entryBytes e)) es rest
-      → EntryLines at (e ∷ es) (t ++ rest)
+pub data EntryLines (sheet : Option Lookup) : (at : ℕ) → List Entry → List ℕ → Type 0 where
+  none : {at : ℕ} → EntryLines sheet at [] []
+  line : {at : ℕ} {e : Entry} {es : List Entry} {t rest : List ℕ} → LineOf sheet (e .kind) (e .frame) at t
+      → EntryLines sheet (at + length (entryBytes e)) es rest
+      → EntryLines sheet at (e ∷ es) (t ++ rest)
 
 -- t is the lines of the book s
-pub record BookLines (s t : List ℕ) : Type 0 where
+pub record BookLines (sheet : Option Lookup) (s t : List ℕ) : Type 0 where
   pub all : List Entry
   pub valid : Book s all
-  pub lines : EntryLines 0 all t
+  pub lines : EntryLines sheet 0 all t
 
 -- 8 "not a valid book"; 4 "lent room too short for the answer"
-pub data ListCause (s : List ℕ) (room : ℕ) : ℕ → Type 0 where
-  no-book : NoValidBook s → ListCause s room 8
-  short : {t : List ℕ} → BookLines s t → room < length t → ListCause s room 4
+pub data ListCause (sheet : Option Lookup) (s : List ℕ) (room : ℕ) : ℕ → Type 0 where
+  no-book : NoValidBook s → ListCause sheet s room 8
+  short : {t : List ℕ} → BookLines sheet s t → room < length t → ListCause sheet s room 4
 
 -- r is the right answer, and `later` the right room afterwards
-abbrev pub WritesBookLines : List ℕ → List ℕ → Written → List ℕ → Type 0
-WritesBookLines s room r later = WritesRight (ListCause s (length room)) (BookLines s) room r later
+abbrev pub WritesBookLines : Option Lookup → List ℕ → List ℕ → Written → List ℕ → Type 0
+WritesBookLines sheet s room r later =
+    WritesRight (ListCause sheet s (length room)) (BookLines sheet s) room r later
+
+-- ---- list_with
+
+-- t is the lines of the book s by the sheet that the text is
+pub record BookLinesByText (s text t : List ℕ) : Type 0 where
+  pub rows : List Row
+  pub is : Sheet text rows
+  pub lines : BookLines (some (find rows)) s t
+
+-- 8; 10 "sheet not as described"; 4
+pub data ListByTextCause (s text : List ℕ) (room : ℕ) : ℕ → Type 0 where
+  no-book : NoValidBook s → ListByTextCause s text room 8
+  bad-sheet : ((rows : List Row) → Sheet text rows → ⊥) → ListByTextCause s text room 10
+  short : {t : List ℕ} → BookLinesByText s text t → room < length t → ListByTextCause s text room 4
+
+abbrev pub WritesBookLinesByText : List ℕ → List ℕ → List ℕ → Written → List ℕ → Type 0
+WritesBookLinesByText s text room r later =
+    WritesRight (ListByTextCause s text (length room)) (BookLinesByText s text) room r later
 
 -- ---- add: "Adding an entry writes the whole new book, trailer too"
 

@@ -2,6 +2,7 @@
 -- Assumes nothing.
 use mathlib.Core.Bool.{Bool}
 use mathlib.Core.List.{List, [], _∷_, _++_}
+use mathlib.Core.Option.{Option}
 use mathlib.Core.Path.{_≡_}
 use Prim.Native.Nat.{ℕ, suc, _+_, _≤_}
 use lib.ListN.{length}
@@ -9,6 +10,7 @@ use Rattle.digits.specs.Paper.Bytes.{part}
 use Rattle.lines.specs.Paper.Answers.{LineOf}
 use Rattle.puts.specs.Paper.Put.{Put}
 use Rattle.puts.specs.Work.Right.{SizedRight, FitsRight}
+use Rattle.sheet.specs.Paper.Sheet.{Lookup}
 use Rattle.book.specs.Paper.Book.{Entry, entries, book, Framed, mostEntries, mostBytes, Book}
 use Rattle.book.specs.Paper.Answers.{EntryLines, BookLines}
 use Rattle.book.specs.Work.Reading.{Noted}
@@ -29,21 +31,22 @@ pub record PutsAdded (s : List ℕ) (e : Entry) (room later : List ℕ) (next : 
 -- ---- the line of one entry
 
 -- the line of the frame f that stands at `at` is put at a place of the room, as far as the room goes
-pub record PutsOne (k : ℕ) (f : List ℕ) (at : ℕ) (room later : List ℕ) (to behind : ℕ) : Type 0 where
+pub record PutsOne (sheet : Option Lookup) (k : ℕ) (f : List ℕ) (at : ℕ) (room later : List ℕ) (to behind : ℕ)
+    : Type 0 where
   pub text : List ℕ
-  pub right : LineOf k f at text
+  pub right : LineOf sheet k f at text
   pub put : Put room later to behind text
 
 -- ---- the lines
 
 -- the lines of a book are put at the room's front, as far as the room goes
-pub record Lists (s room later : List ℕ) (behind : ℕ) : Type 0 where
+pub record Lists (sheet : Option Lookup) (s room later : List ℕ) (behind : ℕ) : Type 0 where
   pub text : List ℕ
-  pub right : BookLines s text
+  pub right : BookLines sheet s text
   pub put : Put room later 0 behind text
 
 -- a loop's turns so far: the lines that are put, and the entries that are left, whose lines complete those of the book
-pub record Listing (s places room later : List ℕ) (count next i at : ℕ) : Type 0 where
+pub record Listing (sheet : Option Lookup) (s places room later : List ℕ) (count next i at : ℕ) : Type 0 where
   pub remaining : List Entry
   pub noted : Noted places i remaining
   pub framed : Framed remaining
@@ -52,12 +55,16 @@ pub record Listing (s places room later : List ℕ) (count next i at : ℕ) : Ty
   pub bytes : part at (at + length (entries remaining)) s ≡ entries remaining
   pub done : List ℕ
   pub put : Put room later 0 next done
-  pub completes : (t : List ℕ) → EntryLines at remaining t → BookLines s (done ++ t)
+  pub completes : (t : List ℕ) → EntryLines sheet at remaining t → BookLines sheet s (done ++ t)
+
+-- no lines of a book are longer than n bytes
+pub record Most (sheet : Option Lookup) (s : List ℕ) (n : ℕ) : Type 0 where
+  pub most : (t : List ℕ) → BookLines sheet s t → length t ≤ n
 
 -- the lines of a book are n bytes long
-abbrev pub SizedLines : List ℕ → ℕ → Type 0
-SizedLines s n = SizedRight (BookLines s) n
+abbrev pub SizedLines : Option Lookup → List ℕ → ℕ → Type 0
+SizedLines sheet s n = SizedRight (BookLines sheet s) n
 
 -- r tells whether a room of n bytes has room for them
-abbrev pub Fits : List ℕ → ℕ → Bool → Type 0
-Fits s n r = FitsRight (BookLines s) n r
+abbrev pub Fits : Option Lookup → List ℕ → ℕ → Bool → Type 0
+Fits sheet s n r = FitsRight (BookLines sheet s) n r

@@ -2,8 +2,10 @@
 -- Assumes nothing.
 use mathlib.Core.Path.{refl}
 use mathlib.Core.List.{List, [], _∷_}
+use mathlib.Core.Option.{Option}
 use Prim.Native.Nat.{ℕ}
-use Rattle.book.specs.Paper.Answers.{OpenCause, EntryCause, EntryLineCause, ListCause, AddCause}
+use Rattle.sheet.specs.Paper.Sheet.{Lookup}
+use Rattle.book.specs.Paper.Answers.{OpenCause, EntryCause, EntryLineCause, EntryLineByTextCause, ListCause, ListByTextCause, AddCause}
 use Rattle.book.specs.Paper.Book.{Entry}
 use Rattle.book.proofs as book
 use Rattle.book.proofs.Unique as unique
@@ -79,7 +81,7 @@ frame-proper =
       one = λ κs a r q ws vs x y. (unique.frame-one r q x y, refl);
     }
 
-pub line-stated : {s : List ℕ} {number room no : ℕ} → EntryLineCause s number room no → OneOf no (8 ∷ 3 ∷ 4 ∷ [])
+pub line-stated : {sheet : Option Lookup} {s : List ℕ} {number room no : ℕ} → EntryLineCause sheet s number room no → OneOf no (8 ∷ 3 ∷ 4 ∷ [])
 line-stated (EntryLineCause.no-book f) = here
 line-stated (EntryLineCause.no-entry b h) = there here
 line-stated (EntryLineCause.short l h) = there (there here)
@@ -105,7 +107,55 @@ line-proper =
           (unique.line-one r q (unfronted x) (unfronted y));
     }
 
-pub list-stated : {s : List ℕ} {room no : ℕ} → ListCause s room no → OneOf no (8 ∷ 4 ∷ [])
+abbrev pub line-mapped : Row
+line-mapped =
+    record {
+      function = function-of book.line_mapped.Key.name book.line_mapped.Kinds.ps book.line_mapped.Kinds.r book.line_mapped.Symbol.routine;
+      claim = λ κs. claims.line-mapped;
+      args = λ κs a. record { book = a .0 .now; number = a .1 .0; map = a .1 .1 .0 .now; room = a .1 .1 .1 .0 .now };
+      later = λ κs s. s .1 .1 .1 .0 .now;
+    }
+
+pub line-mapped-proper : Proper line-mapped
+line-mapped-proper =
+    record {
+      named = λ κs. refl;
+      keeps = keeps-as (line-mapped .function) book.line_mapped.Reads.Post (promise line-mapped) (λ κs a r ws p. fronted p)
+          (λ w. book.line_mapped.Met.met (w .𝓤) (w .H) (w .𝓜) (w .𝓖) (w .𝓡));
+      stated = λ κs a no c. line-stated c;
+      occurs = λ κs. inputs.entry-line-mapped;
+      one = λ κs a r q ws vs x y. placed (λ (l : List ℕ). (tt, (tt, (tt, (l, tt)))))
+          (unique.line-one r q (unfronted x) (unfronted y));
+    }
+
+pub line-with-stated : {s : List ℕ} {number : ℕ} {text : List ℕ} {room no : ℕ} → EntryLineByTextCause s number text room no → OneOf no (8 ∷ 3 ∷ 10 ∷ 4 ∷ [])
+line-with-stated (EntryLineByTextCause.no-book f) = here
+line-with-stated (EntryLineByTextCause.no-entry b h) = there here
+line-with-stated (EntryLineByTextCause.bad-sheet f) = there (there here)
+line-with-stated (EntryLineByTextCause.short l h) = there (there (there here))
+
+abbrev pub line-with : Row
+line-with =
+    record {
+      function = function-of book.line_with.Key.name book.line_with.Kinds.ps book.line_with.Kinds.r book.line_with.Symbol.routine;
+      claim = λ κs. claims.line-with;
+      args = λ κs a. record { book = a .0 .now; number = a .1 .0; text = a .1 .1 .0 .now; room = a .1 .1 .1 .0 .now };
+      later = λ κs s. s .1 .1 .1 .0 .now;
+    }
+
+pub line-with-proper : Proper line-with
+line-with-proper =
+    record {
+      named = λ κs. refl;
+      keeps = keeps-as (line-with .function) book.line_with.Reads.Post (promise line-with) (λ κs a r ws p. fronted p)
+          (λ w. book.line_with.Met.met (w .𝓤) (w .H) (w .𝓜) (w .𝓖) (w .𝓡));
+      stated = λ κs a no c. line-with-stated c;
+      occurs = λ κs. inputs.entry-line-with;
+      one = λ κs a r q ws vs x y. placed (λ (l : List ℕ). (tt, (tt, (tt, (l, tt)))))
+          (unique.line-with-one r q (unfronted x) (unfronted y));
+    }
+
+pub list-stated : {sheet : Option Lookup} {s : List ℕ} {room no : ℕ} → ListCause sheet s room no → OneOf no (8 ∷ 4 ∷ [])
 list-stated (ListCause.no-book f) = here
 list-stated (ListCause.short l h) = there here
 
@@ -127,6 +177,53 @@ list-proper =
       stated = λ κs a no c. list-stated c;
       occurs = λ κs. inputs.list;
       one = λ κs a r q ws vs x y. placed (λ (l : List ℕ). (tt, (l, tt))) (unique.list-one r q (unfronted x) (unfronted y));
+    }
+
+abbrev pub list-mapped : Row
+list-mapped =
+    record {
+      function = function-of book.list_mapped.Key.name book.list_mapped.Kinds.ps book.list_mapped.Kinds.r book.list_mapped.Symbol.routine;
+      claim = λ κs. claims.list-mapped;
+      args = λ κs a. record { book = a .0 .now; map = a .1 .0 .now; room = a .1 .1 .0 .now };
+      later = λ κs s. s .1 .1 .0 .now;
+    }
+
+pub list-mapped-proper : Proper list-mapped
+list-mapped-proper =
+    record {
+      named = λ κs. refl;
+      keeps = keeps-as (list-mapped .function) book.list_mapped.Reads.Post (promise list-mapped) (λ κs a r ws p. fronted p)
+          (λ w. book.list_mapped.Met.met (w .𝓤) (w .H) (w .𝓜) (w .𝓖) (w .𝓡));
+      stated = λ κs a no c. list-stated c;
+      occurs = λ κs. inputs.list-mapped;
+      one = λ κs a r q ws vs x y. placed (λ (l : List ℕ). (tt, (tt, (l, tt))))
+          (unique.list-one r q (unfronted x) (unfronted y));
+    }
+
+pub list-with-stated : {s text : List ℕ} {room no : ℕ} → ListByTextCause s text room no → OneOf no (8 ∷ 10 ∷ 4 ∷ [])
+list-with-stated (ListByTextCause.no-book f) = here
+list-with-stated (ListByTextCause.bad-sheet f) = there here
+list-with-stated (ListByTextCause.short l h) = there (there here)
+
+abbrev pub list-with : Row
+list-with =
+    record {
+      function = function-of book.list_with.Key.name book.list_with.Kinds.ps book.list_with.Kinds.r book.list_with.Symbol.routine;
+      claim = λ κs. claims.list-with;
+      args = λ κs a. record { book = a .0 .now; text = a .1 .0 .now; room = a .1 .1 .0 .now };
+      later = λ κs s. s .1 .1 .0 .now;
+    }
+
+pub list-with-proper : Proper list-with
+list-with-proper =
+    record {
+      named = λ κs. refl;
+      keeps = keeps-as (list-with .function) book.list_with.Reads.Post (promise list-with) (λ κs a r ws p. fronted p)
+          (λ w. book.list_with.Met.met (w .𝓤) (w .H) (w .𝓜) (w .𝓖) (w .𝓡));
+      stated = λ κs a no c. list-with-stated c;
+      occurs = λ κs. inputs.list-with;
+      one = λ κs a r q ws vs x y. placed (λ (l : List ℕ). (tt, (tt, (l, tt))))
+          (unique.list-with-one r q (unfronted x) (unfronted y));
     }
 
 pub add-stated : {s : List ℕ} {e : Entry} {room no : ℕ} → AddCause s e room no → OneOf no (8 ∷ 2 ∷ 5 ∷ 4 ∷ [])
@@ -161,7 +258,7 @@ add-proper =
 -- ---- all of them
 
 abbrev pub rows : List Row
-rows = opening ∷ entry ∷ frame ∷ line ∷ list ∷ add ∷ []
+rows = opening ∷ entry ∷ frame ∷ line ∷ line-mapped ∷ line-with ∷ list ∷ list-mapped ∷ list-with ∷ add ∷ []
 
 pub rows-proper : Every Proper rows
 rows-proper =
@@ -169,5 +266,9 @@ rows-proper =
     (and entry-proper
     (and frame-proper
     (and line-proper
+    (and line-mapped-proper
+    (and line-with-proper
     (and list-proper
-    (and add-proper none)))))
+    (and list-mapped-proper
+    (and list-with-proper
+    (and add-proper none)))))))))

@@ -1,4 +1,4 @@
--- The public functions of `host`, `host_lines`, `host_list` and `host_book`: each keeps its claim.
+-- The public functions of `host`, `host_lines`, `host_list`, `host_sheet` and `host_book`: each keeps its claim.
 -- Assumes nothing.
 use mathlib.Core.List.{List, [], _∷_}
 use mathlib.Core.Path.{refl}
@@ -8,6 +8,7 @@ use lib.IntN.{ℤ}
 use Rattle.digits.proofs.Unique.{equation}
 use Rattle.commands.proofs.Unique.{acknowledgement-one}
 use Rattle.lines.proofs.Theorems.{one-line}
+use Rattle.list.proofs.Laws.One.{one-none, one-map}
 use Rattle.list.proofs.Theorems.{one-listing}
 use Rattle.book.proofs.Theorems.{one-book-lines}
 use Rattle.book.proofs.Unique.{entry-line-one, adds-one}
@@ -15,10 +16,12 @@ use Rattle.host.specs.Paper.Panel.{ClimateCause}
 use Rattle.host.proofs as host
 use Rattle.host_lines.proofs as host-lines
 use Rattle.host_list.proofs as host-list
+use Rattle.host_sheet.proofs as host-sheet
 use Rattle.host_book.proofs as host-book
 use Rattle.host.proofs.Unique as unique
 use Rattle.host_lines.proofs.Unique as lines-unique
 use Rattle.host_list.proofs.Unique as list-unique
+use Rattle.host_sheet.proofs.Unique as sheet-unique
 use Rattle.host_book.proofs.Unique as book-unique
 use Rattle.claims.specs.Paper.Claim.{OneOf}
 use Rattle.claims.specs.Paper.Row.{Row, Proper, Every, none, and, promise}
@@ -32,6 +35,7 @@ use Rattle.claims.proofs.Table.Frames.{search-stated, whole-stated, why
 use Rattle.claims.proofs.Table.Lines as lines
 use Rattle.claims.proofs.Table.List as list
 use Rattle.claims.proofs.Table.Numbers.{text-stated, byte-values-write-stated, byte-values-read-stated, out-of-range}
+use Rattle.claims.proofs.Table.Sheet.{map-stated}
 use Rattle.claims.proofs.Occur as inputs
 
 climate-stated : {t h : ℤ} {no : ℕ} → ClimateCause t h no → OneOf no (5 ∷ [])
@@ -346,6 +350,29 @@ line-proper =
           (unique.right-written one-line r q (unfronted x) (unfronted y));
     }
 
+abbrev pub line-with : Row
+line-with =
+    record {
+      function = function-of host-sheet.bolsterweft_line_with.Key.name host-sheet.bolsterweft_line_with.Kinds.ps host-sheet.bolsterweft_line_with.Kinds.r
+          host-sheet.bolsterweft_line_with.Symbol.routine;
+      claim = λ κs. claims.line-with;
+      args = λ κs a. record { kind = a .0; frame = a .1 .0 .now; at = a .1 .1 .0; map = a .1 .1 .1 .0 .now; room = a .1 .1 .1 .1 .0 .now };
+      later = λ κs s. s .1 .1 .1 .1 .0 .now;
+    }
+
+pub line-with-proper : Proper line-with
+line-with-proper =
+    record {
+      named = λ κs. refl;
+      keeps = keeps-as (line-with .function) host-sheet.bolsterweft_line_with.Reads.Post (promise line-with)
+          (λ κs a r ws p. fronted p)
+          (λ w. host-sheet.bolsterweft_line_with.Met.met (w .𝓤) (w .H) (w .𝓜) (w .𝓖) (w .𝓡));
+      stated = λ κs a no c. lines.write-stated c;
+      occurs = λ κs. inputs.host-line-with;
+      one = λ κs a r q ws vs x y. placed (λ (l : List ℕ). (tt, (tt, (tt, (tt, (l, tt))))))
+          (unique.right-written one-line r q (unfronted x) (unfronted y));
+    }
+
 abbrev pub line-next : Row
 line-next =
     record {
@@ -367,6 +394,48 @@ line-next-proper =
           (lines-unique.line-next r q x y);
     }
 
+abbrev pub line-next-with : Row
+line-next-with =
+    record {
+      function = function-of host-sheet.bolsterweft_line_next_with.Key.name host-sheet.bolsterweft_line_next_with.Kinds.ps host-sheet.bolsterweft_line_next_with.Kinds.r
+          host-sheet.bolsterweft_line_next_with.Symbol.routine;
+      claim = λ κs. claims.line-next-with;
+      args = λ κs a. record { kind = a .0; capture = a .1 .0 .now; place = a .1 .1 .0; map = a .1 .1 .1 .0 .now; room = a .1 .1 .1 .1 .0 .now };
+      later = λ κs s. s .1 .1 .1 .1 .0 .now;
+    }
+
+pub line-next-with-proper : Proper line-next-with
+line-next-with-proper =
+    record {
+      named = λ κs. refl;
+      keeps = λ w. host-sheet.bolsterweft_line_next_with.Met.met (w .𝓤) (w .H) (w .𝓜) (w .𝓖) (w .𝓡);
+      stated = λ κs a no c. lines.next-stated c;
+      occurs = λ κs. inputs.host-line-next-with;
+      one = λ κs a r q ws vs x y. placed (λ (l : List ℕ). (tt, (tt, (tt, (tt, (l, tt))))))
+          (lines-unique.line-next r q x y);
+    }
+
+abbrev pub next-mapped : Row
+next-mapped =
+    record {
+      function = function-of host-lines.next_mapped.Key.name host-lines.next_mapped.Kinds.ps host-lines.next_mapped.Kinds.r
+          host-lines.next_mapped.Symbol.routine;
+      claim = λ κs. claims.next-mapped;
+      args = λ κs a. record { kind = a .0; capture = a .1 .0 .now; place = a .1 .1 .0; map = a .1 .1 .1 .0 .now; room = a .1 .1 .1 .1 .0 .now };
+      later = λ κs s. s .1 .1 .1 .1 .0 .now;
+    }
+
+pub next-mapped-proper : Proper next-mapped
+next-mapped-proper =
+    record {
+      named = λ κs. refl;
+      keeps = λ w. host-lines.next_mapped.Met.met (w .𝓤) (w .H) (w .𝓜) (w .𝓖) (w .𝓡);
+      stated = λ κs a no c. lines.next-stated c;
+      occurs = λ κs. inputs.host-next-mapped;
+      one = λ κs a r q ws vs x y. placed (λ (l : List ℕ). (tt, (tt, (tt, (tt, (l, tt))))))
+          (lines-unique.line-next r q x y);
+    }
+
 abbrev pub listing : Row
 listing =
     record {
@@ -382,12 +451,35 @@ listing-proper =
     record {
       named = λ κs. refl;
       keeps = keeps-as (listing .function) host-list.bolsterweft_list.Reads.Post (promise listing)
-          (λ κs a r ws p. fronted (list.right p))
+          (λ κs a r ws p. fronted (list.right one-none p))
           (λ w. host-list.bolsterweft_list.Met.met (w .𝓤) (w .H) (w .𝓜) (w .𝓖) (w .𝓡));
       stated = λ κs a no c. list.stated c;
       occurs = λ κs. inputs.host-listing;
       one = λ κs a r q ws vs x y. placed (λ (l : List ℕ). (tt, (l, tt)))
-          (unique.right-written (λ s t. one-listing) r q (unfronted x) (unfronted y));
+          (unique.right-written (λ s t. one-listing one-none) r q (unfronted x) (unfronted y));
+    }
+
+abbrev pub listing-with : Row
+listing-with =
+    record {
+      function = function-of host-list.bolsterweft_list_with.Key.name host-list.bolsterweft_list_with.Kinds.ps host-list.bolsterweft_list_with.Kinds.r
+          host-list.bolsterweft_list_with.Symbol.routine;
+      claim = λ κs. claims.listing-with;
+      args = λ κs a. record { input = a .0 .now; map = a .1 .0 .now; room = a .1 .1 .0 .now };
+      later = λ κs s. s .1 .1 .0 .now;
+    }
+
+pub listing-with-proper : Proper listing-with
+listing-with-proper =
+    record {
+      named = λ κs. refl;
+      keeps = keeps-as (listing-with .function) host-list.bolsterweft_list_with.Reads.Post (promise listing-with)
+          (λ κs a r ws p. fronted (list.right (one-map (a .1 .0 .now)) p))
+          (λ w. host-list.bolsterweft_list_with.Met.met (w .𝓤) (w .H) (w .𝓜) (w .𝓖) (w .𝓡));
+      stated = λ κs a no c. list.stated c;
+      occurs = λ κs. inputs.host-listing-with;
+      one = λ κs a r q ws vs x y. placed (λ (l : List ℕ). (tt, (tt, (l, tt))))
+          (unique.right-written (λ s t. one-listing (one-map (a .1 .0 .now))) r q (unfronted x) (unfronted y));
     }
 
 abbrev pub acknowledge : Row
@@ -411,6 +503,49 @@ acknowledge-proper =
       occurs = λ κs. inputs.host-acknowledge;
       one = λ κs a r q ws vs x y. placed (λ (l : List ℕ). (tt, (l, tt)))
           (unique.right-written acknowledgement-one r q (unfronted x) (unfronted y));
+    }
+
+abbrev pub sheet-map : Row
+sheet-map =
+    record {
+      function = function-of host-sheet.bolsterweft_sheet_map.Key.name host-sheet.bolsterweft_sheet_map.Kinds.ps host-sheet.bolsterweft_sheet_map.Kinds.r
+          host-sheet.bolsterweft_sheet_map.Symbol.routine;
+      claim = λ κs. claims.sheet-map;
+      args = λ κs a. record { text = a .0 .now; map = a .1 .0 .now };
+      later = λ κs s. s .1 .0 .now;
+    }
+
+pub sheet-map-proper : Proper sheet-map
+sheet-map-proper =
+    record {
+      named = λ κs. refl;
+      keeps = keeps-as (sheet-map .function) host-sheet.bolsterweft_sheet_map.Reads.Post (promise sheet-map)
+          (λ κs a r ws p. fronted p)
+          (λ w. host-sheet.bolsterweft_sheet_map.Met.met (w .𝓤) (w .H) (w .𝓜) (w .𝓖) (w .𝓡));
+      stated = λ κs a no c. map-stated c;
+      occurs = λ κs. inputs.host-sheet-map;
+      one = λ κs a r q ws vs x y. placed (λ (l : List ℕ). (tt, (l, tt)))
+          (sheet-unique.mapped r q (unfronted x) (unfronted y));
+    }
+
+abbrev pub sheet-fault : Row
+sheet-fault =
+    record {
+      function = function-of host-sheet.bolsterweft_sheet_fault.Key.name host-sheet.bolsterweft_sheet_fault.Kinds.ps host-sheet.bolsterweft_sheet_fault.Kinds.r
+          host-sheet.bolsterweft_sheet_fault.Symbol.routine;
+      claim = λ κs. claims.sheet-fault;
+      args = λ κs a. record { text = a .0 .now };
+      later = λ κs s. [];
+    }
+
+pub sheet-fault-proper : Proper sheet-fault
+sheet-fault-proper =
+    record {
+      named = λ κs. refl;
+      keeps = λ w. host-sheet.bolsterweft_sheet_fault.Met.met (w .𝓤) (w .H) (w .𝓜) (w .𝓖) (w .𝓡);
+      stated = λ κs a no c. absurd c;
+      occurs = λ κs. tt;
+      one = λ κs a r q ws vs x y. (sheet-unique.fault r q x y, refl);
     }
 
 abbrev pub book-open : Row
@@ -476,6 +611,29 @@ book-line-proper =
           (unique.right-written entry-line-one r q (unfronted x) (unfronted y));
     }
 
+abbrev pub book-line-with : Row
+book-line-with =
+    record {
+      function = function-of host-book.bolsterweft_book_line_with.Key.name host-book.bolsterweft_book_line_with.Kinds.ps host-book.bolsterweft_book_line_with.Kinds.r
+          host-book.bolsterweft_book_line_with.Symbol.routine;
+      claim = λ κs. claims.book-line-with;
+      args = λ κs a. record { book = a .0 .now; number = a .1 .0; map = a .1 .1 .0 .now; room = a .1 .1 .1 .0 .now };
+      later = λ κs s. s .1 .1 .1 .0 .now;
+    }
+
+pub book-line-with-proper : Proper book-line-with
+book-line-with-proper =
+    record {
+      named = λ κs. refl;
+      keeps = keeps-as (book-line-with .function) host-book.bolsterweft_book_line_with.Reads.Post (promise book-line-with)
+          (λ κs a r ws p. fronted p)
+          (λ w. host-book.bolsterweft_book_line_with.Met.met (w .𝓤) (w .H) (w .𝓜) (w .𝓖) (w .𝓡));
+      stated = λ κs a no c. book.line-stated c;
+      occurs = λ κs. inputs.host-book-line-with;
+      one = λ κs a r q ws vs x y. placed (λ (l : List ℕ). (tt, (tt, (tt, (l, tt)))))
+          (unique.right-written entry-line-one r q (unfronted x) (unfronted y));
+    }
+
 abbrev pub book-list : Row
 book-list =
     record {
@@ -496,6 +654,29 @@ book-list-proper =
       stated = λ κs a no c. book.list-stated c;
       occurs = λ κs. inputs.host-book-list;
       one = λ κs a r q ws vs x y. placed (λ (l : List ℕ). (tt, (l, tt)))
+          (unique.right-written (λ s t. one-book-lines) r q (unfronted x) (unfronted y));
+    }
+
+abbrev pub book-list-with : Row
+book-list-with =
+    record {
+      function = function-of host-book.bolsterweft_book_list_with.Key.name host-book.bolsterweft_book_list_with.Kinds.ps host-book.bolsterweft_book_list_with.Kinds.r
+          host-book.bolsterweft_book_list_with.Symbol.routine;
+      claim = λ κs. claims.book-list-with;
+      args = λ κs a. record { book = a .0 .now; map = a .1 .0 .now; room = a .1 .1 .0 .now };
+      later = λ κs s. s .1 .1 .0 .now;
+    }
+
+pub book-list-with-proper : Proper book-list-with
+book-list-with-proper =
+    record {
+      named = λ κs. refl;
+      keeps = keeps-as (book-list-with .function) host-book.bolsterweft_book_list_with.Reads.Post (promise book-list-with)
+          (λ κs a r ws p. fronted p)
+          (λ w. host-book.bolsterweft_book_list_with.Met.met (w .𝓤) (w .H) (w .𝓜) (w .𝓖) (w .𝓡));
+      stated = λ κs a no c. book.list-stated c;
+      occurs = λ κs. inputs.host-book-list-with;
+      one = λ κs a r q ws vs x y. placed (λ (l : List ℕ). (tt, (tt, (l, tt))))
           (unique.right-written (λ s t. one-book-lines) r q (unfronted x) (unfronted y));
     }
 
@@ -541,13 +722,21 @@ rows =
     ∷ panel
     ∷ climate
     ∷ line
+    ∷ line-with
     ∷ line-next
+    ∷ line-next-with
+    ∷ next-mapped
     ∷ listing
+    ∷ listing-with
     ∷ acknowledge
+    ∷ sheet-map
+    ∷ sheet-fault
     ∷ book-open
     ∷ book-entry
     ∷ book-line
+    ∷ book-line-with
     ∷ book-list
+    ∷ book-list-with
     ∷ book-add
     ∷ []
 
@@ -568,11 +757,19 @@ rows-proper =
     (and panel-proper
     (and climate-proper
     (and line-proper
+    (and line-with-proper
     (and line-next-proper
+    (and line-next-with-proper
+    (and next-mapped-proper
     (and listing-proper
+    (and listing-with-proper
     (and acknowledge-proper
+    (and sheet-map-proper
+    (and sheet-fault-proper
     (and book-open-proper
     (and book-entry-proper
     (and book-line-proper
+    (and book-line-with-proper
     (and book-list-proper
-    (and book-add-proper none))))))))))))))))))))))
+    (and book-list-with-proper
+    (and book-add-proper none))))))))))))))))))))))))))))))

@@ -182,6 +182,25 @@ splits-proper =
       one = λ κs a r q ws vs x y. (unique.splits _ _ r q x y, refl);
     }
 
+abbrev pub unsolicited : Row
+unsolicited =
+    record {
+      function = function-of sheet.unsolicited.Key.name sheet.unsolicited.Kinds.ps sheet.unsolicited.Kinds.r sheet.unsolicited.Symbol.routine;
+      claim = λ κs. claims.unsolicited;
+      args = λ κs a. record { command = a .0 };
+      later = λ κs s. [];
+    }
+
+pub unsolicited-proper : Proper unsolicited
+unsolicited-proper =
+    record {
+      named = λ κs. refl;
+      keeps = λ w. sheet.unsolicited.Met.met (w .𝓤) (w .H) (w .𝓜) (w .𝓖) (w .𝓡);
+      stated = λ κs a no c. absurd c;
+      occurs = λ κs. tt;
+      one = λ κs a r q ws vs x y. (unique.unsolicited (a .0) r q x y, refl);
+    }
+
 abbrev pub fault : Row
 fault =
     record {
@@ -204,7 +223,7 @@ fault-proper =
 -- ---- all of them
 
 abbrev pub rows : List Row
-rows = opening ∷ type-of ∷ split ∷ join ∷ map ∷ type-in ∷ splits ∷ fault ∷ []
+rows = opening ∷ type-of ∷ split ∷ join ∷ map ∷ type-in ∷ splits ∷ unsolicited ∷ fault ∷ []
 
 pub rows-proper : Every Proper rows
 rows-proper =
@@ -215,4 +234,5 @@ rows-proper =
     (and map-proper
     (and type-in-proper
     (and splits-proper
-    (and fault-proper none)))))))
+    (and unsolicited-proper
+    (and fault-proper none))))))))

@@ -3,6 +3,7 @@
 -- Assumes nothing.
 use mathlib.Core.Bool.{true}
 use mathlib.Core.List.{List, _++_, List·Memᴰ}
+use mathlib.Core.Option.{Option, none}
 use mathlib.Core.Path.{_≡_}
 use Prim.Native.Nat.{ℕ, _+_, _-_, _≤_}
 use lib.IntN.{ℤ}
@@ -34,11 +35,14 @@ use Rattle.messages.specs.declared.Decoded.{Decoded}
 use Rattle.messages.specs.declared.Decoded.the-variants.{Is}
 use Rattle.messages.specs.declared.Message.{Message as Coded}
 use Rattle.commands.specs.Paper.Answers.{Encodes}
+use Rattle.sheet.specs.Paper.Sheet.{Lookup}
+use Rattle.lines.specs.Paper.Line.{line}
+use Rattle.lines.specs.Paper.WithSheet.{lineWith}
 use Rattle.lines.specs.Paper.Answers.{LineOf, WritesLine, PutsNext, NextLine, listedRefusal, listedPlaced}
 use Rattle.lines.specs.declared.Listed.{Listed}
 use Rattle.book.specs.Paper.Answers.{EntryLine, WritesEntryLine, BookLines, WritesBookLines}
 use Rattle.list.specs.Paper.Answers.{WritesListing}
-use Rattle.list.specs.Paper.Listing.{Lists, Listing, inside}
+use Rattle.list.specs.Paper.Listing.{Lists, NoSheet, OfMap, OfText, Listing, inside}
 use Rattle.list.specs.Paper.Skipped.{InNone}
 
 -- ---- DEMAND 2
@@ -74,36 +78,49 @@ pub record Demand2 : Type 0 where
   pub its-bytes : {k : ℕ} {f : List ℕ} {m : Message} → Stands k f m → f ≡ bytes m
   pub decoded : {k : ℕ} {f : List ℕ} → Frame k f → (r : Decoded) → Decodes k f r
       → (e : Coded) × DecodedAs k f e r
-  -- ".. and their JSON lines are those of document 01": a frame has one line, which no other frame has
-  pub a-line : {k : ℕ} {f : List ℕ} (at : ℕ) → Frame k f → (t : List ℕ) × LineOf k f at t
-  pub one-line : {k : ℕ} {f : List ℕ} {at : ℕ} (s t : List ℕ) → LineOf k f at s → LineOf k f at t
-      → s ≡ t
-  pub of-one-frame : {k j at there : ℕ} {f g t : List ℕ} → LineOf k f at t → LineOf j g there t
+  -- ".. and their JSON lines are those of document 01", and of 02, K2, if there is a register sheet: under one sheet a
+  -- frame has one line, which no other frame has. Without a sheet it is 01's
+  pub no-sheet : (at len : ℕ) (m : Message) → lineWith none at len m ≡ line at len m
+  pub a-line : {sheet : Option Lookup} {k : ℕ} {f : List ℕ} (at : ℕ) → Frame k f
+      → (t : List ℕ) × LineOf sheet k f at t
+  pub one-line : {sheet : Option Lookup} {k : ℕ} {f : List ℕ} {at : ℕ} (s t : List ℕ) → LineOf sheet k f at s
+      → LineOf sheet k f at t → s ≡ t
+  pub of-one-frame : {sheet : Option Lookup} {k j at there : ℕ} {f g t : List ℕ} → LineOf sheet k f at t
+      → LineOf sheet j g there t
       → (at ≡ there) × (k ≡ j) × (f ≡ g)
   -- and if a call is not refused, what it has written is that line: of a frame, and of the next frame of a capture
-  pub line-written : {k : ℕ} {f : List ℕ} {at : ℕ} {room later : List ℕ} (r : Written)
-      → WritesLine k f at room r later
-      → writtenRefusal r ≡ 0 → LineOf k f at (take (writtenCount r) later)
-  pub next-line-put : {k : ℕ} {s : List ℕ} {place to : ℕ} {room later : List ℕ} (r : Listed)
-      → PutsNext k s place room to r later → listedRefusal r ≡ 0
-      → NextLine k s place room to (listedPlaced r) later
+  pub line-written : {sheet : Option Lookup} {k : ℕ} {f : List ℕ} {at : ℕ} {room later : List ℕ} (r : Written)
+      → WritesLine sheet k f at room r later
+      → writtenRefusal r ≡ 0 → LineOf sheet k f at (take (writtenCount r) later)
+  pub next-line-put : {sheet : Option Lookup} {k : ℕ} {s : List ℕ} {place to : ℕ} {room later : List ℕ} (r : Listed)
+      → PutsNext sheet k s place room to r later → listedRefusal r ≡ 0
+      → NextLine sheet k s place room to (listedPlaced r) later
   -- of an entry of a book, and of all its entries
-  pub entry-line-written : {s room later : List ℕ} {number : ℕ} (r : Written)
-      → WritesEntryLine s number room r later
-      → writtenRefusal r ≡ 0 → EntryLine s number (take (writtenCount r) later)
-  pub book-lines-written : {s room later : List ℕ} (r : Written) → WritesBookLines s room r later
-      → writtenRefusal r ≡ 0 → BookLines s (take (writtenCount r) later)
+  pub entry-line-written : {sheet : Option Lookup} {s room later : List ℕ} {number : ℕ} (r : Written)
+      → WritesEntryLine sheet s number room r later
+      → writtenRefusal r ≡ 0 → EntryLine sheet s number (take (writtenCount r) later)
+  pub book-lines-written : {sheet : Option Lookup} {s room later : List ℕ} (r : Written)
+      → WritesBookLines sheet s room r later
+      → writtenRefusal r ≡ 0 → BookLines sheet s (take (writtenCount r) later)
   -- and of all frames of a capture. The listing's frames are as long as their lines say. The frames and the bytes
   -- that are skipped make up the capture, and these bytes, counted one by one, are in no frame
-  pub listing-written : {s room later : List ℕ} (r : Written) → WritesListing s room r later
+  pub listing-written : {s room later : List ℕ} (r : Written) → WritesListing NoSheet s room r later
       → writtenRefusal r ≡ 0
-      → Listing s (take (writtenCount r) later)
+      → Listing NoSheet s (take (writtenCount r) later)
+  pub listing-by-map : (map : List ℕ) {s room later : List ℕ} (r : Written)
+      → WritesListing (OfMap map) s room r later
+      → writtenRefusal r ≡ 0
+      → Listing (OfMap map) s (take (writtenCount r) later)
+  pub listing-by-text : (text : List ℕ) {s room later : List ℕ} (r : Written)
+      → WritesListing (OfText text) s room r later
+      → writtenRefusal r ≡ 0
+      → Listing (OfText text) s (take (writtenCount r) later)
   pub listed-length : {k place : ℕ} {s : List ℕ} {hits : List Hit} {v : Hit} → Run k s place hits
       → List·Memᴰ v hits
       → length (framePart s v) ≡ v .len
-  pub listed-all : {k : ℕ} {s t : List ℕ} (l : Lists k s t)
+  pub listed-all : {sheet : Option Lookup} {k : ℕ} {s t : List ℕ} (l : Lists sheet k s t)
       → inside (l .frames) + (length s - inside (l .frames)) ≡ length s
-  pub skipped : {k : ℕ} {s t : List ℕ} (l : Lists k s t)
+  pub skipped : {sheet : Option Lookup} {k : ℕ} {s t : List ℕ} (l : Lists sheet k s t)
       → InNone (l .frames) 0 (length s) (length s - inside (l .frames))
   -- "An encoded message decodes to itself": if the encoder has written bytes for a case with its content, decoding
   -- them answers that case, and the message in them is the one that was said

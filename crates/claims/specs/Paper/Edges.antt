@@ -4,6 +4,7 @@
 -- Assumes nothing.
 use mathlib.Core.Bool.{Bool, true, false}
 use mathlib.Core.List.{List, [], _∷_, _++_}
+use mathlib.Core.Option.{none}
 use mathlib.Core.Path.{_≡_}
 use Prim.Native.Nat.{ℕ}
 use lib.IntN.{ℤ, pos, negℤ}
@@ -26,7 +27,7 @@ use Rattle.frames.specs.declared.kinds.Kind.the-variants.{Nikobus, NestCommand,
 use Rattle.messages.specs.Paper.Message.{Message, read, set, answer, press, link, command, climate, state, text}
 use Rattle.messages.specs.Paper.Message.{response, ask, reply, put, nibe, output, input, shutter, beat}
 use Rattle.messages.specs.Paper.Table.{bytes, Limits}
-use Rattle.list.specs.Paper.Listing.{Lists, Input, Listing}
+use Rattle.list.specs.Paper.Listing.{Lists, Input, NoSheet, Listing}
 use Rattle.book.specs.Paper.Book.{Entry, Within, EntryAt}
 
 -- ---- what can be right or wrong
@@ -59,9 +60,9 @@ pub data Fact : Type 0 where
 
 pub record Listed (s : List ℕ) : Type 0 where
   pub text : List ℕ
-  pub listing : Listing s text
+  pub listing : Listing NoSheet s text
   pub input : Input s
-  pub lists : Lists (input .kind) (input .capture) text
+  pub lists : Lists none (input .kind) (input .capture) text
 
 abbrev pub Right : Fact → Type 0
 Right (frame bus f) = Frame (numberOf bus) f

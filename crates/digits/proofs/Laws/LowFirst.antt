@@ -11,7 +11,7 @@ use lib.Seq.{drop-cons}
 use Rattle.digits.specs.Paper.Bytes.{Bytes}
 use Rattle.digits.specs.Paper.LowFirst.{Width, one, two, four, Held, lowByteFirst}
 use Rattle.digits.specs.Paper.Read.{Reads, is, none}
-use Rattle.digits.specs.Work.LowFirst.{lowValue}
+use Rattle.digits.specs.Paper.LowFirst.{lowValue}
 use Rattle.digits.proofs.Laws.Reads.{refused}
 use Rattle.digits.proofs.Laws.Bytes.{bytes-nil, bytes-cons, bytes-head, bytes-tail, bytes-drop}
 

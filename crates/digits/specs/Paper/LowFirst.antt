@@ -1,6 +1,6 @@
 -- 01, Messages: "Addresses and numbers are low byte first"; Numbers: "Byte values have width 1, 2 or 4".
 -- Assumes nothing.
-use Prim.Native.Nat.{ℕ, zero, suc, _/_, _%_, _^_, _<_}
+use Prim.Native.Nat.{ℕ, zero, suc, _+_, _*_, _/_, _%_, _^_, _<_}
 use mathlib.Core.List.{List, [], _∷_}
 
 -- the widths that there are
@@ -22,3 +22,8 @@ SixteenBits n = n < 65536
 unfoldable pub lowByteFirst : ℕ → ℕ → List ℕ
 lowByteFirst zero n = []
 lowByteFirst (suc width) n = n % 256 ∷ lowByteFirst width (n / 256)
+
+-- and the number that such bytes are
+unfoldable pub lowValue : List ℕ → ℕ
+lowValue [] = 0
+lowValue (b ∷ s) = b + lowValue s * 256

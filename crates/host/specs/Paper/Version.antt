@@ -1,6 +1,6 @@
--- The version of the library as one number: 1.2.0 is 10200.
+-- The version of the library as one number: 1.3.0 is 10300.
 -- Assumes nothing.
 use Prim.Native.Nat.{ℕ}
 
 abbrev pub version : ℕ
-version = 10200
+version = 10300

@@ -2,10 +2,12 @@
 -- of here.
 -- Assumes nothing.
 use mathlib.Core.List.{List}
+use mathlib.Core.Option.{Option}
 use Prim.Native.Nat.{ℕ}
 use lib.ListN.{length}
 use Rattle.puts.specs.Paper.Right.{AnswersInto}
 use Rattle.lines.specs.Paper.Answers.{Placed, zeroPlaced, NextCause, NextLine}
+use Rattle.sheet.specs.Paper.Sheet.{Lookup}
 use Rattle.host_lines.specs.declared.Listed.{Listed}
 
 -- a line that begins at the room's front ends at its length
@@ -14,7 +16,7 @@ placedIn r = record { start = r .start; len = r .length; behind = r .«line_leng
 
 -- r is the right answer, and `later` the right room afterwards, of a call that writes the line of the next frame from
 -- the front of a lent room
-abbrev pub WroteNext : ℕ → List ℕ → ℕ → List ℕ → Listed → List ℕ → Type 0
-WroteNext k s place room r later =
-    AnswersInto zeroPlaced room (NextCause k s place (length room)) (NextLine k s place room 0) (r .refusal)
-    (placedIn r) later
+abbrev pub WroteNext : Option Lookup → ℕ → List ℕ → ℕ → List ℕ → Listed → List ℕ → Type 0
+WroteNext sheet k s place room r later =
+    AnswersInto zeroPlaced room (NextCause sheet k s place (length room)) (NextLine sheet k s place room 0)
+    (r .refusal) (placedIn r) later

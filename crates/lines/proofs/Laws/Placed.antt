@@ -2,6 +2,7 @@
 -- Assumes nothing.
 use mathlib.Core.Bool.{Bool, true, false, not}
 use mathlib.Core.List.{List}
+use mathlib.Core.Option.{Option}
 use mathlib.Core.Path.{_≡_, refl, sym, _∙_, subst}
 use Prim.Native.Nat.{ℕ, _-_, _≤_, _<_}
 use native.Mathlib.Omega.{arith}
@@ -15,15 +16,16 @@ use Rattle.puts.specs.Paper.Wrote.{wrote, refused, RoomCause, Writes}
 use Rattle.puts.specs.declared.Written.{Written}
 use Rattle.puts.specs.declared.Written.the-variants.{Bytes, Refused}
 use Rattle.puts.proofs.Laws.Wrote.{too-short, room-for}
+use Rattle.sheet.specs.Paper.Sheet.{Lookup}
 use Rattle.lines.specs.Work.Put.{Bounded, AllOrNone, all, none}
 use Rattle.lines.specs.Work.Tried.{Surely}
 
 -- ---- whether it fits
 
 -- a line that is shorter than what is left, by the bound
-pub surely : {t : List ℕ} {beside left : ℕ} (b : Bool) → Bounded t beside → Surely false beside left b → b ≡ true → true ≡ leb (length t) left
-surely {t} {beside} {left} b x y e =
-    let m = subst (Surely false beside left) e y .may-put refl in sym (le-leb (length t) left (omega (arith, x .most)))
+pub surely : {sheet : Option Lookup} {t : List ℕ} {beside left : ℕ} (b : Bool) → Bounded sheet t beside → Surely sheet false beside left b → b ≡ true → true ≡ leb (length t) left
+surely {sheet} {t} {beside} {left} b x y e =
+    let m = subst (Surely sheet false beside left) e y .may-put refl in sym (le-leb (length t) left (omega (arith, x .most)))
 
 module _ {bs room : List ℕ} {to left : ℕ} {fits : Bool} (l : left ≡ length room - to) (f : fits ≡ leb (length bs) left) where
   pub not-placed : not fits ≡ true → AllOrNone bs room to (Refused NoRoom) room

@@ -3,6 +3,7 @@
 use mathlib.Core.Path.{_≡_, refl, sym, ap, _∙_, subst}
 use mathlib.Core.Bool.{Bool, true, false, cond}
 use mathlib.Core.List.{List, [], _++_, append-nil}
+use mathlib.Core.Option.{Option}
 use Prim.Native.Nat.{ℕ, _≤_}
 use lib.Dec.{ltb}
 use lib.ListN.{length}
@@ -31,9 +32,11 @@ use Rattle.messages.specs.declared.nikobus.Nikobus.the-variants.{Read, Set, Ans
 use Rattle.messages.proofs.Laws.Responses.{volts-refused, volts-read}
 use Rattle.messages.proofs.Unique.{voltages}
 use Rattle.messages.proofs.Laws.HomiqFields.{payload-cmd, payload-val, payload-src, payload-dst, payload-id, payload-type}
-use Rattle.lines.specs.Paper.Line.{members, wired, line}
-use Rattle.lines.specs.Work.Put.{commaed, named, nikobusNameAndMembers, voltsMembers, stateMembers, responseNameAndMembers, homiqName, fieldMembers, nameAndMembers, put}
-use Rattle.lines.proofs.Laws.Put.{line-named}
+use Rattle.sheet.specs.Paper.Sheet.{Lookup}
+use Rattle.lines.specs.Paper.Line.{members, wired}
+use Rattle.lines.specs.Paper.WithSheet.{nothing, share, lineWith}
+use Rattle.lines.specs.Work.Put.{commaed, named, nikobusNameAndMembers, voltsMembers, stateMembers, responseNameAndMembers, homiqName, fieldMembers, nameAndMembers, namedWith, put}
+use Rattle.lines.proofs.Laws.Put.{line-named, named-unshared}
 
 -- ---- Nikobus
 
@@ -95,18 +98,48 @@ wire-rest homiqCases.Other w = refl
 homiq-said : (e : Homiq) (s : List ℕ) (m : Message) → SaysHomiq e s m → homiqName e ++ commaed (fieldMembers s) ≡ named m
 homiq-said e s m x = ap (λ (ms : List Member). homiqName e ++ commaed ms) (fields-wired (x .payload)) ∙ wire-rest e (x .wire) ∙ ap named (sym (x .is))
 
+-- ---- a sheet has no say in them
+
+nikobus-share : (e : Nikobus) (s : List ℕ) (m : Message) → SaysNikobus e s m → share m ≡ nothing
+nikobus-share e s m (a-link f a) = ap share (a .is)
+nikobus-share e s m (another n g) = ap share g ∙ go e
+  where
+    go : (e : Nikobus) → share (ofNikobus e []) ≡ nothing
+    go (Read g a) = refl
+    go (Set g a out) = refl
+    go (Answer a third out) = refl
+    go (Press d) = refl
+    go Tail = refl
+    go Link = refl
+
+response-share : (e : Response) (s : List ℕ) → share (ofResponse e s) ≡ nothing
+response-share (Climate t h) s = refl
+response-share State s = refl
+response-share Break s = refl
+response-share End s = refl
+response-share (Text i) s = refl
+response-share (responseCases.Other i) s = refl
+
+homiq-share : (e : Homiq) (w : Wire) → share (ofHomiq e w) ≡ nothing
+homiq-share Output w = refl
+homiq-share Input w = refl
+homiq-share Shutter w = refl
+homiq-share Beat w = refl
+homiq-share homiqCases.Other w = refl
+
 -- ---- the line
 
-rest-said : (e : Coded) (s : List ℕ) (m : Message) → Limits m → Says e s m → nameAndMembers e s ≡ named m
-unfolding nameAndMembers
-rest-said (OnNikobus e) s m l x = nikobus-said e s m x
-rest-said (Command i) s m l x = ap named (sym x)
-rest-said (AsResponse e) s m l x = response-rest e s (subst Limits x l) ∙ ap named (sym x)
-rest-said (OnNibe e) s m l x = ap named (sym x)
-rest-said (OnHomiq e) s m l x = homiq-said e s m x
+module _ (sheet : Option Lookup) where
+  rest-said : (e : Coded) (s : List ℕ) (m : Message) → Limits m → Says e s m → nameAndMembers sheet e s ≡ namedWith sheet m
+  unfolding nameAndMembers
+  rest-said (OnNikobus e) s m l x = nikobus-said e s m x ∙ named-unshared sheet m (nikobus-share e s m x)
+  rest-said (Command i) s m l x = ap named (sym x) ∙ named-unshared sheet m (ap share x)
+  rest-said (AsResponse e) s m l x = response-rest e s (subst Limits x l) ∙ ap named (sym x) ∙ named-unshared sheet m (ap share x ∙ response-share e s)
+  rest-said (OnNibe e) s m l x = ap (namedWith sheet) (sym x)
+  rest-said (OnHomiq e) s m l x = homiq-said e s m x ∙ named-unshared sheet m (ap share (x .is) ∙ homiq-share e (x .wire))
 
-pub put-said : (e : Coded) (s : List ℕ) (at len : ℕ) (m : Message) → Limits m → Says e s m → put e s at len ≡ line at len m
-unfolding put
-put-said e s at len m l x =
-    ap (λ (y : List ℕ). ascii "{\"at\":" ++ (number at ++ (ascii ",\"len\":" ++ (number len ++ (ascii ",\"msg\":\"" ++ (y ++ ascii "}\n")))))) (rest-said e s m l x)
-    ∙ line-named at len m
+  pub put-said : (e : Coded) (s : List ℕ) (at len : ℕ) (m : Message) → Limits m → Says e s m → put sheet e s at len ≡ lineWith sheet at len m
+  unfolding put
+  put-said e s at len m l x =
+      ap (λ (y : List ℕ). ascii "{\"at\":" ++ (number at ++ (ascii ",\"len\":" ++ (number len ++ (ascii ",\"msg\":\"" ++ (y ++ ascii "}\n")))))) (rest-said e s m l x)
+      ∙ line-named sheet at len m

@@ -1,24 +1,28 @@
 -- How long frames and their lines are.
 -- Assumes nothing.
-use mathlib.Core.Bool.{true, cond}
-use mathlib.Core.List.{List, [], _∷_, _++_}
+use mathlib.Core.Bool.{Bool, true, false, cond}
+use mathlib.Core.List.{List, [], _∷_, _++_, append-nil}
 use mathlib.Core.Logic.{⊎-elim}
+use mathlib.Core.Option.{Option, none, some, Option·none-ne-some}
 use mathlib.Core.Path.{_≡_, refl, sym, ap, _∙_, subst}
 use Prim.Native.Nat.{ℕ, _+_, _*_, _^_, _≤_, _<_}
 use native.Mathlib.Nat.{pow-le-pow-right, zero-lt-suc, lt-of-lt-of-le}
 use native.Mathlib.Omega.{arith}
-use lib.IntN.{pos}
+use lib.Dec.{eqb}
+use lib.IntN.{ℤ, pos}
 use lib.ListN.{length, length-append}
+use borrow.Author.Tests.{eqb-true}
 use Rattle.digits.specs.Paper.Ascii.{ascii}
 use Rattle.digits.specs.Paper.Bytes.{Bytes}
 use Rattle.digits.specs.Paper.Decimal.{decimal}
 use Rattle.digits.specs.Paper.Hex.{hexBytes}
-use Rattle.digits.specs.Paper.LowFirst.{Width, one, two, four, Held, lowByteFirst}
+use Rattle.digits.specs.Paper.LowFirst.{Width, one, two, four, Held, lowByteFirst, lowValue}
 use Rattle.digits.proofs.Laws.Decimal.{length-some, length-decimal}
 use Rattle.digits.proofs.Laws.Hex as hexes
-use Rattle.digits.proofs.Laws.LowFirst.{width-most, length-low}
+use Rattle.digits.proofs.Laws.LowFirst.{width-most, length-low, value-low}
 use Rattle.numbers.specs.Paper.ByteValues.{valueBytes}
 use Rattle.numbers.proofs.Laws.Signs.{magnitude-lt}
+use Rattle.numbers.proofs.Laws.Values as numbers
 use Rattle.numbers.proofs.Theorems.ByteValues.{value-width, value-raw}
 use Rattle.checks.specs.Paper.Buses.{nikobusCrc16, nikobusCrc8, homiqCrc}
 use Rattle.checks.specs.Paper.Check.{check}
@@ -59,8 +63,16 @@ use Rattle.puts.specs.Paper.Put.{largestPlace}
 use Rattle.json.specs.Paper.Json.{Member, _∶_, object, number, quoted, reading}
 use Rattle.json.proofs.Laws.Sizes.{length-quoted, length-hex, length-chars, length-truth, total, length-object, length-reading}
 use Rattle.lines.specs.Paper.Answers.{LineOf, LineSaid}
+use Rattle.sheet.specs.Paper.Sheet.{RegisterType, Lookup}
+use Rattle.sheet.specs.Paper.Split.{isUnsolicited, typedValue, Pair, splitOf}
+use Rattle.sheet.proofs.Laws.Computed.{computed-splits}
 use Rattle.lines.specs.Paper.Line.{highByteFirst, wired, members, line, lineRoom}
-use Rattle.lines.specs.Work.Put.{Bounded}
+use Rattle.lines.specs.Paper.WithSheet.{typeIn, Share, aValue, someData, nothing, share, byShare, behindShare, valueReading, valuesOf, values, membersWith, furtherMembers, lineWith}
+use Rattle.lines.specs.Paper.WithSheet as with
+use Rattle.lines.specs.Work.Put.{Bounded, aByte}
+use Rattle.lines.proofs.Laws.Put.{members-unshared}
+use Rattle.lines.proofs.Laws.SheetSizes.{length-array}
+use Rattle.lines.proofs.Laws.Types.{InTypes, no-types}
 
 -- ---- frames
 
@@ -293,28 +305,168 @@ rows (homiq w) l = homiq-fits (homiq w) w l (omega arith) refl refl refl
 pub bytes-most : (m : Message) → Limits m → length (bytes m) ≤ 1034
 bytes-most m l = rows m l .short
 
-length-line : (at len : ℕ) (m : Message) → length (line at len m) ≡ length (decimal at) + length (decimal len) + length (name m) + total (members m) + 24
-unfolding line total
-length-line at len m =
-    let ms : List Member = ascii "len" ∶ number len ∷ ascii "msg" ∶ quoted (name m) ∷ members m in
+-- ---- by a sheet
+
+abbrev shown : Option Lookup → Message → List Member
+shown sheet m = membersWith sheet m ++ furtherMembers sheet m
+
+-- as short as without a sheet; or the message is split, and then at most 26 bytes a byte of the frame
+data Room (sheet : Option Lookup) (m : Message) : Type 0 where
+  as-before : length (name m) + total (shown sheet m) ≤ 8 * length (bytes m) + 48 → Room sheet m
+  split : {look : Lookup} → sheet ≡ some look → length (name m) + total (shown sheet m) + 48 ≤ 26 * length (bytes m)
+      → length (bytes m) ≤ length (taken m) + 4 → Room sheet m
+
+module _ {sheet : Option Lookup} (types : InTypes sheet) where
+  unshared : (m : Message) → share m ≡ nothing → Limits m → Room sheet m
+  unshared m e l = as-before (rw (members-unshared sheet m e) (rows m l .room))
+
+  plain-size : {w v : ℕ} → Held w v → length (reading (pos v) 0) ≤ 62
+  plain-size {w} {v} h = length-reading (pos v) 0 (held-small h) (omega arith)
+
+  typed-size : (r : ℕ) {w v : ℕ} (t : RegisterType) → typeIn sheet r ≡ some t → Held w v → (b : Bool) → eqb (t .width) w ≡ b
+      → length (cond b (reading (typedValue t (lowByteFirst w v)) (t .decimals)) (reading (pos v) 0)) ≤ 62
+  typed-size r {w} {v} t e h true q =
+      let k : w ≡ t .width = sym (eqb-true (t .width) w q) in
+      let n : lowValue (lowByteFirst w v) < 256 ^ t .width = rw (value-low w v (h .below)) (subst (λ (x : ℕ). v < 256 ^ x) k (h .below)) in
+      let z = numbers.size (types .width r e) in
+      length-reading (typedValue t (lowByteFirst w v)) (t .decimals)
+      (magnitude-lt (typedValue t (lowByteFirst w v)) (numbers.in-raw z (numbers.size-most (types .width r e)) (numbers.of-twos z (t .signed) (lowValue (lowByteFirst w v)) n .0)))
+      (types .decimals r e)
+  typed-size r {w} {v} t e h false q = plain-size h
+
+  value-size : (r w v : ℕ) → Held w v → length (valueReading (typeIn sheet r) w v) ≤ 62
+  value-size r w v h = go (typeIn sheet r) refl
+    where
+      go : (o : Option RegisterType) → typeIn sheet r ≡ o → length (valueReading o w v) ≤ 62
+      go none e = plain-size h
+      go (some t) e = typed-size r t e h (eqb (t .width) w) refl
+
+  valued-room : (m : Message) (r w v : ℕ) → share m ≡ aValue r w v → length (name m) ≤ 5 → r < 65536 → Held w v → length (bytes m) ≡ w + 6 → Room sheet m
+  unfolding total membersWith furtherMembers
+  valued-room m r w v e short h k n =
+      let d : length (decimal w) ≤ 1 = length-decimal 0 w (omega (arith, width-most (k .known))) in
+      let t : total (shown sheet m) ≡ total (with.valued sheet r w v) = ap (λ (x : Share). total (byShare sheet x (members m) ++ behindShare sheet x)) e in
+      as-before (omega (arith, word-digits h, width-least (k .known), value-size r w v k))
+
+-- data that are split
+data-total : (c : ℕ) (d : List ℕ) (ms : List Member) → total (members (nibe c d) ++ ms) ≡ total (members (nibe c d)) + total ms
+unfolding members total
+data-total c d ms = omega arith
+
+shown-data : (sheet : Option Lookup) (c : ℕ) (d : List ℕ) → shown sheet (nibe c d) ≡ members (nibe c d) ++ valuesOf sheet c d
+unfolding membersWith furtherMembers
+shown-data sheet c d = refl
+
+data-room : (sheet : Option Lookup) → InTypes sheet → (c : ℕ) (d : List ℕ) → Limits (nibe c d) → Room sheet (nibe c d)
+unfolding total members contentOf all isByte
+data-room none types c d l =
+    as-before (rw (shown-data none c d ∙ append-nil (members (nibe c d))) (rows (nibe c d) l .room))
+data-room (some look) types c d l = by (isUnsolicited c) refl
+  where
+    n : length (bytes (nibe c d)) ≡ length d + 4
+    n = length-nibe c d
+
+    unsplit : valuesOf (some look) c d ≡ [] → Room (some look) (nibe c d)
+    unsplit e = as-before (rw (shown-data (some look) c d ∙ ap (λ (ms : List Member). members (nibe c d) ++ ms) e ∙ append-nil (members (nibe c d))) (rows (nibe c d) l .room))
+
+    by-split : isUnsolicited c ≡ true → (o : Option (List Pair)) → splitOf look d ≡ o → Room (some look) (nibe c d)
+    by-split u none e = unsplit (ap (λ (b : Bool). cond b (values look (splitOf look d)) []) u ∙ ap (values look) e)
+    by-split u (some pairs) e =
+        let v : valuesOf (some look) c d ≡ values look (some pairs) = ap (λ (b : Bool). cond b (values look (splitOf look d)) []) u ∙ ap (values look) e in
+        let w = computed-splits (λ i t f. types .width i f) (l .1 .bytes) pairs e in
+        let t : total (shown (some look) (nibe c d)) ≡ total (members (nibe c d)) + total (values look (some pairs)) =
+        ap total (shown-data (some look) c d ∙ ap (λ (ms : List Member). members (nibe c d) ++ ms) v) ∙ data-total c d (values look (some pairs)) in
+        split refl (omega (arith, n, t, length-array types pairs d w, byte-digits (one-of-bytes commands c tt (l .0)), length-hex d)) (omega (arith, n))
+
+    by : (b : Bool) → isUnsolicited c ≡ b → Room (some look) (nibe c d)
+    by true u = by-split u (splitOf look d) refl
+    by false u = unsplit (ap (λ (b : Bool). cond b (values look (splitOf look d)) []) u)
+
+module _ {sheet : Option Lookup} (types : InTypes sheet) where
+  rooms : (m : Message) → Limits m → Room sheet m
+  unfolding contentOf
+  rooms (read g a) l = unshared types (read g a) refl l
+  rooms (set g a out) l = unshared types (set g a out) refl l
+  rooms (answer a third out) l = unshared types (answer a third out) refl l
+  rooms (press d) l = unshared types (press d) refl l
+  rooms tail l = unshared types tail refl l
+  rooms (link p) l = unshared types (link p) refl l
+  rooms (command i p) l = unshared types (command i p) refl l
+  rooms (climate t h) l = unshared types (climate t h) refl l
+  rooms (state p) l = unshared types (state p) refl l
+  rooms break l = unshared types break refl l
+  rooms end l = unshared types end refl l
+  rooms (text i p) l = unshared types (text i p) refl l
+  rooms (response i p) l = unshared types (response i p) refl l
+  rooms (ask r) l = unshared types (ask r) refl l
+  rooms (reply r w v) l = valued-room types (reply r w v) r w v refl (omega arith) (l .0) (l .1) (length-nibe 0x6A (valued r w v) ∙ omega (arith, length-valued r w v))
+  rooms (put r w v) l = valued-room types (put r w v) r w v refl (omega arith) (l .0) (l .1) (length-nibe 0x6B (valued r w v) ∙ omega (arith, length-valued r w v))
+  rooms (done ok) l = unshared types (done ok) refl l
+  rooms (nibe c d) l = data-room sheet types c d l
+  rooms (output w) l = unshared types (output w) refl l
+  rooms (input w) l = unshared types (input w) refl l
+  rooms (shutter w) l = unshared types (shutter w) refl l
+  rooms (beat w) l = unshared types (beat w) refl l
+  rooms (homiq w) l = unshared types (homiq w) refl l
+
+length-line : (sheet : Option Lookup) (at len : ℕ) (m : Message) → length (lineWith sheet at len m) ≡ length (decimal at) + length (decimal len) + length (name m) + total (shown sheet m) + 24
+unfolding lineWith total
+length-line sheet at len m =
+    let ms : List Member = ascii "len" ∶ number len ∷ ascii "msg" ∶ quoted (name m) ∷ shown sheet m in
     omega (arith, length-append (object (ascii "at" ∶ number at ∷ ms)) (ascii "\n"), length-object (ascii "at" ∶ number at) ms, length-quoted (name m))
 
--- A LINE FITS ITS ROOM, wherever its frame stands that a place of 20 digits can say
-pub line-bound : (at : ℕ) (m : Message) → at < 10 ^ 20 → Limits m → length (line at (length (bytes m)) m) ≤ lineRoom (length (bytes m))
-line-bound at m h l =
-    let r = rows m l in
-    let n = length (bytes m) in
-    omega (arith, length-line at n m, length-decimal 19 at h, length-decimal 3 n (omega (arith, r .short)), r .room)
+-- A LINE BY A SHEET FITS ITS ROOM, or has at most 26 bytes a byte of its frame, wherever a place of 20 digits can say that the frame stands
+pub data Short (sheet : Option Lookup) (n t : ℕ) : Type 0 where
+  as-before : t ≤ lineRoom n → Short sheet n t
+  split : {look : Lookup} → sheet ≡ some look → t ≤ 26 * n → Short sheet n t
+
+line-short : {sheet : Option Lookup} → InTypes sheet → (at : ℕ) (m : Message) → at < 10 ^ 20 → Limits m
+    → Short sheet (length (bytes m)) (length (lineWith sheet at (length (bytes m)) m))
+line-short {sheet} types at m h l = go (rooms types m l)
+  where
+    n : ℕ
+    n = length (bytes m)
+
+    go : Room sheet m → Short sheet (length (bytes m)) (length (lineWith sheet at (length (bytes m)) m))
+    go (as-before r) = as-before (omega (arith, length-line sheet at (length (bytes m)) m, length-decimal 19 at h, length-decimal 3 (length (bytes m)) (omega (arith, rows m l .short))))
+    go (split e r b) = split e (omega (arith, length-line sheet at (length (bytes m)) m, length-decimal 19 at h, length-decimal 3 (length (bytes m)) (omega (arith, rows m l .short))))
 
 -- the same of the line of a frame
-pub line-room : {k : ℕ} {f : List ℕ} {at : ℕ} {t : List ℕ} → at < 10 ^ 20 → LineOf k f at t → length t ≤ lineRoom (length f)
-line-room {k} {f} {at} h l =
+pub line-shorter : {sheet : Option Lookup} {k : ℕ} {f : List ℕ} {at : ℕ} {t : List ℕ} → InTypes sheet → at < 10 ^ 20 → LineOf sheet k f at t → Short sheet (length f) (length t)
+line-shorter {sheet} {k} {f} {at} types h l =
     let m = l .message in
-    rw (l .is) (subst (λ (s : List ℕ). length (line at (length s) m) ≤ lineRoom (length s)) (sym (stands-bytes (l .stands))) (line-bound at m h (l .stands .good .limits)))
+    rw (l .is)
+    (subst (λ (s : List ℕ). Short sheet (length s) (length (lineWith sheet at (length s) m))) (sym (stands-bytes (l .stands))) (line-short types at m h (l .stands .good .limits)))
 
--- NO LINE OF A FRAME IS LONGER THAN 8,368 BYTES
-pub line-most : {k : ℕ} {f : List ℕ} {at : ℕ} {t : List ℕ} → at < 10 ^ 20 → LineOf k f at t → length t ≤ 8368
-line-most {f = f} h l =
+-- A LINE WITHOUT A SHEET FITS ITS ROOM
+pub line-room : {k : ℕ} {f : List ℕ} {at : ℕ} {t : List ℕ} → at < 10 ^ 20 → LineOf none k f at t → length t ≤ lineRoom (length f)
+line-room {f = f} {t = t} h l = go (line-shorter no-types h l)
+  where
+    go : Short none (length f) (length t) → length t ≤ lineRoom (length f)
+    go (as-before x) = x
+    go (split {look} e x) = absurd (Option·none-ne-some look e)
+
+-- BY ANY SHEET, A FRAME OF FOUR BYTES OR MORE HAS AT MOST 32 BYTES OF LINE A BYTE
+pub line-within : {sheet : Option Lookup} {k : ℕ} {f : List ℕ} {at : ℕ} {t : List ℕ} → InTypes sheet → at < 10 ^ 20 → 4 ≤ length f → LineOf sheet k f at t → length t ≤ 32 * length f
+line-within {sheet} {f = f} {t = t} types h least l = go (line-shorter types h l)
+  where
+    go : Short sheet (length f) (length t) → length t ≤ 32 * length f
+    go (as-before x) = omega arith
+    go (split e x) = omega arith
+
+-- NO LINE OF A FRAME IS LONGER THAN 26,884 BYTES, and without a sheet than 8,368
+pub line-most : {sheet : Option Lookup} {k : ℕ} {f : List ℕ} {at : ℕ} {t : List ℕ} → InTypes sheet → at < 10 ^ 20 → LineOf sheet k f at t → length t ≤ 26884
+line-most {sheet} {f = f} {t = t} types h l = go (line-shorter types h l)
+  where
+    few : length f ≤ 1034
+    few = let n : length f ≡ length (bytes (l .message)) = ap length (stands-bytes (l .stands)) in omega (arith, bytes-most (l .message) (l .stands .good .limits))
+
+    go : Short sheet (length f) (length t) → length t ≤ 26884
+    go (as-before x) = omega (arith, few)
+    go (split e x) = omega (arith, few)
+
+pub plain-line-most : {k : ℕ} {f : List ℕ} {at : ℕ} {t : List ℕ} → at < 10 ^ 20 → LineOf none k f at t → length t ≤ 8368
+plain-line-most {f = f} h l =
     let n : length f ≡ length (bytes (l .message)) = ap length (stands-bytes (l .stands)) in
     omega (arith, line-room h l, bytes-most (l .message) (l .stands .good .limits))
 
@@ -363,10 +515,32 @@ beside-taken (OnNibe e) s m x = rw x (nibe-taken e s)
 beside-taken (OnHomiq e) s m x = let h : length (taken m) ≡ length s = ap (λ (n : Message). length (taken n)) (x .is) ∙ ap length (homiq-taken e (x .wire) ∙ sym (x .payload .laid)) in omega arith
 
 -- A LINE IS SHORT FOR WHAT STANDS BESIDE ITS MESSAGE, whatever place and length of 20 digits it says
-pub line-bounded : (e : Coded) (s : List ℕ) {at len : ℕ} {t : List ℕ} → at ≤ largestPlace → len ≤ largestPlace → LineSaid (Says e s) at len t → Bounded t (length s)
-line-bounded e s {at} {len} h k l =
-    let m = l .message in
-    let r = rows m (l .good .limits) in
-    let n : length (line at len m) ≤ 8 * length (bytes m) + 112 =
-    omega (arith, length-line at len m, length-decimal 19 at (omega arith), length-decimal 19 len (omega arith), r .room) in
-    rw (l .is) (record { most = omega (arith, n, r .beside, beside-taken e s m (l .said)); short = omega (arith, n, r .short) })
+pub line-bounded : {sheet : Option Lookup} → InTypes sheet → (e : Coded) (s : List ℕ) {at len : ℕ} {t : List ℕ} → at ≤ largestPlace → len ≤ largestPlace
+    → LineSaid sheet (Says e s) at len t → Bounded sheet t (length s)
+line-bounded {sheet} types e s {at} {len} h k l = rw (l .is) (go (rooms types (l .message) (l .good .limits)))
+  where
+    m : Message
+    m = l .message
+
+    size : length (lineWith sheet at len (l .message)) ≤ length (name (l .message)) + total (shown sheet (l .message)) + 64
+    size = omega (arith, length-line sheet at len (l .message), length-decimal 19 at (omega arith), length-decimal 19 len (omega arith))
+
+    frame : Fits (l .message) (length (bytes (l .message)))
+    frame = rows (l .message) (l .good .limits)
+
+    more : (sheet : Option Lookup) (n : ℕ) → 8 * n ≤ aByte sheet * n
+    more none n = omega arith
+    more (some look) n = omega arith
+
+    go : Room sheet (l .message) → Bounded sheet (lineWith sheet at len (l .message)) (length s)
+    go (as-before r) =
+        record {
+          most = omega (arith, size, r, frame .beside, beside-taken e s (l .message) (l .said), more sheet (length s));
+          short = omega (arith, size, r, frame .short);
+        }
+    go (split {look} q r b) =
+        let a : aByte sheet ≡ 26 = ap aByte q in
+        record {
+          most = rw a (omega (arith, size, r, b, beside-taken e s (l .message) (l .said)));
+          short = omega (arith, size, r, frame .short);
+        }

@@ -9,10 +9,10 @@ use Rattle.lines.proofs.after_measuring.Tie as tie
 returns : tie.Need-returns
 returns c = let m = c .before .before .before .before .before in measured-short (m .measure .result) (m .measure .ensures) (c .before .before .before .start .given .1) (c .before .left .ensures) (c .if1 .taken)
 
-add-t12 : tie.Need-add-t12
-add-t12 c =
+add-t13 : tie.Need-add-t13
+add-t13 c =
     let i = c .before .before .before .before in
-    omega (arith, i .if1 .left, i .before .left .ensures, i .before .before .before .before .before .before .before .before .good)
+    omega (arith, i .if1 .left, i .before .left .ensures, i .before .before .before .before .before .before .before .before .before .good)
 
 returns-2 : tie.Need-returns-2
 returns-2 c =
@@ -32,7 +32,7 @@ after-measuring-spec =
     (λ c κs. search needs)
     returns
     (λ c κs. search needs)
-    add-t12
+    add-t13
     (λ c. search needs)
     (λ c. search needs)
     returns-2

@@ -2,6 +2,7 @@
 -- Assumes nothing.
 use native.Mathlib.Omega.{arith}
 use Rattle.lines.proofs.Laws.Next.{payload-in, tried-put, tried-unsure, tried-refused}
+use Rattle.lines.proofs.Laws.Types.{in-types}
 use borrow.Author.Needs.{needs}
 use Rattle.lines.proofs.attempt.Statement.{statement}
 use Rattle.lines.proofs.attempt.Tie as tie
@@ -31,7 +32,7 @@ returns-2 c =
     let u = i .before in
     let b = u .before .before .before in
     let f = b .before .before in
-    tried-put (f .find .result) (f .find .ensures) (b .start .given .1) (omega arith) (u .surely .result) (u .surely .ensures) (i .if1 .left) (u .before .left .ensures) (c .before .before .line .ensures)
+    tried-put (f .find .result) (f .find .ensures) (b .start .given .1) (in-types (f .before .before .before .before .args .map .now)) (omega (arith, f .before .before .before .before .good)) (u .surely .result) (u .surely .ensures) (i .if1 .left) (u .before .left .ensures) (c .before .before .line .ensures)
 
 returns-3 : tie.Need-returns-3
 returns-3 c = let f = c .before .before .before in tried-refused (f .find .result) (f .find .ensures) (c .before .why .given .1)

@@ -3,12 +3,13 @@
 use mathlib.Core.Path.{refl}
 use native.Mathlib.Omega.{arith}
 use Rattle.lines.proofs.Laws.Next.{size-tried, never-unsure, none-measured}
+use Rattle.lines.proofs.Laws.Types.{in-types}
 use borrow.Author.Needs.{needs}
 use Rattle.lines.proofs.measure.Statement.{statement}
 use Rattle.lines.proofs.measure.Tie as tie
 
 returns : tie.Need-returns
-returns c = let a = c .before .before .before .before in size-tried (a .attempt .result) (a .attempt .ensures) (c .before .start .given .1) refl (omega arith)
+returns c = let a = c .before .before .before .before in size-tried (a .attempt .result) (a .attempt .ensures) (c .before .start .given .1) (in-types (a .before .before .before .before .args .map .now)) refl (omega arith)
 
 returns-2 : tie.Need-returns-2
 returns-2 c = let a = c .before .before .before .before in never-unsure (a .attempt .result) (a .attempt .ensures) refl (c .before .start2 .given .1)

@@ -8,7 +8,7 @@ use Rattle.lines.proofs.next.Statement.{statement}
 use Rattle.lines.proofs.next.Tie as tie
 
 returns : tie.Need-returns
-returns c = let a = c .before .before .before .before .before in next-tried (a .attempt .result) (a .attempt .ensures) (c .before .start .given .1) refl (omega (arith, a .before .before .before .before .good))
+returns c = let a = c .before .before .before .before .before in next-tried (a .attempt .result) (a .attempt .ensures) (c .before .start .given .1) refl (omega (arith, a .before .before .before .before .before .good))
 
 returns-2 : tie.Need-returns-2
 returns-2 c =

@@ -18,8 +18,8 @@ returns c = not-placed (c .before .before .left .ensures) (c .before .fits2 .ens
 line-requires : tie.Need-line-requires
 line-requires c κs = search needs
 
-sub-t9 : tie.Need-sub-t9
-sub-t9 c = search needs
+sub-t10 : tie.Need-sub-t10
+sub-t10 c = search needs
 
 same-length : tie.Need-same-length
 same-length c = search needs
@@ -28,9 +28,9 @@ returns-2 : tie.Need-returns-2
 returns-2 c =
     let b = c .before .before .before .before in
     all-placed (b .before .before .left .ensures) (b .before .fits2 .ensures) (b .if1 .left) (c .before .before .line .ensures)
-    (omega (arith, b .before .before .before .before .before .good))
+    (omega (arith, b .before .before .before .before .before .before .good))
 
 pub placed-spec : {M : Type 1} → statement M
 placed-spec =
     tie.close
-    (tie.spec left-requires fits-requires returns line-requires sub-t9 same-length returns-2)
+    (tie.spec left-requires fits-requires returns line-requires sub-t10 same-length returns-2)

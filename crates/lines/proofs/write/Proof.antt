@@ -1,52 +1,21 @@
--- `lines::write` meets its contract: the payload lies inside the frame, and the line is the frame's.
+-- `lines::write` meets its contract: the empty map is no sheet.
 -- Assumes nothing.
-use native.Mathlib.Omega.{arith}
-use Rattle.lines.proofs.Laws.Write.{inside-frame, put-bounded, written, not-written}
 use borrow.Author.Needs.{needs}
 use Rattle.lines.proofs.write.Statement.{statement}
 use Rattle.lines.proofs.write.Tie as tie
 
-decode-requires : tie.Need-decode-requires
-decode-requires c κs = search needs
+slice-aggregate-write-mapped : tie.Need-slice-aggregate-write-mapped
+slice-aggregate-write-mapped c = search needs
 
-enum-known-message : tie.Need-enum-known-message
-enum-known-message c = search needs
-
-sub-placed : tie.Need-sub-placed
-sub-placed c = inside-frame (c .before .before .before .decode .result) (c .before .before .before .decode .ensures) (c .before .message .given .1) .0
-
-part-placed-start : tie.Need-part-placed-start
-part-placed-start c = inside-frame (c .before .before .before .decode .result) (c .before .before .before .decode .ensures) (c .before .message .given .1) .0
-
-part-placed-end : tie.Need-part-placed-end
-part-placed-end c = inside-frame (c .before .before .before .decode .result) (c .before .before .before .decode .ensures) (c .before .message .given .1) .1
-
-placed-requires : tie.Need-placed-requires
-placed-requires c κs = put-bounded (c .before .before .before .before .before .decode .result) (c .before .before .before .before .before .decode .ensures) (c .before .before .before .message .given .1) (c .before .before .before .before .before .before .before .before .args .at) (omega (arith, c .before .before .before .before .before .before .before .before .good)) (omega arith)
-
-enum-known-why : tie.Need-enum-known-why
-enum-known-why c = search needs
+write-mapped-requires : tie.Need-write-mapped-requires
+write-mapped-requires c κs = search needs
 
 same-length : tie.Need-same-length
 same-length c = search needs
 
 returns : tie.Need-returns
-returns c = written (c .before .before .before .before .before .before .before .before .decode .result) (c .before .before .before .before .before .before .before .before .decode .ensures) (c .before .before .before .before .before .before .message .given .1) (c .before .before .before .before .before .before .before .before .before .before .before .args .at) (c .before .before .before .before .before .before .before .before .before .before .before .args .room .now) _ (c .before .before .placed .result) (c .before .before .placed .ensures)
-
-returns-2 : tie.Need-returns-2
-returns-2 c = not-written (c .before .before .before .decode .result) (c .before .before .before .decode .ensures) (c .before .before .before .before .before .before .args .at) (c .before .before .before .before .before .before .args .room .now) (c .before .why .given .1)
+returns c = c .before .before .write-mapped .ensures
 
 pub write-spec : {M : Type 1} → statement M
 write-spec =
-    tie.close
-    (tie.spec
-    decode-requires
-    enum-known-message
-    sub-placed
-    part-placed-start
-    part-placed-end
-    placed-requires
-    enum-known-why
-    same-length
-    returns
-    returns-2)
+    tie.close (tie.spec slice-aggregate-write-mapped write-mapped-requires same-length returns)

@@ -2,6 +2,7 @@
 -- Assumes nothing.
 use mathlib.Core.Bool.{cond}
 use mathlib.Core.List.{List, [], _∷_, _++_}
+use mathlib.Core.Option.{Option, none as without, some}
 use Prim.Native.Nat.{ℕ, _+_, _-_, _*_, _≤_, _<_}
 use lib.Dec.{ltb}
 use lib.IntN.{pos}
@@ -29,7 +30,9 @@ use Rattle.messages.specs.declared.nikobus.Nikobus.the-variants.{Read, Set, Ans
 use Rattle.puts.specs.Paper.Put.{largestPlace}
 use Rattle.puts.specs.declared.Written.{Written}
 use Rattle.puts.specs.declared.Written.the-variants.{Bytes, Refused}
+use Rattle.sheet.specs.Paper.Sheet.{Lookup}
 use Rattle.lines.specs.Paper.Line.{members}
+use Rattle.lines.specs.Paper.WithSheet.{membersWith, furtherMembers}
 
 -- members, each behind a `,`
 unfoldable pub commaed : List Member → List ℕ
@@ -39,6 +42,10 @@ commaed (m ∷ ms) = 44 ∷ (member m ++ commaed ms)
 -- a line from its message's name to its last member
 unfoldable pub named : Message → List ℕ
 named m = name m ++ (34 ∷ commaed (members m))
+
+-- the same by a sheet
+unfoldable pub namedWith : Option Lookup → Message → List ℕ
+namedWith sheet m = name m ++ (34 ∷ commaed (membersWith sheet m ++ furtherMembers sheet m))
 
 -- what is put of each of the code's messages: a link's digits stand beside it as they are shown
 unfoldable pub nikobusNameAndMembers : Nikobus → List ℕ → List ℕ
@@ -89,26 +96,31 @@ fieldMembers s =
     ∷ ascii "type" ∶ chars (fieldAt 5 s)
     ∷ []
 
-unfoldable pub nameAndMembers : Coded → List ℕ → List ℕ
-nameAndMembers (OnNikobus e) s = nikobusNameAndMembers e s
-nameAndMembers (Command i) s = named (command i s)
-nameAndMembers (AsResponse e) s = responseNameAndMembers e s
-nameAndMembers (OnNibe e) s = named (ofNibe e s)
-nameAndMembers (OnHomiq e) s = homiqName e ++ commaed (fieldMembers s)
+-- a sheet has a say in Nibe's alone
+unfoldable pub nameAndMembers : Option Lookup → Coded → List ℕ → List ℕ
+nameAndMembers sheet (OnNikobus e) s = nikobusNameAndMembers e s
+nameAndMembers sheet (Command i) s = named (command i s)
+nameAndMembers sheet (AsResponse e) s = responseNameAndMembers e s
+nameAndMembers sheet (OnNibe e) s = namedWith sheet (ofNibe e s)
+nameAndMembers sheet (OnHomiq e) s = homiqName e ++ commaed (fieldMembers s)
 
 -- the whole line
-unfoldable pub put : Coded → List ℕ → ℕ → ℕ → List ℕ
-put e s at len =
+unfoldable pub put : Option Lookup → Coded → List ℕ → ℕ → ℕ → List ℕ
+put sheet e s at len =
     ascii "{\"at\":" ++ (number at ++ (ascii ",\"len\":" ++ (number len
-    ++ (ascii ",\"msg\":\"" ++ (nameAndMembers e s ++ ascii "}\n")))))
+    ++ (ascii ",\"msg\":\"" ++ (nameAndMembers sheet e s ++ ascii "}\n")))))
 
 -- no line with n bytes beside its message is longer than this
-abbrev pub mostBeside : ℕ → ℕ
-mostBeside n = 8 * n + 352
+abbrev pub aByte : Option Lookup → ℕ
+aByte without = 8
+aByte (some look) = 26
+
+abbrev pub mostBeside : Option Lookup → ℕ → ℕ
+mostBeside sheet n = aByte sheet * n + 352
 
 -- a line is no longer than that, and a place can say where it ends
-pub record Bounded (t : List ℕ) (beside : ℕ) : Type 0 where
-  pub most : length t ≤ mostBeside beside
+pub record Bounded (sheet : Option Lookup) (t : List ℕ) (beside : ℕ) : Type 0 where
+  pub most : length t ≤ mostBeside sheet beside
   pub short : length t ≤ largestPlace
 
 -- r is the right answer, and `later` the right room afterwards: all of bs is put at a place, or nothing if too little

@@ -2,6 +2,7 @@
 -- Assumes nothing.
 use mathlib.Core.Bool.{true, true≢false}
 use mathlib.Core.List.{List, [], _∷_, _++_, append-assoc}
+use mathlib.Core.Option.{Option}
 use mathlib.Core.Path.{_≡_, refl, sym, ap, ap₂, _∙_, subst}
 use Prim.Native.Nat.{ℕ, _+_, _-_, _≤_}
 use native.Mathlib.Omega.{arith}
@@ -16,22 +17,23 @@ use Rattle.frames.specs.Paper.Runs.{ends, finds}
 use Rattle.frames.specs.Paper.Search.{Hit, SearchCause, no-frame, no-kind, no-place, Searches}
 use Rattle.frames.specs.declared.Found.the-variants.{At, Refused}
 use Rattle.lines.specs.Paper.Answers.{LineOf}
+use Rattle.sheet.specs.Paper.Sheet.{Lookup}
 use Rattle.list.specs.Paper.Listing.{none, line, inside, lastLine, Lists}
 use Rattle.list.specs.Work.Remaining.{Remaining}
 
 -- ---- what is left
 
 -- all of it
-pub from-start : {k : ℕ} {s t : List ℕ} → Remaining k s 0 0 0 t → Lists k s t
-from-start {k} {s} {t} r =
+pub from-start : {sheet : Option Lookup} {k : ℕ} {s t : List ℕ} → Remaining sheet k s 0 0 0 t → Lists sheet k s t
+from-start {s = s} {t = t} r =
     let n : 0 + length (r .frames) ≡ length (r .frames) = omega arith in
     let m : length s - (0 + inside (r .frames)) ≡ length s - inside (r .frames) = omega arith in
     record { frames = r .frames; run = r .run; lines = r .lines; each = r .each; is = r .is ∙ ap₂ (λ (x y : ℕ). r .lines ++ lastLine x y) n m }
 
-module _ {k : ℕ} {s : List ℕ} {place : ℕ} where
+module _ {sheet : Option Lookup} {k : ℕ} {s : List ℕ} {place : ℕ} where
   -- a found frame's line, and what is left behind it
-  pub found-line : {start len from to count within : ℕ} {u t : List ℕ} → Searches k s place (At start len from to) → LineOf k (part start (start + len) s) start u
-      → Remaining k s (start + len) (count + 1) (within + len) t → Remaining k s place count within (u ++ t)
+  pub found-line : {start len from to count within : ℕ} {u t : List ℕ} → Searches k s place (At start len from to) → LineOf sheet k (part start (start + len) s) start u
+      → Remaining sheet k s (start + len) (count + 1) (within + len) t → Remaining sheet k s place count within (u ++ t)
   unfolding inside
   found-line {start} {len} {from} {to} {count} {within} {u} {t} a l r =
       let v : Hit = record { start = start; len = len; from = from; to = to } in
@@ -48,7 +50,7 @@ module _ {k : ℕ} {s : List ℕ} {place : ℕ} where
       }
 
   -- no frame is left
-  pub last-left : {count within : ℕ} → Searches k s place (Refused NoFrame) → Remaining k s place count within (lastLine count (length s - within))
+  pub last-left : {count within : ℕ} → Searches k s place (Refused NoFrame) → Remaining sheet k s place count within (lastLine count (length s - within))
   unfolding inside
   last-left {count} {within} a =
       let n : count ≡ count + length {A = Hit} [] = omega arith in

@@ -1,6 +1,7 @@
 -- The frames and the bytes in none add up; and how long a listing can be.
 -- Assumes nothing.
 use mathlib.Core.List.{List, [], _∷_}
+use mathlib.Core.Option.{Option}
 use mathlib.Core.Path.{ap, _∙_}
 use Prim.Native.Nat.{ℕ, _+_, _-_, _*_, _^_, _≤_, _<_}
 use native.Mathlib.Omega.{arith}
@@ -19,8 +20,10 @@ use Rattle.frames.proofs.Laws.Starts.{four-bytes}
 use Rattle.frames.proofs.Theorems.{in-order}
 use Rattle.json.specs.Paper.Json.{_∶_, object, number}
 use Rattle.json.proofs.Laws.Sizes.{total, length-object}
-use Rattle.lines.proofs.Laws.Sizes.{line-room}
-use Rattle.list.specs.Paper.Listing.{Lines, none, line, inside, lastLine, Lists, mostInput, refusedWith, Listing, bad-start, too-long, listed, listingRoom}
+use Rattle.lines.proofs.Laws.Sizes.{line-within}
+use Rattle.sheet.specs.Paper.Sheet.{Lookup}
+use Rattle.lines.proofs.Laws.Types.{InTypes}
+use Rattle.list.specs.Paper.Listing.{Lines, none, line, inside, lastLine, Lists, mostInput, refusedWith, Listing, bad-start, too-long, bad-sheet, listed, listingRoom}
 
 -- ---- frames
 
@@ -43,17 +46,16 @@ few-found r = few (in-order r)
 
 -- ---- lines
 
-lines-most : {k : ℕ} {s : List ℕ} {place : ℕ} {hits : List Hit} {t : List ℕ} → length s ≤ mostInput → InOrder k s place hits → Lines k s hits t → length t ≤ 32 * inside hits
+lines-most : {sheet : Option Lookup} {k : ℕ} {s : List ℕ} {place : ℕ} {hits : List Hit} {t : List ℕ} → InTypes sheet → length s ≤ mostInput → InOrder k s place hits → Lines sheet k s hits t → length t ≤ 32 * inside hits
 unfolding inside
-lines-most h nothing none = omega arith
-lines-most {s = s} h (next {v = v} b q r) (line {t = t} {rest = rest} l ls) =
+lines-most types h nothing none = omega arith
+lines-most {s = s} types h (next {v = v} b q r) (line {t = t} {rest = rest} l ls) =
     omega (
       arith,
       length-append t rest,
-      line-room {f = framePart s v} (omega (arith, q .inside)) l,
+      line-within {f = framePart s v} types (omega (arith, q .inside)) (four-bytes (q .frame)) l,
       size-at q,
-      four-bytes (q .frame),
-      lines-most h r ls,
+      lines-most types h r ls,
     )
 
 last-line-most : (n m : ℕ) → n < 10 ^ 5 → m < 10 ^ 5 → length (lastLine n m) ≤ 50
@@ -63,32 +65,35 @@ last-line-most n m h l =
     let ms = ascii "skipped" ∶ number m ∷ [] in
     omega (arith, length-append (object (f ∷ ms)) (ascii "\n"), length-object f ms, length-decimal 4 n h, length-decimal 4 m l)
 
-pub lists-most : {k : ℕ} {s t : List ℕ} → length s ≤ mostInput → Lists k s t → length t ≤ listingRoom (length s)
-lists-most {s = s} h l =
+pub lists-most : {sheet : Option Lookup} {k : ℕ} {s t : List ℕ} → InTypes sheet → length s ≤ mostInput → Lists sheet k s t → length t ≤ listingRoom (length s)
+lists-most {s = s} types h l =
     let o = in-order (l .run) in
     let i = inside-most (l .run) in
     let n = few o in
     let e = ap length (l .is) ∙ length-append (l .lines) (lastLine (length (l .frames)) (length s - inside (l .frames))) in
-    omega (arith, e, lines-most h o (l .each), last-line-most (length (l .frames)) (length s - inside (l .frames)) (omega arith) (omega arith))
+    omega (arith, e, lines-most types h o (l .each), last-line-most (length (l .frames)) (length s - inside (l .frames)) (omega arith) (omega arith))
 
-pub refused-size : (n : ℕ) → n < 10 → length (refusedWith n) ≤ 14
+pub refused-size : (n : ℕ) → n < 100 → length (refusedWith n) ≤ 15
 unfolding total
 refused-size n h =
     let f = ascii "refused" ∶ number n in
-    omega (arith, length-append (object (f ∷ [])) (ascii "\n"), length-object f [], length-decimal 0 n h)
+    omega (arith, length-append (object (f ∷ [])) (ascii "\n"), length-object f [], length-decimal 1 n h)
 
 -- ---- listings
 
-pub listing-room : {s t : List ℕ} → Listing s t → length t ≤ listingRoom (length s)
-listing-room (bad-start f) = omega (arith, refused-size 2 (omega arith))
-listing-room (too-long i h) = omega (arith, refused-size 5 (omega arith))
-listing-room (listed i h l) =
-    let e = ap length (i .is) in
-    omega (arith, lists-most (omega arith) l)
+module _ {Given : Option Lookup → Type 0} (types : (sheet : Option Lookup) → Given sheet → InTypes sheet) where
+  pub listing-room : {s t : List ℕ} → Listing Given s t → length t ≤ listingRoom (length s)
+  listing-room (bad-start f) = omega (arith, refused-size 2 (omega arith))
+  listing-room (too-long i h) = omega (arith, refused-size 5 (omega arith))
+  listing-room (bad-sheet i h f) = omega (arith, refused-size 10 (omega arith))
+  listing-room (listed {sheet = sheet} g i h l) =
+      let e = ap length (i .is) in
+      omega (arith, lists-most (types sheet g) (omega arith) l)
 
-pub listing-most : {s t : List ℕ} → Listing s t → length t ≤ listingRoom mostInput
-listing-most (bad-start f) = omega (arith, refused-size 2 (omega arith))
-listing-most (too-long i h) = omega (arith, refused-size 5 (omega arith))
-listing-most (listed i h l) =
-    let e = ap length (i .is) in
-    omega (arith, lists-most (omega arith) l)
+  pub listing-most : {s t : List ℕ} → Listing Given s t → length t ≤ listingRoom mostInput
+  listing-most (bad-start f) = omega (arith, refused-size 2 (omega arith))
+  listing-most (too-long i h) = omega (arith, refused-size 5 (omega arith))
+  listing-most (bad-sheet i h f) = omega (arith, refused-size 10 (omega arith))
+  listing-most (listed {sheet = sheet} g i h l) =
+      let e = ap length (i .is) in
+      omega (arith, lists-most (types sheet g) (omega arith) l)

@@ -2,6 +2,7 @@
 -- Assumes nothing.
 use mathlib.Core.Bool.{true}
 use mathlib.Core.List.{List, _++_}
+use mathlib.Core.Option.{Option}
 use mathlib.Core.Path.{_≡_, refl, _∙_, subst}
 use Prim.Native.Nat.{ℕ, _+_, _-_, min, _≤_, _<_}
 use native.Mathlib.Omega.{arith}
@@ -21,6 +22,8 @@ use Rattle.lines.specs.declared.Listed.the-variants.{At as Line, Refused as NoL
 use Rattle.lines.specs.declared.Measured.{Measured}
 use Rattle.lines.specs.declared.Measured.the-variants.{At as Size, Refused as NoSize}
 use Rattle.lines.proofs.Laws.Next.{hit-found, refused-by-search, line-next, room-kept}
+use Rattle.sheet.specs.Paper.Sheet.{Lookup}
+use Rattle.lines.proofs.Laws.Types.{InTypes}
 use Rattle.list.specs.Paper.Listing.{lastLine}
 use Rattle.list.specs.Work.Remaining.{Listable, Remaining, Passed, SizedListing, Roomy, Sums, PutsLists, Completes}
 use Rattle.list.proofs.Laws.Remaining.{from-start, found-line, last-left, refused-none}
@@ -37,13 +40,13 @@ module _ {k : ℕ} {s : List ℕ} {place : ℕ} where
   ahead l = (l .behind, l .stands .inside, positive (l .stands))
 
   -- its line, and what is left behind it
-  line-left : (v : Hit) {count within : ℕ} {u t : List ℕ} → Leftmost k s place v → LineOf k (framePart s v) (v .start) u
-      → Remaining k s (v .start + v .len) (count + 1) (within + v .len) t → Remaining k s place count within (u ++ t)
+  line-left : {sheet : Option Lookup} (v : Hit) {count within : ℕ} {u t : List ℕ} → Leftmost k s place v → LineOf sheet k (framePart s v) (v .start) u
+      → Remaining sheet k s (v .start + v .len) (count + 1) (within + v .len) t → Remaining sheet k s place count within (u ++ t)
   line-left v l o x = found-line (hit-found l) o x
 
-  some-left : known k ≡ true → (v : Hit) (count within : ℕ) → Leftmost k s place v
-      → (t : List ℕ) × Remaining k s (v .start + v .len) (count + 1) (within + v .len) t
-  some-left kn v count within l = some-rest k s (v .start + v .len) (count + 1) (within + v .len) kn (l .stands .inside)
+  some-left : (sheet : Option Lookup) → known k ≡ true → (v : Hit) (count within : ℕ) → Leftmost k s place v
+      → (t : List ℕ) × Remaining sheet k s (v .start + v .len) (count + 1) (within + v .len) t
+  some-left sheet kn v count within l = some-rest sheet k s (v .start + v .len) (count + 1) (within + v .len) kn (l .stands .inside)
 
 passed-on : {s : List ℕ} {place count within start len : ℕ} → Passed s place count within → Ahead s place start len
     → Passed s (start + len) (count + 1) (within + len)
@@ -55,45 +58,45 @@ none-passed = record { place-in = omega arith; few = omega arith; within-place =
 
 -- ---- measuring
 
-pub sums-start : {k : ℕ} {s : List ℕ} → Sums k s 0 0 0 0
+pub sums-start : {sheet : Option Lookup} {k : ℕ} {s : List ℕ} → Sums sheet k s 0 0 0 0
 sums-start = record { passed = none-passed; completes = λ t r. record { text = t; right = from-start r; size = omega arith } }
 
-module _ {k : ℕ} {s : List ℕ} {place : ℕ} (r : Measured) (m : Measures k s place r) where
+module _ {sheet : Option Lookup} {k : ℕ} {s : List ℕ} {place : ℕ} (r : Measured) (m : Measures sheet k s place r) where
   module _ {start len size : ℕ} (e : r ≡ Size start len size) where
-    size-next : NextSize k s place (record { start = start; len = len; size = size })
-    size-next = answered (subst (Measures k s place) e m) refl
+    size-next : NextSize sheet k s place (record { start = start; len = len; size = size })
+    size-next = answered (subst (Measures sheet k s place) e m) refl
 
     pub measured-ahead : Ahead s place start len
     measured-ahead = ahead (size-next .found)
 
-    module _ {sum count within : ℕ} (c : Sums k s sum place count within) where
+    module _ {sum count within : ℕ} (c : Sums sheet k s sum place count within) where
       -- a line more
-      added : (t : List ℕ) → Remaining k s (start + len) (count + 1) (within + len) t → SizedListing k s (sum + size + length t)
+      added : (t : List ℕ) → Remaining sheet k s (start + len) (count + 1) (within + len) t → SizedListing sheet k s (sum + size + length t)
       added t x =
           let z = c .completes (size-next .text ++ t) (line-left _ (size-next .found) (size-next .line) x) in
           record { text = z .text; right = z .right; size = omega (arith, z .size, length-append (size-next .text) t, size-next .size-is) }
 
-      pub summed : Sums k s (sum + size) (start + len) (count + 1) (within + len)
+      pub summed : Sums sheet k s (sum + size) (start + len) (count + 1) (within + len)
       summed = record { passed = passed-on (c .passed) measured-ahead; completes = added }
 
       -- the sum stays small
-      pub sum-most : Listable k s → sum + size ≤ largestPlace
-      sum-most l =
-          let x = some-left (l .is-kind) _ count within (size-next .found) in
+      pub sum-most : InTypes sheet → Listable k s → sum + size ≤ largestPlace
+      sum-most types l =
+          let x = some-left sheet (l .is-kind) _ count within (size-next .found) in
           let z = added (x .0) (x .1) in
-          omega (arith, z .size, lists-most (l .short) (z .right), l .short)
+          omega (arith, z .size, lists-most types (l .short) (z .right), l .short)
 
   -- where none is left the last line completes the listing
-  pub sums-end : {why : Refusal} {sum count within n : ℕ} → r ≡ NoSize why → Listable k s → Sums k s sum place count within
-      → n ≡ min (sum + length (lastLine count (length s - within))) largestPlace → SizedListing k s n
-  sums-end {why} e l c b =
-      let f : Searches k s place (NoHit why) = refuses (some-number why) (cause-of (subst (Measures k s place) e m)) in
+  pub sums-end : InTypes sheet → {why : Refusal} {sum count within n : ℕ} → r ≡ NoSize why → Listable k s → Sums sheet k s sum place count within
+      → n ≡ min (sum + length (lastLine count (length s - within))) largestPlace → SizedListing sheet k s n
+  sums-end types {why} e l c b =
+      let f : Searches k s place (NoHit why) = refuses (some-number why) (cause-of (subst (Measures sheet k s place) e m)) in
       let z = c .completes _ (last-left (refused-none why (l .is-kind) (c .passed .place-in) f)) in
-      record { text = z .text; right = z .right; size = omega (arith, b, z .size, lists-most (l .short) (z .right), l .short) }
+      record { text = z .text; right = z .right; size = omega (arith, b, z .size, lists-most types (l .short) (z .right), l .short) }
 
 -- ---- putting
 
-pub started : {k : ℕ} {s room : List ℕ} → length room ≤ largestPlace → Roomy k s (length room) → Completes k s room room 0 0 0 0
+pub started : {sheet : Option Lookup} {k : ℕ} {s room : List ℕ} → length room ≤ largestPlace → Roomy sheet k s (length room) → Completes sheet k s room room 0 0 0 0
 started h e =
     record {
       passed = none-passed;
@@ -103,22 +106,22 @@ started h e =
       completes = λ later behind t r p. record { text = t; lists = from-start r; put = p };
     }
 
-module _ {k : ℕ} {s : List ℕ} {place : ℕ} {room₀ : List ℕ} {next : ℕ} (r : Listed) {later : List ℕ} (n : PutsNext k s place room₀ next r later) where
-  known-next : {q : Listed} → r ≡ q → PutsNext k s place room₀ next q later
-  known-next e = subst (λ (q : Listed). PutsNext k s place room₀ next q later) e n
+module _ {sheet : Option Lookup} {k : ℕ} {s : List ℕ} {place : ℕ} {room₀ : List ℕ} {next : ℕ} (r : Listed) {later : List ℕ} (n : PutsNext sheet k s place room₀ next r later) where
+  known-next : {q : Listed} → r ≡ q → PutsNext sheet k s place room₀ next q later
+  known-next e = subst (λ (q : Listed). PutsNext sheet k s place room₀ next q later) e n
 
   pub next-ahead : {start len behind : ℕ} → r ≡ Line start len behind → Ahead s place start len
   next-ahead e = ahead (line-next (known-next e) .found)
 
-  module _ {room : List ℕ} {count within : ℕ} (l : Listable k s) (c : Completes k s room room₀ next place count within) where
+  module _ {room : List ℕ} {count within : ℕ} (l : Listable k s) (c : Completes sheet k s room room₀ next place count within) where
     -- what is left of the room is enough for the line of what is found, and for whatever is left behind it
-    roomy : (v : Hit) (t : List ℕ) → Leftmost k s place v → LineOf k (framePart s v) (v .start) t → next + length t ≤ length room₀
+    roomy : (v : Hit) (t : List ℕ) → Leftmost k s place v → LineOf sheet k (framePart s v) (v .start) t → next + length t ≤ length room₀
     roomy v t m o =
-        let x = some-left (l .is-kind) v count within m in
+        let x = some-left sheet (l .is-kind) v count within m in
         omega (arith, c .enough (t ++ x .0) (line-left v m o (x .1)), length-append t (x .0), c .same)
 
     -- a line more
-    pub turned : {start len behind : ℕ} → r ≡ Line start len behind → Completes k s room later behind (start + len) (count + 1) (within + len)
+    pub turned : {start len behind : ℕ} → r ≡ Line start len behind → Completes sheet k s room later behind (start + len) (count + 1) (within + len)
     turned {start} {len} {behind} e =
         let a = line-next (known-next e) in
         let u = a .text in
@@ -138,7 +141,7 @@ module _ {k : ℕ} {s : List ℕ} {place : ℕ} {room₀ : List ℕ} {next : ℕ
 
     -- where none is left the room is as it was, and the last line completes the listing
     pub ended : {why : Refusal} {end : List ℕ} {behind : ℕ} → r ≡ NoLine why → Put later end next behind (lastLine count (length s - within))
-        → PutsLists k s room end behind
+        → PutsLists sheet k s room end behind
     ended {why} {end} {behind} e p =
         let a = known-next e in
         let f : Searches k s place (NoHit why) =

@@ -4,17 +4,19 @@ use Prim.Native.Nat.{_-_}
 use native.Mathlib.Omega.{arith}
 use lib.ListN.{length}
 use borrow.Author.Needs.{needs}
+use Rattle.sheet.specs.Paper.Map.{sheetIn}
+use Rattle.lines.proofs.Laws.Types.{in-types}
 use Rattle.list.specs.Work.Remaining.{Sums}
 use Rattle.list.proofs.Laws.Turns.{sums-start, measured-ahead, summed, sum-most, sums-end}
 use Rattle.list.proofs.size.Statement.{statement}
 use Rattle.list.proofs.size.Tie as tie
 
 abbrev Inv-loop : tie.InvT-loop
-Inv-loop kind s place₀ frames₀ inside₀ sum₀ place frames inside sum = Sums kind s sum place frames inside
+Inv-loop kind s map place₀ frames₀ inside₀ sum₀ place frames inside sum = Sums (sheetIn map) kind s sum place frames inside
 
 -- each search begins behind the frame before
 abbrev μ-loop : tie.MeasureT-loop
-μ-loop kind s place₀ frames₀ inside₀ sum₀ place frames inside sum = length s - place
+μ-loop kind s map place₀ frames₀ inside₀ sum₀ place frames inside sum = length s - place
 
 loop-holds : tie.Need-loop-holds Inv-loop μ-loop
 loop-holds c = sums-start
@@ -25,7 +27,7 @@ add-place c = let m = c .before .before .before in let h = measured-ahead (m .me
 add-sum : tie.Need-add-sum Inv-loop μ-loop
 add-sum c =
     let m = c .before .before .before in
-    let h = sum-most (m .measure .result) (m .measure .ensures) (c .before .start .given .1) (m .before .loop .inv) (m .before .before .before .pre) in
+    let h = sum-most (m .measure .result) (m .measure .ensures) (c .before .start .given .1) (m .before .loop .inv) (in-types (m .before .before .before .before .args .map .now)) (m .before .before .before .before .pre) in
     omega arith
 
 add-frames : tie.Need-add-frames Inv-loop μ-loop
@@ -55,7 +57,7 @@ sub-behind c = let p = c .before .before .before .before .loop .inv .passed in o
 returns : tie.Need-returns Inv-loop μ-loop
 returns c =
     let m = c .before .before .before .before in
-    sums-end (m .measure .result) (m .measure .ensures) (c .before .before .why .given .1) (m .before .before .before .pre) (m .before .loop .inv) (c .behind .ensures)
+    sums-end (m .measure .result) (m .measure .ensures) (in-types (m .before .before .before .before .args .map .now)) (c .before .before .why .given .1) (m .before .before .before .before .pre) (m .before .loop .inv) (c .behind .ensures)
 
 pub size-spec : {M : Type 1} → statement M
 size-spec =

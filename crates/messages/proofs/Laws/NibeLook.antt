@@ -12,7 +12,7 @@ use Rattle.digits.proofs.Laws.LowFirst.{value-low}
 use Rattle.digits.proofs.Laws.Parts.{length-part}
 use Rattle.digits.specs.Paper.Bytes.{part}
 use Rattle.digits.specs.Paper.LowFirst.{Width, Held, lowByteFirst}
-use Rattle.digits.specs.Work.LowFirst.{lowValue}
+use Rattle.digits.specs.Paper.LowFirst.{lowValue}
 use Rattle.messages.specs.Paper.Message.{ask, reply, put, done, nibe}
 use Rattle.messages.specs.Paper.Table.{u16At}
 use Rattle.messages.specs.Work.Look.{isAsk, isValued, isDone, ValuedIn, lookNibe}

@@ -14,7 +14,7 @@ use Rattle.digits.proofs.Laws.Bytes.{bytes-nil, bytes-cons, bytes-append, bytes
 use Rattle.digits.proofs.Laws.LowFirst.{width-most, length-low, bytes-low, value-low, low-value, value-lt}
 use Rattle.digits.specs.Paper.Bytes.{Bytes}
 use Rattle.digits.specs.Paper.LowFirst.{Width, one, two, four, Held, lowByteFirst}
-use Rattle.digits.specs.Work.LowFirst.{lowValue}
+use Rattle.digits.specs.Paper.LowFirst.{lowValue}
 use Rattle.layouts.proofs.Laws.Made.{nibe-fit}
 use Rattle.layouts.specs.Paper.Chars.{oneOf}
 use Rattle.layouts.specs.Paper.Made.{nibeOf}

@@ -10,7 +10,7 @@ use lib.IntN.{ℤ, pos, negsuc}
 use lib.ListN.{length, getD, drop}
 use Rattle.digits.specs.Paper.Ascii.{ascii}
 use Rattle.digits.specs.Paper.Bytes.{part}
-use Rattle.digits.specs.Work.LowFirst.{lowValue}
+use Rattle.digits.specs.Paper.LowFirst.{lowValue}
 use Rattle.layouts.specs.Paper.Chars.{oneOf}
 use Rattle.layouts.specs.Paper.Made.{Wire}
 use Rattle.layouts.specs.Work.Heads.{starts}

@@ -17,7 +17,7 @@ use Rattle.numbers.specs.Paper.Text.{belowZero, text}
 use Rattle.numbers.specs.Paper.Answers as A
 use Rattle.numbers.specs.Paper.Answers.{ReadsText, ValueIn, AnswersValue}
 use Rattle.numbers.specs.Work.Text.{behind}
-use Rattle.numbers.specs.Work.ByteValues.{ofTwos}
+use Rattle.numbers.specs.Paper.ByteValues.{ofTwos}
 use Rattle.numbers.specs.declared.byte_values.Value.the-variants.{Is as IsValue, Refused as NoValue}
 use Rattle.numbers.specs.declared.text.Reading.the-variants.{Is, Refused}
 use Rattle.numbers.proofs.Laws.Causes.{first-7, first-5, no-cause, bytes-only, width-known, count-right, no-room-asked}

@@ -68,11 +68,11 @@ fraction-some (suc d) n h = refl
 pub fraction-none : (d n : ℕ) → d ≡ 0 → fraction d n ≡ []
 fraction-none d n e = ap (λ (x : ℕ). fraction x n) e
 
-length-text : (m : Bool) (n d : ℕ) → length (textOf m n d) ≡ length (sign m) + (length (decimal (n / 10 ^ d)) + length (fraction d n))
+pub length-text : (m : Bool) (n d : ℕ) → length (textOf m n d) ≡ length (sign m) + (length (decimal (n / 10 ^ d)) + length (fraction d n))
 unfolding textOf
 length-text m n d = simp length-append
 
-length-sign : (m : Bool) → length (sign m) ≤ 1
+pub length-sign : (m : Bool) → length (sign m) ≤ 1
 length-sign true = omega arith
 length-sign false = omega arith
 

@@ -16,7 +16,7 @@ use Rattle.digits.proofs.Laws.LowFirst.{low-inj}
 use Rattle.numbers.specs.Paper.Raw.{Between, Raw}
 use Rattle.numbers.specs.Paper.Text.{belowZero}
 use Rattle.numbers.specs.Paper.ByteValues.{least, most, HeldBy, twos, valueBytes}
-use Rattle.numbers.specs.Work.ByteValues.{fromTwos, ofTwos}
+use Rattle.numbers.specs.Paper.ByteValues.{fromTwos, ofTwos}
 use Rattle.numbers.proofs.Laws.Signs.{back, read-back}
 
 -- ---- widths

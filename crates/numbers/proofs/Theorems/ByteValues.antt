@@ -12,7 +12,7 @@ use Rattle.digits.proofs.Laws.LowFirst.{length-low, low-all}
 use Rattle.numbers.specs.Paper.Raw.{Raw}
 use Rattle.numbers.specs.Paper.ByteValues.{HeldBy, twos, valueBytes}
 use Rattle.numbers.specs.Paper.Answers.{ValueIn}
-use Rattle.numbers.specs.Work.ByteValues.{ofTwos}
+use Rattle.numbers.specs.Paper.ByteValues.{ofTwos}
 use Rattle.numbers.proofs.Laws.Values as values
 
 -- NO TWO NUMBERS OF ONE WIDTH AND SIGN HAVE THE SAME BYTES

@@ -16,7 +16,7 @@ use Rattle.sheet.specs.Paper.Fault.{upTo, behind, count}
 
 module _ (c : ℕ) where
   -- the first is c, or it is not
-  by-first : (x : ℕ) {A : Type 0} → (x ≡ c → eqb x c ≡ true → A) → ((x ≡ c → ⊥) → eqb x c ≡ false → A) → A
+  pub by-first : (x : ℕ) {A : Type 0} → (x ≡ c → eqb x c ≡ true → A) → ((x ≡ c → ⊥) → eqb x c ≡ false → A) → A
   by-first x {A} f g = go (eqb x c) refl
     where
       go : (b : Bool) → eqb x c ≡ b → A
@@ -54,6 +54,9 @@ module _ (c : ℕ) where
   up-le (x ∷ s) =
       by-first x (λ e t. omega (arith, ap length (up-here x s e .0)))
       (λ n t. omega (arith, ap length (up-later x s n .0), up-le s))
+
+  pub up-inside : (s : List ℕ) {n : ℕ} → n ≡ length (upTo c s) → n ≤ length s
+  up-inside s e = omega (arith, up-le s)
 
   -- there is none
   pub up-all : (s : List ℕ) → length s ≤ length (upTo c s) → count c s ≡ 0

@@ -5,24 +5,18 @@ use mathlib.Core.Bool.{Bool, true, false}
 use mathlib.Core.List.{List, [], _∷_, _++_}
 use Prim.Native.Nat.{ℕ, suc, _+_, _-_, _*_, _≤_, _<_}
 use native.Mathlib.Omega.{arith}
-use lib.ListN.{length, take, drop}
-use lib.Dec.{lit<}
+use lib.ListN.{length, drop}
 use Rattle.digits.specs.Paper.Decimal.{decimal, decimalIn, enough}
-use Rattle.digits.specs.Paper.Answers.{ReadsDecimal, naturalRefusal}
-use Rattle.digits.specs.declared.decimal.Natural.{Natural}
-use Rattle.digits.specs.declared.decimal.Natural.the-variants.{Is as WholeIs}
-use Rattle.digits.proofs.Laws.Parts.{part-rest}
-use Rattle.digits.proofs.Laws.Reads.{answered, refused}
 use Rattle.digits.specs.Paper.LowFirst.{Width, one, two, four, SixteenBits}
 use Rattle.digits.specs.Paper.Refusals.{First, clear, here, after}
 use Rattle.digits.proofs.Laws.Decimal.{decimal-inj}
 use Rattle.sheet.specs.Paper.Sheet.{Row, typeName, comma, LF, fields, InLimits, mostRows}
 use Rattle.sheet.specs.Paper.Map.{typeNumber, typeByte}
-use Rattle.sheet.specs.Paper.Fault.{upTo, behind, count, line, firstField, secondField, thirdField, Fails, tests}
+use Rattle.sheet.specs.Paper.Fault.{behind, count, line, firstField, secondField, thirdField, Fails, tests}
 use Rattle.sheet.specs.Paper.Fault as paper
-use Rattle.sheet.specs.Work.Lines.{NumberBelow, TypeNumbered, FieldsAre, no-register, no-type, no-decimals, are, LineIs, no-form, has-form, Failed, Passes, ReadsLine}
+use Rattle.sheet.specs.Work.Lines.{NumberBelow, TypeNumbered, FieldsAre, no-register, no-type, no-decimals, are, LineIs, no-form, has-form, FirstLine, Failed, Passes, ReadsLine}
 use Rattle.sheet.specs.Work.Lines as work
-use Rattle.sheet.proofs.Laws.Chars.{up-take, up-drop, up-le, up-all, up-split, up-some}
+use Rattle.sheet.proofs.Laws.Chars.{up-drop, up-all, up-split, up-some}
 use Rattle.sheet.proofs.Laws.Rows.{fields-are}
 
 -- ---- fields
@@ -85,41 +79,6 @@ module _ (l : List ℕ) (two-commas : count comma l ≡ 2) where
 
   pub of-fields : l ≡ firstField l ++ comma ∷ (secondField l ++ comma ∷ thirdField l)
   of-fields = before .0 ∙ ap (λ (x : List ℕ). firstField l ++ comma ∷ x) (between .0)
-
--- the counts that the code comes by, where it cuts the line at a comma
-pub no-comma : (l : List ℕ) {a : ℕ} → a ≡ length (upTo comma l) → a ≡ length l → count comma l ≡ 2 → ⊥
-no-comma l e f g = omega (arith, up-all comma l (omega arith))
-
-module _ (l : List ℕ) {a : ℕ} (e : a ≡ length (upTo comma l)) (n : a ≡ length l → ⊥) where
-  pub cut-lt : a < length l
-  cut-lt = omega (arith, up-le comma l)
-
-  pub cut-first : take (a - 0) l ≡ upTo comma l
-  cut-first = let f : a - 0 ≡ length (upTo comma l) = omega arith in ap (λ (k : ℕ). take k l) f ∙ up-take comma l
-
-  pub cut-rest : take (length l - (a + 1)) (drop (a + 1) l) ≡ behind comma l
-  cut-rest =
-      let f : a + 1 ≡ suc (length (upTo comma l)) = omega arith in
-      part-rest (a + 1) l ∙ ap (λ (k : ℕ). drop k l) f ∙ up-drop comma l
-
-  cut-count : count comma l ≡ suc (count comma (behind comma l))
-  cut-count = up-split comma l (omega (arith, cut-lt)) .1
-
-  pub one-comma : {b : ℕ} {r : List ℕ} → r ≡ behind comma l → b ≡ length (upTo comma r) → b ≡ length r → count comma l ≡ 2 → ⊥
-  one-comma {b} {r} x f g h =
-      omega (arith, cut-count, ap (count comma) x, up-all comma r (omega arith))
-
-  module _ {b : ℕ} {r : List ℕ} (x : r ≡ behind comma l) (f : b ≡ length (upTo comma r)) (m : b ≡ length r → ⊥)
-      {d : ℕ} {t : List ℕ} (y : t ≡ behind comma r) (g : d ≡ length (upTo comma t)) where
-    both : count comma l ≡ 2 + count comma t
-    both =
-        omega (arith, cut-count, ap (count comma) x, up-split comma r (omega (arith, up-le comma r)) .1, ap (count comma) y)
-
-    pub more-commas : d < length t → count comma l ≡ 2 → ⊥
-    more-commas h k = omega (arith, both, up-split comma t (omega arith) .1)
-
-    pub two-commas : length t ≤ d → count comma l ≡ 2
-    two-commas h = omega (arith, both, up-all comma t (omega arith))
 
 pub record RowIs (l : List ℕ) (register byte : ℕ) : Type 0 where
   pub row : Row
@@ -224,29 +183,19 @@ pub reads-failed : {least number t : ℕ} {s : List ℕ} {test register byte siz
 reads-failed {least} {number} {t} {s} e p f =
     record { first = subst (First (Fails least number s) tests) (sym e) f; passes = λ z. absurd (omega arith) }
 
-pub line-part : (s : List ℕ) {n : ℕ} → n ≡ length (line s) → take (n - 0) s ≡ line s
-line-part s {n} e = let f : n - 0 ≡ length (line s) = omega arith in ap (λ (k : ℕ). take k s) f ∙ up-take LF s
-
 -- ---- what the functions on fields come to
-
-pub number-missing : {most : ℕ} {s : List ℕ} (r : Natural) → most ≤ 4294967296 → ReadsDecimal s r → naturalRefusal r ≡ 7 → NumberBelow most s most
-number-missing r h x e = work.none (λ n k f. refused (lit< tt) x e n (omega arith) f)
-
-pub number-found : {most n : ℕ} {s : List ℕ} (r : Natural) → ReadsDecimal s r → r ≡ WholeIs n → n < most → NumberBelow most s n
-number-found {most} {n} {s} r x e h =
-    work.is h (answered (lit< tt) (subst (ReadsDecimal s) e x) refl .1)
-
-pub number-large : {most n : ℕ} {s : List ℕ} (r : Natural) → ReadsDecimal s r → r ≡ WholeIs n → most ≤ n → NumberBelow most s most
-number-large {most} {n} {s} r x e h =
-    work.none (λ m k f. omega (arith, decimal-inj m n (f ∙ sym (answered (lit< tt) (subst (ReadsDecimal s) e x) refl .1))))
 
 pub fields-failed : {a b c : List ℕ} {why test register byte : ℕ} → Failed why test register byte → FieldsAre a b c why 0 0
     → FieldsAre a b c test register byte
 fields-failed {a} {b} {c} {why} {test} {register} {byte} f x =
     subst₃ (FieldsAre a b c) (sym (f .test-is)) (sym (f .no-register)) (sym (f .no-byte)) x
 
-pub line-failed : {l : List ℕ} {why test register byte : ℕ} → Failed why test register byte → LineIs l why 0 0 → LineIs l test register byte
+line-failed : {l : List ℕ} {why test register byte : ℕ} → Failed why test register byte → LineIs l why 0 0 → LineIs l test register byte
 line-failed {l} f x = subst₃ (LineIs l) (sym (f .test-is)) (sym (f .no-register)) (sym (f .no-byte)) x
+
+pub form-failed : {s : List ℕ} {test register byte size : ℕ} → Failed 1 test register byte → (count comma (line s) ≡ 2 → ⊥)
+    → FirstLine s test register byte size
+form-failed f g = record { is = line-failed f (no-form g); size-is = λ z. absurd (omega (arith, f .test-is)) }
 
 -- ---- the six names
 

@@ -1,18 +1,18 @@
 -- The map of a sheet: a byte stored for each row, and what a lookup in it says.
 -- Assumes nothing.
-use mathlib.Core.Path.{_≡_, refl, sym, ap, ap₂, _∙_, subst, fun-ext}
-use mathlib.Core.Bool.{Bool, true, false, cond}
+use mathlib.Core.Path.{_≡_, refl, sym, ap, _∙_, fun-ext}
+use mathlib.Core.Bool.{Bool, true, false}
 use mathlib.Core.List.{List, [], _∷_, _++_}
 use mathlib.Core.Option.{Option, none, some}
 use Prim.Native.Nat.{ℕ, zero, suc, _+_, _-_, _≤_, _<_}
 use native.Mathlib.Nat.{add-zero, add-suc, suc-add}
 use native.Mathlib.Numerals.{add-one}
 use native.Mathlib.Omega.{arith}
-use lib.Dec.{eqb, leb, ltb}
-use lib.ListN.{length, getD, take, drop, set, replicate, length-append, length-set, length-replicate, getD-replicate, List·getD-eq-default}
-use lib.Seq.{drop-cons, drop-length, set-at, set-append-left, getD-set-same, getD-set-other, ext-getD}
+use lib.Dec.{eqb, ltb}
+use lib.ListN.{length, getD, drop, set, replicate, length-set, length-replicate, getD-replicate, List·getD-append, List·getD-eq-default}
+use lib.Seq.{drop-cons, drop-at, drop-drop, set-at, set-append-left, getD-set-same, getD-set-other, ext-getD}
 use borrow.Author.Tests.{eqb-true, eqb-false, eq-eqb, ne-eqb, ltb-true, ltb-false}
-use Rattle.sheet.specs.Paper.Sheet.{RegisterType, Row, Lookup, InLimits, Rising, done, next, find}
+use Rattle.sheet.specs.Paper.Sheet.{RegisterType, Row, Lookup, Rising, done, next, find}
 use Rattle.sheet.specs.Paper.Map.{typeByte, mapByte, inByte, lookupIn, bytesFrom, registers, mapOf}
 use Rattle.sheet.specs.Work.Maps.{zeros, stores}
 use Rattle.sheet.proofs.Laws.Bytes.{in-zero, byte-back}
@@ -42,6 +42,22 @@ zeros-length n = length-replicate n 0
 zeros-at : (n i : ℕ) → i < n → getD (zeros n) i 0 ≡ 0
 unfolding zeros
 zeros-at n i h = getD-replicate n i 0 0 h
+
+-- the same, by a zero that stands before
+pub zeros-again : (s t : List ℕ) (i : ℕ) → i < length s → 256 ≤ i → t ≡ zeros i ++ drop i s
+    → set t i (getD t (i - 256) 0) ≡ zeros (i + 1) ++ drop (i + 1) s
+zeros-again s t i h k e =
+    let l : i - 256 < length (zeros i) = omega (arith, zeros-length i) in
+    let z : getD t (i - 256) 0 ≡ 0 =
+    ap (λ (x : List ℕ). getD x (i - 256) 0) e ∙ List·getD-append (zeros i) (drop i s) 0 (i - 256) l ∙ zeros-at i (i - 256) (omega arith) in
+    ap (λ (v : ℕ). set t i v) z ∙ zeros-next s t i h e
+
+-- what stands behind the zeros is as it was
+pub zeros-behind : (s t : List ℕ) {k i : ℕ} → k ≤ i → t ≡ zeros k ++ drop k s → drop i t ≡ drop i s
+zeros-behind s t {k} {i} h e =
+    let j : k + (i - k) ≡ i = omega arith in
+    let d : drop k t ≡ drop k s = ap (drop k) e ∙ drop-at (zeros k) (drop k s) k (zeros-length k) in
+    ap (λ (n : ℕ). drop n t) (sym j) ∙ sym (drop-drop (i - k) k t) ∙ ap (drop (i - k)) d ∙ drop-drop (i - k) k s ∙ ap (λ (n : ℕ). drop n s) j
 
 -- ---- a byte a register
 

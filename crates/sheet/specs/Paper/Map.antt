@@ -47,6 +47,11 @@ inByte b = cond (leb 1 b && leb b mostByte) (some (typeOfByte b)) none
 unfoldable pub lookupIn : List ℕ → Lookup
 lookupIn map register = inByte (getD map register 0)
 
+-- the empty map is no sheet
+abbrev pub sheetIn : List ℕ → Option Lookup
+sheetIn [] = none
+sheetIn (b ∷ map) = some (lookupIn (b ∷ map))
+
 -- ---- the map of a sheet: a byte for each of the registers 0 to 65535
 
 unfoldable pub bytesFrom : ℕ → ℕ → Lookup → List ℕ

@@ -1,9 +1,10 @@
 -- What the functions on lines say of their parts.
 -- Assumes nothing.
 use mathlib.Core.Path.{_≡_}
-use mathlib.Core.Bool.{Bool}
-use mathlib.Core.List.{List, _∷_, _++_}
+use mathlib.Core.Bool.{Bool, cond}
+use mathlib.Core.List.{List, [], _∷_, _++_}
 use Prim.Native.Nat.{ℕ, suc, _+_, _≤_, _<_}
+use lib.Dec.{eqb}
 use lib.ListN.{length, drop}
 use Rattle.digits.specs.Paper.Decimal.{decimal}
 use Rattle.digits.specs.Paper.LowFirst.{Width}
@@ -35,11 +36,21 @@ pub data FieldsAre (a b c : List ℕ) : ℕ → ℕ → ℕ → Type 0 where
   are : {r : Row} {byte : ℕ} → InLimits r → decimal (r .register) ≡ a → typeName (r .is .width) (r .is .signed) ≡ b
       → decimal (r .is .decimals) ≡ c → byte ≡ typeByte (r .is) → FieldsAre a b c 0 (r .register) byte
 
+-- where the first line of s has its first comma; the length of s if it has none
+unfoldable pub commaAt : List ℕ → ℕ
+commaAt [] = 0
+commaAt (x ∷ s) = cond (eqb x comma) 0 (cond (eqb x LF) (suc (length s)) (suc (commaAt s)))
+
 -- a line: the same, after the test of its form
 pub data LineIs (l : List ℕ) : ℕ → ℕ → ℕ → Type 0 where
   no-form : (count comma l ≡ 2 → ⊥) → LineIs l 1 0 0
   has-form : {test register byte : ℕ} → count comma l ≡ 2
       → FieldsAre (firstField l) (secondField l) (thirdField l) test register byte → LineIs l test register byte
+
+-- the first line of s, and how many bytes it has without its LF
+pub record FirstLine (s : List ℕ) (test register byte size : ℕ) : Type 0 where
+  pub is : LineIs (line s) test register byte
+  pub size-is : test ≡ 0 → size ≡ length (line s)
 
 -- a line that has failed a test
 pub record Failed (why test register byte : ℕ) : Type 0 where

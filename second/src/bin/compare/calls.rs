@@ -9,6 +9,8 @@ use std::collections::BTreeSet;
 
 const NO_REQUEST: &str = "request?";
 const LONGEST_ROOM: usize = 2_097_202;
+/// What a register map has.
+const MAP: usize = 65_536;
 /// How many requests of the tests that are of no function.
 const UNKNOWN: usize = 60;
 const LONGEST: usize = 40;
@@ -17,6 +19,8 @@ const MORE: usize = 50;
 
 pub fn compare(sides: &Sides, seed: u64, count: usize) -> Totals {
     let mut all = tests_of(&functions::all(), seed, count);
+    all.extend(tests_of(&functions::by_sheet(), seed, count / 2));
+    all.push(unknown(seed));
     all.extend(functions::all_fixed().into_iter().map(fixed));
     all.push(of_requests(
         "the longest requests",
@@ -30,6 +34,8 @@ pub fn compare(sides: &Sides, seed: u64, count: usize) -> Totals {
 
 pub fn compare_from_c(sides: &Sides, seed: u64, count: usize) -> Totals {
     let mut all = tests_of(&functions::from_c(), seed, count);
+    all.extend(tests_of(&functions::from_c_by_map(), seed, count / 4));
+    all.push(unknown(seed));
     all.extend(functions::fixed_from_c().into_iter().map(fixed));
     tests::run(sides, seed, &all)
 }
@@ -48,21 +54,24 @@ fn fixed(listed: Fixed) -> Test {
     }
 }
 
-/// A test for each function, by their weights, and one of what is no function.
+/// A test for each function, by their weights.
 fn tests_of(functions: &[Function], seed: u64, count: usize) -> Vec<Test> {
     let weights: usize = functions.iter().map(|function| function.weight).sum();
-    let mut all: Vec<Test> = functions
+    functions
         .iter()
         .map(|function| test(function, seed, (count * function.weight).div_ceil(weights)))
-        .collect();
-    all.push(of_requests(
+        .collect()
+}
+
+/// A test of what is no function.
+fn unknown(seed: u64) -> Test {
+    of_requests(
         "no function",
         seed,
         UNKNOWN,
         &[NO_REQUEST],
         malformed::unknown,
-    ));
-    all
+    )
 }
 
 fn test(function: &Function, seed: u64, count: usize) -> Test {
@@ -178,6 +187,9 @@ fn choose_room(words: &mut [String], random: &mut Random) {
 
 /// A room that is long enough for every answer but the longest listings'.
 fn generous(words: &[String]) -> usize {
+    if words[0] == "sheet::map" || words[0] == "bolsterweft_sheet_map" {
+        return MAP;
+    }
     let bytes: usize = words.iter().map(String::len).sum::<usize>() / 2;
     (40 * bytes + 400).min(LONGEST_ROOM)
 }

@@ -15,6 +15,7 @@ mod messages;
 mod random;
 mod reduce;
 mod rows;
+mod sheets;
 mod sides;
 mod systematic;
 mod tests;
@@ -32,7 +33,8 @@ usage: compare listing [--seed N] [--count N] [--program COMMAND..]
        compare again FILE [--program COMMAND..]
 
 Compares what the proved program answers with what the second decoder answers: `listing` on at least 2,000 inputs of the listing, `calls`
-on at least 40,000 requests to every public function, `host` on at least 40,000 requests to the calls for C. Without a seed it runs seed 1 and a new one; each is printed. A case on which they
+on at least 40,000 requests to every public function and half as many by register sheets, `host` on at least 40,000 requests to the calls
+for C and a quarter as many by register maps. Without a seed it runs seed 1 and a new one; each is printed. A case on which they
 differ is made small and kept in target/second-failed; `again` runs such a file again. The last line is `N passed, M failed`: a test is a
 sort of input or a function, over all its cases, for a seed.
 

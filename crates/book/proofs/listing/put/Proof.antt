@@ -3,6 +3,7 @@
 use Prim.Native.Nat.{_-_}
 use native.Mathlib.Omega.{arith}
 use Rattle.puts.proofs.Laws.Puts.{put-length}
+use Rattle.sheet.specs.Paper.Map.{sheetIn}
 use Rattle.book.specs.Work.Writing.{Listing}
 use Rattle.book.proofs.Laws.Entries.{counts-trailed}
 use Rattle.book.proofs.Laws.Turns.{started, head-in, frame-in, tested-so, turned, ended}
@@ -11,17 +12,17 @@ use Rattle.book.proofs.listing.put.Statement.{statement}
 use Rattle.book.proofs.listing.put.Tie as tie
 
 abbrev Inv-loop : tie.InvT-loop
-Inv-loop book count places room₀ at₀ next₀ i₀ room at next i = Listing book places room₀ room count next i at
+Inv-loop book count places map room₀ at₀ next₀ i₀ room at next i = Listing (sheetIn map) book places room₀ room count next i at
 
 abbrev μ-loop : tie.MeasureT-loop
-μ-loop book count places room₀ at₀ next₀ i₀ room at next i = count - i
+μ-loop book count places map room₀ at₀ next₀ i₀ room at next i = count - i
 
 loop-holds : tie.Need-loop-holds Inv-loop μ-loop
-loop-holds c = let s = c .before .before .before in let known = s .good in started (s .args .room .now) (omega (arith, known)) (s .pre)
+loop-holds c = let s = c .before .before .before .before in let known = s .good in started (s .args .room .now) (omega (arith, known)) (s .pre)
 
 head-at-requires : tie.Need-head-at-requires Inv-loop μ-loop
 head-at-requires c κs =
-    let s = c .before .before .before .before .before in
+    let s = c .before .before .before .before .before .before in
     let small = counts-trailed (s .pre .counts) .small in
     (head-in (c .before .loop .inv) small (c .loop-test .taken), small)
 
@@ -29,7 +30,7 @@ mul-start : tie.Need-mul-start Inv-loop μ-loop
 mul-start c = omega arith
 
 shared-slice-read-start : tie.Need-shared-slice-read-start Inv-loop μ-loop
-shared-slice-read-start c = omega (arith, c .before .before .before .before .before .before .before .pre .room, counts-trailed (c .before .before .before .before .before .before .before .pre .counts) .few)
+shared-slice-read-start c = omega (arith, c .before .before .before .before .before .before .before .before .pre .room, counts-trailed (c .before .before .before .before .before .before .before .before .pre .counts) .few)
 
 add-stop : tie.Need-add-stop Inv-loop μ-loop
 add-stop c = omega arith
@@ -38,13 +39,13 @@ mul-stop : tie.Need-mul-stop Inv-loop μ-loop
 mul-stop c = omega arith
 
 shared-slice-read-stop : tie.Need-shared-slice-read-stop Inv-loop μ-loop
-shared-slice-read-stop c = omega (arith, c .before .before .before .before .before .before .before .before .pre .room, counts-trailed (c .before .before .before .before .before .before .before .before .pre .counts) .few)
+shared-slice-read-stop c = omega (arith, c .before .before .before .before .before .before .before .before .before .pre .room, counts-trailed (c .before .before .before .before .before .before .before .before .before .pre .counts) .few)
 
 sub-put-line : tie.Need-sub-put-line Inv-loop μ-loop
 sub-put-line c =
     let g = c .before .before in
     let b = g .before in
-    let s = b .before .before .before .before .before in
+    let s = b .before .before .before .before .before .before in
     let small = counts-trailed (s .pre .counts) .small in
     frame-in (b .before .loop .inv) small (b .loop-test .taken) (g .head-at .ensures) .0
 
@@ -52,7 +53,7 @@ part-put-line-start : tie.Need-part-put-line-start Inv-loop μ-loop
 part-put-line-start c =
     let g = c .before .before in
     let b = g .before in
-    let s = b .before .before .before .before .before in
+    let s = b .before .before .before .before .before .before in
     let small = counts-trailed (s .pre .counts) .small in
     frame-in (b .before .loop .inv) small (b .loop-test .taken) (g .head-at .ensures) .0
 
@@ -60,7 +61,7 @@ part-put-line-end : tie.Need-part-put-line-end Inv-loop μ-loop
 part-put-line-end c =
     let g = c .before .before in
     let b = g .before in
-    let s = b .before .before .before .before .before in
+    let s = b .before .before .before .before .before .before in
     let small = counts-trailed (s .pre .counts) .small in
     frame-in (b .before .loop .inv) small (b .loop-test .taken) (g .head-at .ensures) .1
 
@@ -68,7 +69,7 @@ put-line-requires : tie.Need-put-line-requires Inv-loop μ-loop
 put-line-requires c κs =
     let g = c .before .before .before .before in
     let b = g .before in
-    let s = b .before .before .before .before .before in
+    let s = b .before .before .before .before .before .before in
     let small = counts-trailed (s .pre .counts) .small in
     tested-so (b .before .loop .inv) small (b .loop-test .taken) (g .head-at .ensures)
 
@@ -82,7 +83,7 @@ loop-again : tie.Need-loop-again Inv-loop μ-loop
 loop-again c =
     let g = c .before .before .before .before .before .before .before in
     let b = g .before in
-    let s = b .before .before .before .before .before in
+    let s = b .before .before .before .before .before .before in
     let small = counts-trailed (s .pre .counts) .small in
     turned (b .before .loop .inv) small (b .loop-test .taken) (g .head-at .ensures) (c .before .before .put-line .ensures)
 

@@ -12,7 +12,7 @@ put-requires : tie.Need-put-requires
 put-requires c κs = search needs
 
 returns : tie.Need-returns
-returns c = measured (c .before .before .before .before .before .pre .counts) (c .before .put .ensures)
+returns c = measured (c .before .before .before .before .before .before .pre .counts) (c .before .before .before .before .before .before .args .map .now) (c .before .put .ensures)
 
 pub size-spec : {M : Type 1} → statement M
 size-spec = tie.close (tie.spec slice-aggregate-put put-requires returns)

@@ -1,14 +1,17 @@
 -- The public functions of `book`.
 -- Assumes nothing.
 use mathlib.Core.List.{List, [], _∷_}
+use mathlib.Core.Option.{none}
 use mathlib.Core.Path.{_≡_}
 use Prim.Native.Nat.{ℕ}
 use denote.Ref.{RefT, now}
 use lib.ListN.{length}
 use Rattle.puts.specs.declared.Written.{Written}
+use Rattle.sheet.specs.Paper.Map.{sheetIn}
 use Rattle.book.specs.Paper.Answers.{AddCause, Adds, BookLines, Counts, EntryCause, EntryLine, EntryLineCause}
 use Rattle.book.specs.Paper.Answers.{EntryOf, ListCause, OpenCause, Location, locatedRefusal, locatedValue, openedCount}
 use Rattle.book.specs.Paper.Answers.{openedRefusal, locationEnds, zeroLocation}
+use Rattle.book.specs.Paper.Answers.{EntryLineByText, EntryLineByTextCause, BookLinesByText, ListByTextCause}
 use Rattle.book.specs.declared.Located.{Located}
 use Rattle.book.specs.declared.Opened.{Opened}
 use Rattle.claims.specs.Paper.Claim.{fronts, Claim, refuses, hands}
@@ -82,8 +85,42 @@ line =
       name = "book::line";
       Args = LineArgs;
       refusals = 8 ∷ 3 ∷ 4 ∷ [];
-      Cause = λ a. EntryLineCause (a .book) (a .number) (length (a .room));
-      form = fronts (λ a. a .room) (λ a. EntryLine (a .book) (a .number));
+      Cause = λ a. EntryLineCause none (a .book) (a .number) (length (a .room));
+      form = fronts (λ a. a .room) (λ a. EntryLine none (a .book) (a .number));
+    }
+
+-- Writes that entry's line by the sheet that a map is.
+pub record LineMappedArgs : Type 0 where
+  pub book : List ℕ
+  pub number : ℕ
+  pub map : List ℕ
+  pub room : List ℕ
+
+abbrev pub line-mapped : Claim Written
+line-mapped =
+    record {
+      name = "book::line_mapped";
+      Args = LineMappedArgs;
+      refusals = 8 ∷ 3 ∷ 4 ∷ [];
+      Cause = λ a. EntryLineCause (sheetIn (a .map)) (a .book) (a .number) (length (a .room));
+      form = fronts (λ a. a .room) (λ a. EntryLine (sheetIn (a .map)) (a .book) (a .number));
+    }
+
+-- Writes that entry's line by a sheet.
+pub record LineWithArgs : Type 0 where
+  pub book : List ℕ
+  pub number : ℕ
+  pub text : List ℕ
+  pub room : List ℕ
+
+abbrev pub line-with : Claim Written
+line-with =
+    record {
+      name = "book::line_with";
+      Args = LineWithArgs;
+      refusals = 8 ∷ 3 ∷ 10 ∷ 4 ∷ [];
+      Cause = λ a. EntryLineByTextCause (a .book) (a .number) (a .text) (length (a .room));
+      form = fronts (λ a. a .room) (λ a. EntryLineByText (a .book) (a .number) (a .text));
     }
 
 -- Writes the lines of all entries from the front of the room.
@@ -97,8 +134,40 @@ list =
       name = "book::list";
       Args = ListArgs;
       refusals = 8 ∷ 4 ∷ [];
-      Cause = λ a. ListCause (a .book) (length (a .room));
-      form = fronts (λ a. a .room) (λ a. BookLines (a .book));
+      Cause = λ a. ListCause none (a .book) (length (a .room));
+      form = fronts (λ a. a .room) (λ a. BookLines none (a .book));
+    }
+
+-- Writes the lines of all entries by the sheet that a map is.
+pub record ListMappedArgs : Type 0 where
+  pub book : List ℕ
+  pub map : List ℕ
+  pub room : List ℕ
+
+abbrev pub list-mapped : Claim Written
+list-mapped =
+    record {
+      name = "book::list_mapped";
+      Args = ListMappedArgs;
+      refusals = 8 ∷ 4 ∷ [];
+      Cause = λ a. ListCause (sheetIn (a .map)) (a .book) (length (a .room));
+      form = fronts (λ a. a .room) (λ a. BookLines (sheetIn (a .map)) (a .book));
+    }
+
+-- Writes the lines of all entries by a sheet.
+pub record ListWithArgs : Type 0 where
+  pub book : List ℕ
+  pub text : List ℕ
+  pub room : List ℕ
+
+abbrev pub list-with : Claim Written
+list-with =
+    record {
+      name = "book::list_with";
+      Args = ListWithArgs;
+      refusals = 8 ∷ 10 ∷ 4 ∷ [];
+      Cause = λ a. ListByTextCause (a .book) (a .text) (length (a .room));
+      form = fronts (λ a. a .room) (λ a. BookLinesByText (a .book) (a .text));
     }
 
 -- Writes the whole new book, with an entry more, from the front of the room.

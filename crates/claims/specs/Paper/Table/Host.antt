@@ -1,7 +1,8 @@
--- The public functions of `host`, `host_lines`, `host_list` and `host_book`, which a program in C calls.
+-- The public functions of `host`, `host_lines`, `host_list`, `host_sheet` and `host_book`, which a program in C calls.
 -- Assumes nothing.
 use mathlib.Core.Bool.{not}
 use mathlib.Core.List.{List, [], _∷_}
+use mathlib.Core.Option.{none}
 use mathlib.Core.Path.{_≡_}
 use Prim.Native.Nat.{ℕ}
 use lib.Dec.{eqb}
@@ -21,13 +22,16 @@ use Rattle.commands.specs.Paper.Acknowledge.{AcknowledgeCause, AcknowledgementO
 use Rattle.lines.specs.Paper.Answers.{LineCause, LineOf, NextCause, NextLine, zeroPlaced}
 use Rattle.book.specs.Paper.Answers.{OpenCause, Counts, EntryCause, EntryOf, zeroLocation, EntryLineCause, EntryLine}
 use Rattle.book.specs.Paper.Answers.{ListCause, BookLines, AddCause, Adds}
-use Rattle.list.specs.Paper.Listing.{Listing}
+use Rattle.list.specs.Paper.Listing.{NoSheet, OfMap, Listing}
+use Rattle.sheet.specs.Paper.Answers.{MapCause, IsMap}
+use Rattle.sheet.specs.Paper.Map.{sheetIn}
 use Rattle.puts.specs.Paper.Wrote.{writtenRefusal, writtenCount}
 use Rattle.puts.specs.declared.Written.{Written}
 use Rattle.host.specs.Paper.Answers.{hitIn, endsIn, numberIn, flag}
 use Rattle.host.specs.Paper.Kind.{KindByte}
 use Rattle.host_lines.specs.Paper.Answers.{placedIn}
 use Rattle.host_book.specs.Paper.Answers.{locationIn}
+use Rattle.host_sheet.specs.Paper.Answers.{ToldFault}
 use Rattle.host.specs.Paper.Panel.{zeroShown, ShownOf, shownIn, zeroClimate, ClimateCause, ClimateOf, climateIn}
 use Rattle.host.specs.Paper.Version as host
 use Rattle.host.specs.Paper.Why.{JudgementAt, judgementIn, zeroJudgement}
@@ -35,6 +39,7 @@ use Rattle.host.specs.declared.answers.Climate.{Climate}
 use Rattle.host.specs.declared.answers.Count.{Count}
 use Rattle.host_book.specs.declared.Entries.{Entries}
 use Rattle.host_book.specs.declared.Entry.{Entry}
+use Rattle.host_sheet.specs.declared.Fault.{Fault}
 use Rattle.host.specs.declared.answers.Fit.{Fit}
 use Rattle.host.specs.declared.answers.Found.{Found}
 use Rattle.host_lines.specs.declared.Listed.{Listed}
@@ -298,8 +303,26 @@ line =
       name = "host_lines::bolsterweft_line";
       Args = LineArgs;
       refusals = 2 ∷ 5 ∷ 4 ∷ [];
-      Cause = λ a. LineCause (a .kind) (a .frame) (a .at) (length (a .room));
-      form = counts (λ a. a .room) (λ a. LineOf (a .kind) (a .frame) (a .at));
+      Cause = λ a. LineCause none (a .kind) (a .frame) (a .at) (length (a .room));
+      form = counts (λ a. a .room) (λ a. LineOf none (a .kind) (a .frame) (a .at));
+    }
+
+-- The same by a register map.
+pub record LineWithArgs : Type 0 where
+  pub kind : ℕ
+  pub frame : List ℕ
+  pub at : ℕ
+  pub map : List ℕ
+  pub room : List ℕ
+
+abbrev pub line-with : Claim Count
+line-with =
+    record {
+      name = "host_sheet::bolsterweft_line_with";
+      Args = LineWithArgs;
+      refusals = 2 ∷ 5 ∷ 4 ∷ [];
+      Cause = λ a. LineCause (sheetIn (a .map)) (a .kind) (a .frame) (a .at) (length (a .room));
+      form = counts (λ a. a .room) (λ a. LineOf (sheetIn (a .map)) (a .kind) (a .frame) (a .at));
     }
 
 -- Writes the line of the frame with the smallest start at or after the place, from the front of the room.
@@ -315,14 +338,57 @@ line-next =
       name = "host_lines::bolsterweft_line_next";
       Args = LineNextArgs;
       refusals = 2 ∷ 3 ∷ 4 ∷ 1 ∷ [];
-      Cause = λ a. NextCause (a .kind) (a .capture) (a .place) (length (a .room));
+      Cause = λ a. NextCause none (a .kind) (a .capture) (a .place) (length (a .room));
       form = writes
           (record {
             refusal = λ (r : Listed). r .refusal;
             value = placedIn;
             zeros = zeroPlaced;
             room = λ a. a .room;
-            Right = λ a. NextLine (a .kind) (a .capture) (a .place) (a .room) 0;
+            Right = λ a. NextLine none (a .kind) (a .capture) (a .place) (a .room) 0;
+          });
+    }
+
+-- The same by a register map.
+pub record LineNextWithArgs : Type 0 where
+  pub kind : ℕ
+  pub capture : List ℕ
+  pub place : ℕ
+  pub map : List ℕ
+  pub room : List ℕ
+
+abbrev pub line-next-with : Claim Listed
+line-next-with =
+    record {
+      name = "host_sheet::bolsterweft_line_next_with";
+      Args = LineNextWithArgs;
+      refusals = 2 ∷ 3 ∷ 4 ∷ 1 ∷ [];
+      Cause = λ a. NextCause (sheetIn (a .map)) (a .kind) (a .capture) (a .place) (length (a .room));
+      form = writes
+          (record {
+            refusal = λ (r : Listed). r .refusal;
+            value = placedIn;
+            zeros = zeroPlaced;
+            room = λ a. a .room;
+            Right = λ a. NextLine (sheetIn (a .map)) (a .kind) (a .capture) (a .place) (a .room) 0;
+          });
+    }
+
+-- The same, for another object of the archive.
+abbrev pub next-mapped : Claim Listed
+next-mapped =
+    record {
+      name = "host_lines::next_mapped";
+      Args = LineNextWithArgs;
+      refusals = 2 ∷ 3 ∷ 4 ∷ 1 ∷ [];
+      Cause = λ a. NextCause (sheetIn (a .map)) (a .kind) (a .capture) (a .place) (length (a .room));
+      form = writes
+          (record {
+            refusal = λ (r : Listed). r .refusal;
+            value = placedIn;
+            zeros = zeroPlaced;
+            room = λ a. a .room;
+            Right = λ a. NextLine (sheetIn (a .map)) (a .kind) (a .capture) (a .place) (a .room) 0;
           });
     }
 
@@ -337,8 +403,24 @@ listing =
       name = "host_list::bolsterweft_list";
       Args = ListingArgs;
       refusals = 4 ∷ [];
-      Cause = λ a. ListingCause (a .input) (length (a .room));
-      form = counts (λ a. a .room) (λ a. Listing (a .input));
+      Cause = λ a. ListingCause NoSheet (a .input) (length (a .room));
+      form = counts (λ a. a .room) (λ a. Listing NoSheet (a .input));
+    }
+
+-- The same by a register map.
+pub record ListingWithArgs : Type 0 where
+  pub input : List ℕ
+  pub map : List ℕ
+  pub room : List ℕ
+
+abbrev pub listing-with : Claim Count
+listing-with =
+    record {
+      name = "host_list::bolsterweft_list_with";
+      Args = ListingWithArgs;
+      refusals = 4 ∷ [];
+      Cause = λ a. ListingCause (OfMap (a .map)) (a .input) (length (a .room));
+      form = counts (λ a. a .room) (λ a. Listing (OfMap (a .map)) (a .input));
     }
 
 -- Writes the acknowledgement of a Homiq frame of type `s` from the front of the room.
@@ -355,6 +437,29 @@ acknowledge =
       Cause = λ a. AcknowledgeCause (a .frame) (length (a .room));
       form = counts (λ a. a .room) (λ a. AcknowledgementOf (a .frame));
     }
+
+-- Reads a sheet into a map, one byte a register.
+pub record SheetMapArgs : Type 0 where
+  pub text : List ℕ
+  pub map : List ℕ
+
+abbrev pub sheet-map : Claim Count
+sheet-map =
+    record {
+      name = "host_sheet::bolsterweft_sheet_map";
+      Args = SheetMapArgs;
+      refusals = 10 ∷ 4 ∷ [];
+      Cause = λ a. MapCause (a .text) (length (a .map));
+      form = counts (λ a. a .map) (λ a. IsMap (a .text));
+    }
+
+-- The first line of a sheet that is wrong, and the first test that it fails.
+pub record SheetFaultArgs : Type 0 where
+  pub text : List ℕ
+
+abbrev pub sheet-fault : Claim Fault
+sheet-fault =
+    answering {Args = SheetFaultArgs} "host_sheet::bolsterweft_sheet_fault" (λ a r. ToldFault (a .text) r)
 
 -- How many entries a book has.
 pub record BookOpenArgs : Type 0 where
@@ -409,8 +514,25 @@ book-line =
       name = "host_book::bolsterweft_book_line";
       Args = BookLineArgs;
       refusals = 8 ∷ 3 ∷ 4 ∷ [];
-      Cause = λ a. EntryLineCause (a .book) (a .number) (length (a .room));
-      form = counts (λ a. a .room) (λ a. EntryLine (a .book) (a .number));
+      Cause = λ a. EntryLineCause none (a .book) (a .number) (length (a .room));
+      form = counts (λ a. a .room) (λ a. EntryLine none (a .book) (a .number));
+    }
+
+-- The same by the sheet that a map is.
+pub record BookLineWithArgs : Type 0 where
+  pub book : List ℕ
+  pub number : ℕ
+  pub map : List ℕ
+  pub room : List ℕ
+
+abbrev pub book-line-with : Claim Count
+book-line-with =
+    record {
+      name = "host_book::bolsterweft_book_line_with";
+      Args = BookLineWithArgs;
+      refusals = 8 ∷ 3 ∷ 4 ∷ [];
+      Cause = λ a. EntryLineCause (sheetIn (a .map)) (a .book) (a .number) (length (a .room));
+      form = counts (λ a. a .room) (λ a. EntryLine (sheetIn (a .map)) (a .book) (a .number));
     }
 
 -- Writes the lines of all entries from the front of the room.
@@ -424,8 +546,24 @@ book-list =
       name = "host_book::bolsterweft_book_list";
       Args = BookListArgs;
       refusals = 8 ∷ 4 ∷ [];
-      Cause = λ a. ListCause (a .book) (length (a .room));
-      form = counts (λ a. a .room) (λ a. BookLines (a .book));
+      Cause = λ a. ListCause none (a .book) (length (a .room));
+      form = counts (λ a. a .room) (λ a. BookLines none (a .book));
+    }
+
+-- The same by the sheet that a map is.
+pub record BookListWithArgs : Type 0 where
+  pub book : List ℕ
+  pub map : List ℕ
+  pub room : List ℕ
+
+abbrev pub book-list-with : Claim Count
+book-list-with =
+    record {
+      name = "host_book::bolsterweft_book_list_with";
+      Args = BookListWithArgs;
+      refusals = 8 ∷ 4 ∷ [];
+      Cause = λ a. ListCause (sheetIn (a .map)) (a .book) (length (a .room));
+      form = counts (λ a. a .room) (λ a. BookLines (sheetIn (a .map)) (a .book));
     }
 
 -- Writes the whole new book, with an entry more, from the front of the room.

@@ -1,6 +1,7 @@
 -- The public functions of `lines`.
 -- Assumes nothing.
 use mathlib.Core.List.{List, [], _∷_}
+use mathlib.Core.Option.{none}
 use Prim.Native.Nat.{ℕ, _-_}
 use lib.ListN.{length}
 use Rattle.puts.specs.Paper.Wrote.{writtenCount, writtenRefusal}
@@ -10,6 +11,8 @@ use Rattle.messages.specs.Paper.Meant.{ContentWith, MeantCause}
 use Rattle.messages.specs.Paper.Says.{Says}
 use Rattle.messages.specs.declared.Message.{Message}
 use Rattle.messages.specs.declared.Tag.{Tag}
+use Rattle.sheet.specs.Paper.Map.{sheetIn}
+use Rattle.lines.specs.Paper.Answers.{LineByText, LineByTextCause}
 use Rattle.lines.specs.Paper.Answers.{LineCause, LineOf, NextCause, NextLine, NextSize, PutContent, PutSaid}
 use Rattle.lines.specs.Paper.Answers.{SaidCause, endedPlace, endedRefusal, listedPlaced, listedRefusal}
 use Rattle.lines.specs.Paper.Answers.{measuredRefusal, measuredSize, zeroPlaced, zeroSize}
@@ -31,8 +34,44 @@ write =
       name = "lines::write";
       Args = WriteArgs;
       refusals = 2 ∷ 5 ∷ 4 ∷ [];
-      Cause = λ a. LineCause (a .kind) (a .frame) (a .at) (length (a .room));
-      form = fronts (λ a. a .room) (λ a. LineOf (a .kind) (a .frame) (a .at));
+      Cause = λ a. LineCause none (a .kind) (a .frame) (a .at) (length (a .room));
+      form = fronts (λ a. a .room) (λ a. LineOf none (a .kind) (a .frame) (a .at));
+    }
+
+-- Writes the line of one frame by the sheet that a map is.
+pub record WriteMappedArgs : Type 0 where
+  pub kind : ℕ
+  pub frame : List ℕ
+  pub at : ℕ
+  pub map : List ℕ
+  pub room : List ℕ
+
+abbrev pub write-mapped : Claim Written
+write-mapped =
+    record {
+      name = "lines::write_mapped";
+      Args = WriteMappedArgs;
+      refusals = 2 ∷ 5 ∷ 4 ∷ [];
+      Cause = λ a. LineCause (sheetIn (a .map)) (a .kind) (a .frame) (a .at) (length (a .room));
+      form = fronts (λ a. a .room) (λ a. LineOf (sheetIn (a .map)) (a .kind) (a .frame) (a .at));
+    }
+
+-- Writes the line of one frame by a sheet.
+pub record WriteWithArgs : Type 0 where
+  pub kind : ℕ
+  pub frame : List ℕ
+  pub at : ℕ
+  pub text : List ℕ
+  pub room : List ℕ
+
+abbrev pub write-with : Claim Written
+write-with =
+    record {
+      name = "lines::write_with";
+      Args = WriteWithArgs;
+      refusals = 2 ∷ 5 ∷ 10 ∷ 4 ∷ [];
+      Cause = λ a. LineByTextCause (a .kind) (a .frame) (a .at) (a .text) (length (a .room));
+      form = fronts (λ a. a .room) (λ a. LineByText (a .kind) (a .frame) (a .at) (a .text));
     }
 
 -- Finds the frame with the smallest start at or after a place of the capture, and puts its line at a place of the
@@ -41,6 +80,7 @@ pub record NextArgs : Type 0 where
   pub kind : ℕ
   pub capture : List ℕ
   pub place : ℕ
+  pub map : List ℕ
   pub room : List ℕ
   pub to : ℕ
 
@@ -50,14 +90,14 @@ next =
       name = "lines::next";
       Args = NextArgs;
       refusals = 2 ∷ 3 ∷ 4 ∷ 1 ∷ [];
-      Cause = λ a. NextCause (a .kind) (a .capture) (a .place) (length (a .room) - a .to);
+      Cause = λ a. NextCause (sheetIn (a .map)) (a .kind) (a .capture) (a .place) (length (a .room) - a .to);
       form = writes
           (record {
             refusal = listedRefusal;
             value = listedPlaced;
             zeros = zeroPlaced;
             room = λ a. a .room;
-            Right = λ a. NextLine (a .kind) (a .capture) (a .place) (a .room) (a .to);
+            Right = λ a. NextLine (sheetIn (a .map)) (a .kind) (a .capture) (a .place) (a .room) (a .to);
           });
     }
 
@@ -66,6 +106,7 @@ pub record MeasureArgs : Type 0 where
   pub kind : ℕ
   pub capture : List ℕ
   pub place : ℕ
+  pub map : List ℕ
 
 abbrev pub measure : Claim Measured
 measure =
@@ -79,7 +120,7 @@ measure =
             refusal = measuredRefusal;
             value = measuredSize;
             zeros = zeroSize;
-            Right = λ a. NextSize (a .kind) (a .capture) (a .place);
+            Right = λ a. NextSize (sheetIn (a .map)) (a .kind) (a .capture) (a .place);
           });
     }
 
@@ -99,14 +140,14 @@ of =
       name = "lines::of";
       Args = OfArgs;
       refusals = 5 ∷ 4 ∷ [];
-      Cause = λ a. SaidCause (Says (a .message) (a .content)) (a .at) (a .len) (length (a .room) - a .to);
+      Cause = λ a. SaidCause none (Says (a .message) (a .content)) (a .at) (a .len) (length (a .room) - a .to);
       form = writes
           (record {
             refusal = writtenRefusal;
             value = writtenCount;
             zeros = 0;
             room = λ a. a .room;
-            Right = λ a. PutSaid (Says (a .message) (a .content)) (a .at) (a .len) (a .room) (a .to);
+            Right = λ a. PutSaid none (Says (a .message) (a .content)) (a .at) (a .len) (a .room) (a .to);
           });
     }
 
@@ -116,6 +157,7 @@ pub record PutContentArgs : Type 0 where
   pub payload : List ℕ
   pub at : ℕ
   pub len : ℕ
+  pub map : List ℕ
   pub room : List ℕ
   pub to : ℕ
 
@@ -132,6 +174,6 @@ put-content =
             value = endedPlace;
             zeros = 0;
             room = λ a. a .room;
-            Right = λ a. PutContent (a .tag) (a .payload) (a .at) (a .len) (a .room) (a .to);
+            Right = λ a. PutContent (sheetIn (a .map)) (a .tag) (a .payload) (a .at) (a .len) (a .room) (a .to);
           });
     }

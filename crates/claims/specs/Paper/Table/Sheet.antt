@@ -12,6 +12,7 @@ use Rattle.sheet.specs.Paper.Map.{lookupIn}
 use Rattle.sheet.specs.Paper.Answers.{OpenCause, HasRows, rowsRefusal, rowsCount, TypeInCause, TypeCause, HasType}
 use Rattle.sheet.specs.Paper.Answers.{typedRefusal, typedValue, zeroType, MapCause, IsMap, SplitCause, IsSplit}
 use Rattle.sheet.specs.Paper.Answers.{JoinCause, IsJoin, SomeSplit, Faults}
+use Rattle.sheet.specs.Paper.Split.{Unsolicited}
 use Rattle.sheet.specs.declared.Rows.{Rows}
 use Rattle.sheet.specs.declared.Typed.{Typed}
 use Rattle.sheet.specs.declared.faults.Fault.{Fault}
@@ -136,6 +137,13 @@ pub record SplitsArgs : Type 0 where
 abbrev pub splits : Claim Bool
 splits =
     answering {Args = SplitsArgs} "sheet::splits" (λ a r. Decides (SomeSplit (lookupIn (a .map)) (a .content)) r)
+
+-- Whether the pump sends such a message by itself.
+pub record UnsolicitedArgs : Type 0 where
+  pub command : ℕ
+
+abbrev pub unsolicited : Claim Bool
+unsolicited = answering {Args = UnsolicitedArgs} "sheet::unsolicited" (λ a r. Decides (Unsolicited (a .command)) r)
 
 -- The first line of a sheet that is wrong, and the first test that it fails.
 pub record FaultArgs : Type 0 where

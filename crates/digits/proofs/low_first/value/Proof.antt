@@ -7,7 +7,7 @@ use native.Mathlib.Omega.{arith}
 use lib.Dec.{lit<}
 use lib.ListN.{length, getD, drop, drop-of-length-le}
 use denote.Ref.{now}
-use Rattle.digits.specs.Work.LowFirst.{lowValue}
+use Rattle.digits.specs.Paper.LowFirst.{lowValue}
 use Rattle.digits.proofs.Laws.LowFirst.{value-step, value-part}
 use Rattle.digits.proofs.low_first.value.Statement.{statement}
 use Rattle.digits.proofs.low_first.value.Tie as tie

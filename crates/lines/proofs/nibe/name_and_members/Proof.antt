@@ -6,7 +6,9 @@ use Rattle.lines.specs.Paper.Line.{members}
 use Rattle.lines.proofs.Laws.Put.{last-put}
 use Rattle.messages.specs.Paper.Says.{ofNibe}
 use Rattle.messages.specs.declared.nibe.Nibe.{Nibe}
-use Rattle.lines.specs.Work.Put.{commaed, named}
+use Rattle.sheet.specs.Paper.Map.{sheetIn}
+use Rattle.lines.specs.Paper.WithSheet.{membersWith, furtherMembers}
+use Rattle.lines.specs.Work.Put.{commaed, namedWith}
 use borrow.Author.Needs.{needs}
 use Rattle.lines.proofs.nibe.name_and_members.Statement.{statement}
 use Rattle.lines.proofs.nibe.name_and_members.Tie as tie
@@ -77,22 +79,25 @@ slice-aggregate-hex c = search needs
 hex-requires : tie.Need-hex-requires
 hex-requires c κs = search needs
 
+member-requires : tie.Need-member-requires
+member-requires c κs = search needs
+
 same-length : tie.Need-same-length
 same-length c = search needs
 
 returns : tie.Need-returns
-unfolding named members commaed
-returns c = puts-as (sym (ap (λ (e : Nibe). named (ofNibe e (c .before .before .before .before .before .before .before .before .before .before .args .content .now))) (c .before .before .before .before .before .before .message .given .1))) (last-put (c .before .before .number .ensures))
+unfolding namedWith members membersWith furtherMembers commaed
+returns c = puts-as (sym (ap (λ (e : Nibe). namedWith (sheetIn (c .before .before .before .before .before .before .before .before .before .before .before .args .map .now)) (ofNibe e (c .before .before .before .before .before .before .before .before .before .before .before .args .content .now))) (c .before .before .before .before .before .before .message .given .1))) (last-put (c .before .before .number .ensures))
 
 same-length-2 : tie.Need-same-length-2
 same-length-2 c = search needs
 
 returns-2 : tie.Need-returns-2
-unfolding named members commaed
+unfolding namedWith members membersWith furtherMembers commaed
 returns-2 c =
     let c1 = c .before .before in
     let c2 = c1 .before .before .before .before in
-    puts-as (sym (ap (λ (e : Nibe). named (ofNibe e (c .before .before .before .before .before .before .before .before .before .before .before .before .before .before .args .content .now))) (c .before .before .before .before .before .before .before .before .before .before .message2 .given .1)))
+    puts-as (sym (ap (λ (e : Nibe). namedWith (sheetIn (c .before .before .before .before .before .before .before .before .before .before .before .before .before .before .before .args .map .now)) (ofNibe e (c .before .before .before .before .before .before .before .before .before .before .before .before .before .before .before .args .content .now))) (c .before .before .before .before .before .before .before .before .before .before .message2 .given .1)))
     (c2 .bytes .ensures
     then c1 .value .ensures)
 
@@ -100,11 +105,11 @@ same-length-3 : tie.Need-same-length-3
 same-length-3 c = search needs
 
 returns-3 : tie.Need-returns-3
-unfolding named members commaed
+unfolding namedWith members membersWith furtherMembers commaed
 returns-3 c =
     let c1 = c .before .before in
     let c2 = c1 .before .before .before .before in
-    puts-as (sym (ap (λ (e : Nibe). named (ofNibe e (c .before .before .before .before .before .before .before .before .before .before .before .before .before .before .args .content .now))) (c .before .before .before .before .before .before .before .before .before .before .message3 .given .1)))
+    puts-as (sym (ap (λ (e : Nibe). namedWith (sheetIn (c .before .before .before .before .before .before .before .before .before .before .before .before .before .before .before .args .map .now)) (ofNibe e (c .before .before .before .before .before .before .before .before .before .before .before .before .before .before .before .args .content .now))) (c .before .before .before .before .before .before .before .before .before .before .message3 .given .1)))
     (c2 .bytes2 .ensures
     then c1 .value2 .ensures)
 
@@ -112,11 +117,11 @@ same-length-4 : tie.Need-same-length-4
 same-length-4 c = search needs
 
 returns-4 : tie.Need-returns-4
-unfolding named members commaed
+unfolding namedWith members membersWith furtherMembers commaed
 returns-4 c =
     let c1 = c .before .before in
     let c2 = c1 .before .before .before .before in
-    puts-as (sym (ap (λ (e : Nibe). named (ofNibe e (c .before .before .before .before .before .before .before .before .before .before .before .before .before .before .args .content .now))) (c .before .before .before .before .before .before .before .before .before .before .message4 .given .1)))
+    puts-as (sym (ap (λ (e : Nibe). namedWith (sheetIn (c .before .before .before .before .before .before .before .before .before .before .before .before .before .before .before .args .map .now)) (ofNibe e (c .before .before .before .before .before .before .before .before .before .before .before .before .before .before .before .args .content .now))) (c .before .before .before .before .before .before .before .before .before .before .message4 .given .1)))
     (c2 .bytes3 .ensures
     then last-put (c1 .truth .ensures))
 
@@ -124,13 +129,13 @@ same-length-5 : tie.Need-same-length-5
 same-length-5 c = search needs
 
 returns-5 : tie.Need-returns-5
-unfolding named members commaed
+unfolding namedWith members membersWith furtherMembers commaed
 returns-5 c =
-    let c1 = c .before .before in
-    let c2 = c1 .before .before .before .before .before in
-    puts-as (sym (ap (λ (e : Nibe). named (ofNibe e (c .before .before .before .before .before .before .before .before .before .before .before .before .before .before .before .args .content .now))) (c .before .before .before .before .before .before .before .before .before .before .before .message5 .given .1)))
-    (c2 .number2 .ensures
-    then last-put (c1 .hex .ensures))
+    let s = c .before .before .before .before .before .before .before .before .before .before .before .before .before .before .before .before .before .before .before .before in
+    puts-as (sym (ap (λ (e : Nibe). namedWith (sheetIn (s .args .map .now)) (ofNibe e (s .args .content .now))) (c .before .before .before .before .before .before .before .before .before .before .before .before .before .before .before .message5 .given .1)))
+    (c .before .before .before .before .before .before .before .before .before .before .before .number2 .ensures
+    then c .before .before .before .before .before .before .hex .ensures
+    then c .before .before .member .ensures)
 
 pub name-and-members-spec : {M : Type 1} → statement M
 name-and-members-spec =
@@ -158,6 +163,7 @@ name-and-members-spec =
     number-requires-2
     slice-aggregate-hex
     hex-requires
+    member-requires
     same-length
     returns
     same-length-2

@@ -1,8 +1,13 @@
 -- `lines::nibe::value` meets its contract: one member after the other.
 -- Assumes nothing.
-use Rattle.puts.proofs.Laws.Puts.{_then_}
-use Rattle.lines.proofs.Laws.Put.{last-put}
+use mathlib.Core.Option.{Option}
+use mathlib.Core.Path.{sym, ap}
+use Rattle.puts.proofs.Laws.Puts.{_then_, puts-as}
+use Rattle.sheet.specs.Paper.Sheet.{RegisterType}
+use Rattle.lines.specs.Paper.WithSheet.{valueReading}
 use Rattle.lines.specs.Work.Put.{commaed}
+use Rattle.lines.proofs.Laws.Put.{last-put}
+use Rattle.lines.proofs.Laws.Types.{type-in}
 use borrow.Author.Needs.{needs}
 use Rattle.lines.proofs.nibe.value.Statement.{statement}
 use Rattle.lines.proofs.nibe.value.Tie as tie
@@ -25,8 +30,11 @@ cast-number-2 c = search needs
 number-requires-2 : tie.Need-number-requires-2
 number-requires-2 c κs = search needs
 
-slice-aggregate-reading : tie.Need-slice-aggregate-reading
-slice-aggregate-reading c = search needs
+slice-aggregate-bytes : tie.Need-slice-aggregate-bytes
+slice-aggregate-bytes c = search needs
+
+bytes-requires : tie.Need-bytes-requires
+bytes-requires c κs = search needs
 
 reading-requires : tie.Need-reading-requires
 reading-requires c κs = search needs
@@ -37,12 +45,12 @@ same-length c = search needs
 returns : tie.Need-returns
 unfolding commaed
 returns c =
-    let c1 = c .before .before in
-    let c2 = c1 .before .before .before .before .before in
-    let c3 = c2 .before .before .before .before .before .before in
-    c3 .number .ensures
-    then c2 .number2 .ensures
-    then last-put (c1 .reading .ensures)
+    let s = c .before .before .before .before .before .before .before .before .before .before .before .before .before .before .before .before .before .before .before .before .before .before .before in
+    let o = type-in (s .args .map .now) (s .args .valued .register) in
+    c .before .before .before .before .before .before .before .before .before .before .before .before .before .before .before .before .before .number .ensures
+    then c .before .before .before .before .before .before .before .before .before .before .before .number2 .ensures
+    then c .before .before .before .before .before .before .bytes .ensures
+    then last-put (puts-as (sym (ap (λ (t : Option RegisterType). valueReading t (s .args .valued .width) (s .args .valued .value)) o)) (c .before .before .reading .ensures))
 
 pub value-spec : {M : Type 1} → statement M
 value-spec =
@@ -54,7 +62,8 @@ value-spec =
     slice-aggregate-number-2
     cast-number-2
     number-requires-2
-    slice-aggregate-reading
+    slice-aggregate-bytes
+    bytes-requires
     reading-requires
     same-length
     returns)

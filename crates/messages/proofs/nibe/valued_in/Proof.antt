@@ -6,7 +6,7 @@ use borrow.Author.Needs.{needs}
 use denote.Ref.{now}
 use Rattle.digits.proofs.Laws.LowFirst.{width-most}
 use Rattle.digits.proofs.Laws.Parts.{part-rest}
-use Rattle.digits.specs.Work.LowFirst.{lowValue}
+use Rattle.digits.specs.Paper.LowFirst.{lowValue}
 use Rattle.messages.proofs.Laws.NibeLook.{behind-two}
 use Rattle.messages.proofs.nibe.valued_in.Statement.{statement}
 use Rattle.messages.proofs.nibe.valued_in.Tie as tie

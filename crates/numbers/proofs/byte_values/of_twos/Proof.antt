@@ -6,7 +6,7 @@ use Prim.Native.Nat.{ℕ, _-_, _^_, _<_}
 use native.Mathlib.Omega.{arith}
 use lib.IntN.{pos, negℤ}
 use borrow.Author.Needs.{needs}
-use Rattle.numbers.specs.Work.ByteValues.{fromTwos}
+use Rattle.numbers.specs.Paper.ByteValues.{fromTwos}
 use Rattle.numbers.specs.Work.Text.{signed}
 use Rattle.numbers.proofs.Laws.Signs.{back, read-back, signed-fits}
 use Rattle.numbers.proofs.Laws.Values.{size-most}

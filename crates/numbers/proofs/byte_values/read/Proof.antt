@@ -11,7 +11,7 @@ use Rattle.digits.specs.Paper.Answers.{numberRefusal, ReadsNumber}
 use Rattle.digits.proofs.Laws.LowFirst.{never-refused}
 use Rattle.digits.proofs.Laws.Tests.{told, untold}
 use Rattle.digits.proofs.Laws.Reads.{answered}
-use Rattle.numbers.specs.Work.ByteValues.{ofTwos}
+use Rattle.numbers.specs.Paper.ByteValues.{ofTwos}
 use Rattle.numbers.proofs.Laws.Signs.{raw-fits, back, read-back}
 use Rattle.numbers.proofs.Laws.Values.{size, size-most, in-raw, of-twos}
 use Rattle.numbers.proofs.Laws.Reading.{unknown-width, other-count, value-read}

@@ -5,7 +5,7 @@ use mathlib.Core.Bool.{Bool}
 use Prim.Native.Nat.{ℕ, _*_}
 use lib.Dec.{leb}
 use borrow.Author.Needs.{needs}
-use Rattle.numbers.specs.Work.ByteValues.{standsBelow}
+use Rattle.numbers.specs.Paper.ByteValues.{standsBelow}
 use Rattle.numbers.proofs.byte_values.stands_below_zero.Statement.{statement}
 use Rattle.numbers.proofs.byte_values.stands_below_zero.Tie as tie
 

@@ -9,6 +9,7 @@ use crate::frames::KINDS;
 use crate::messages;
 use crate::random::Random;
 use crate::rows::ROWS;
+use crate::sheets;
 
 pub fn direction(kind: u8, random: &mut Random) -> String {
     let right = if kind == 2 { "command" } else { "response" };
@@ -248,6 +249,15 @@ pub fn decoded() -> Vec<Function> {
     ]
 }
 
+/// A register map, mostly none.
+pub fn any_map(random: &mut Random) -> String {
+    if random.one_in(4) {
+        hex(&sheets::any_map(random).0)
+    } else {
+        hex(&[])
+    }
+}
+
 pub fn lines() -> Vec<Function> {
     vec![
         function(
@@ -265,14 +275,14 @@ pub fn lines() -> Vec<Function> {
             &["ok", "refused 2", "refused 3", "refused 1", "refused 4"],
             |r| {
                 let [kind, capture, place] = searched(any_kind(r), r).try_into().unwrap();
-                words([kind, capture, place, room(), at()])
+                words([kind, capture, place, any_map(r), room(), at()])
             },
         ),
         function(
             "lines::measure",
             16,
             &["ok", "refused 2", "refused 3", "refused 1"],
-            |r| searched(any_kind(r), r),
+            |r| [searched(any_kind(r), r), vec![any_map(r)]].concat(),
         ),
         function("list::write", 14, &["ok", "refused 4"], |r| {
             words([hex(&listing_input(r)), room()])

@@ -3,11 +3,13 @@
 use super::framed::{listing_input, of_one_frame, one_frame, searched};
 use super::judged;
 use super::kept::{added, any_book, numbered};
+use super::sheeted;
 use super::values::byte_value;
 use super::{any_kind, function, number, room, words, Function};
 use crate::arguments::{self, hex};
 use crate::frames::KINDS;
 use crate::random::Random;
+use crate::sheets;
 
 /// A number that 8, 16 or 24 bits would cut to this one, now and then.
 fn wide(word: String, random: &mut Random) -> String {
@@ -103,6 +105,54 @@ fn lines() -> Vec<Function> {
         function("bolsterweft_list", 24, &["ok", "refused 4"], |r| {
             words([hex(&listing_input(r)), room()])
         }),
+    ]
+}
+
+/// The register sheet, and lines by a register map: the requests of the functions that take one, without the place in the room.
+pub fn by_map() -> Vec<Function> {
+    vec![
+        function(
+            "bolsterweft_sheet_map",
+            3,
+            &["ok 65536", "refused 10", "refused 4"],
+            |r| words([hex(&sheets::any_sheet(r).0), room()]),
+        ),
+        function(
+            "bolsterweft_sheet_fault",
+            30,
+            &[
+                "ok", "ok 0 0", "ok 1 1", "ok 2 1", "ok 3 1", "ok 4 1", "ok 5 2", "ok 6 501",
+                "ok 7 1",
+            ],
+            |r| words([hex(&sheeted::sheet_at_its_limits(r))]),
+        ),
+        function(
+            "bolsterweft_line_with",
+            50,
+            &["ok", "refused 2", "refused 5", "refused 4"],
+            |r| with_wide(sheeted::frame_by_map(r), 0, r),
+        ),
+        function(
+            "bolsterweft_line_next_with",
+            50,
+            &["ok", "refused 2", "refused 3", "refused 4", "refused 1"],
+            |r| with_room(with_wide(sheeted::capture_by_map(r), 0, r)),
+        ),
+        function("bolsterweft_list_with", 30, &["ok", "refused 4"], |r| {
+            sheeted::input_by_map(r)
+        }),
+        function(
+            "bolsterweft_book_line_with",
+            30,
+            &["ok", "refused 8", "refused 3", "refused 4"],
+            |r| with_wide(sheeted::entry_by_map(r), 1, r),
+        ),
+        function(
+            "bolsterweft_book_list_with",
+            24,
+            &["ok", "refused 8", "refused 4"],
+            sheeted::book_by_map,
+        ),
     ]
 }
 

@@ -5,12 +5,15 @@ mod in_c;
 mod judged;
 mod kept;
 mod layouts;
+mod sheeted;
 mod table;
 mod values;
 
 use crate::arguments::{self, hex};
 use crate::frames::{self, KINDS};
 use crate::random::Random;
+
+pub use kept::any_book;
 
 /// Stands for a room, whose length is chosen when it is known how much will be written.
 pub const ROOM: &str = "ROOM";
@@ -55,6 +58,14 @@ pub fn all() -> Vec<Function> {
     .collect()
 }
 
+/// The functions on register sheets, and what is written by them.
+pub fn by_sheet() -> Vec<Function> {
+    [sheeted::sheets(), sheeted::lines(), sheeted::books()]
+        .into_iter()
+        .flatten()
+        .collect()
+}
+
 /// Requests that are listed, not drawn, and the first words of each sort of answer, as in `Function`.
 pub struct Fixed {
     pub test: String,
@@ -72,6 +83,11 @@ pub fn all_fixed() -> Vec<Fixed> {
 /// The calls for C.
 pub fn from_c() -> Vec<Function> {
     in_c::calls()
+}
+
+/// The calls for C by a register map.
+pub fn from_c_by_map() -> Vec<Function> {
+    in_c::by_map()
 }
 
 pub fn fixed_from_c() -> Vec<Fixed> {

@@ -1,13 +1,14 @@
 //! The functions on the message table: the message of a content and its line, and each row's messages, whether they are allowed, their
 //! lines and their frames.
 
-use super::framed::{homiq_payload, nearly_press, one_frame};
+use super::framed::{any_map, homiq_payload, nearly_press, one_frame};
 use super::{at, function, number, room, words, Function};
 use crate::arguments::{self, hex};
 use crate::contents;
 use crate::messages;
 use crate::random::Random;
 use crate::rows::{Row, ROWS};
+use crate::sheets;
 
 /// A content's tag, by its name; how many requests it gets beside the others, and the messages that it can mean.
 struct Tag {
@@ -69,14 +70,26 @@ pub fn meant() -> Vec<Function> {
     let line = |tag: &'static Tag| {
         let answers: Vec<&str> = ["ok"].into_iter().chain(tag.refused()).collect();
         tag.named(function("lines::put_content", tag.weight, &answers, |r| {
-            let behind = words([number(64, r), number(64, r), room(), at()]);
-            [content(tag.name, r), behind].concat()
+            let (content, map) = by_map(tag.name, r);
+            let behind = words([number(64, r), number(64, r), map, room(), at()]);
+            [content, behind].concat()
         }))
     };
     TAGS.iter()
         .map(message)
         .chain(TAGS.iter().map(line))
         .collect()
+}
+
+/// A tag of this name, a payload, and a register map, which says something of it now and then.
+fn by_map(tag: &str, random: &mut Random) -> (Vec<String>, String) {
+    if tag != "nibe" || random.one_in(3) {
+        return (content(tag, random), any_map(random));
+    }
+    let (map, rows) = sheets::any_map(random);
+    let (command, data) = sheets::message(&rows, random);
+    let words = words([tag.to_string(), command.to_string(), hex(&data)]);
+    (words, hex(&map))
 }
 
 /// A tag of this name and a payload: good, nearly so, or not.
