@@ -52,7 +52,7 @@ extern "C" {
 
 /* The version that this header is of: 10000 * major + 100 * minor + patch. Compare it with `bolsterweft_version()` once, as the
  * program starts: if they differ, header and archive are not a pair, and the structs below may not be those of the archive. */
-#define BOLSTERWEFT_VERSION 10300
+#define BOLSTERWEFT_VERSION 10400
 
 /* The kinds: a bus and a direction. */
 enum bolsterweft_kind {
@@ -111,7 +111,7 @@ enum bolsterweft_size {
  *
  *     if (bolsterweft_version() != BOLSTERWEFT_VERSION)
  *         abort();
- *     printf("%u\n", (unsigned)bolsterweft_version()); // 10300
+ *     printf("%u\n", (unsigned)bolsterweft_version()); // 10400
  */
 uint32_t bolsterweft_version(void);
 

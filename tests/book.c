@@ -63,7 +63,7 @@ static usize any_homiq(u8 *f) {
         }
         fields[at++] = ';';
     }
-    snprintf(fields + at, 20, "%u;%c", (unsigned)(any() % 511 + 1), any() % 2 ? 's' : 'a');
+    snprintf(fields + at, 20, "%u;%c", (unsigned)(any() % 512), any() % 2 ? 's' : 'a');
     return made_homiq(f, fields, 0);
 }
 

@@ -109,6 +109,34 @@ static void try_frames(void) {
                                      bolsterweft_one_frame(kind, f, nest_of(f, kind, 1, f + 1100, 1025, 0)).refusal == 5);
 }
 
+/* Homiq's IDs, each that there is and many that there are not, wherever a frame is read. */
+static void try_id(const char *id) {
+    u8 f[200], kept[256], *room = lend_room(200);
+    char fields[64];
+    snprintf(fields, sizeof fields, "HB;1;0H;0;%s;s", id);
+    usize n = made_homiq(f, fields, 0);
+    int right = homiq_length(f, n) == n;
+    struct bolsterweft_found s = bolsterweft_search(5, f, n, 0);
+    expect("a search for each ID", right ? !s.refusal && s.length == n : s.refusal == 1);
+    expect("a verdict on each ID", bolsterweft_why(5, f, n, 0).test == (right ? NO_TEST : AT_FIELDS));
+    expect("one frame of each ID", bolsterweft_one_frame(5, f, n).refusal == (right ? 0 : 5));
+    expect("an acknowledgement of each ID", bolsterweft_acknowledge(f, n, room, 200).refusal == (right ? 0 : 5));
+    expect("a line of each ID", bolsterweft_line(5, f, n, 0, room, 200).refusal == (right ? 0 : 5));
+    struct bolsterweft_count c = bolsterweft_book_add(empty_book, 6, 5, f, n, kept, sizeof kept);
+    expect("a book with each ID", c.refusal == (right ? 0 : 5) && (!right || bolsterweft_book_open(kept, c.length).count == 1));
+}
+
+static void try_ids(void) {
+    static const char *const others[] = {"", "00", "000", "0000", "01", "007", "0511", "-0", "+0", " 0", "0 "};
+    char id[8];
+    for (unsigned i = 0; i <= 600; i++) {
+        snprintf(id, sizeof id, "%u", i);
+        try_id(id);
+    }
+    for (usize i = 0; i < sizeof others / sizeof *others; i++)
+        try_id(others[i]);
+}
+
 /* The line that is longest by what it shows: texts of bytes that are escaped, the frame as long as it may be, the largest place. */
 static void try_lines(void) {
     static u8 f[2048], payload[1024];
@@ -164,6 +192,7 @@ int main(int count, char **words) {
     try_texts();
     try_sheet();
     try_frames();
+    try_ids();
     try_lines();
     try_listings();
     try_books();

@@ -133,6 +133,7 @@ HOMIQ = [
     (paper.homiq(b"O.3;1;0H;0;7;a"), "output: its acknowledgement", "004, outputs" + FRAMED),
     (b"\n", "no frame: noise", "ours"),
     (paper.homiq(b"I.15;0;05;0;511;s"), "input: number 15 is low", "004, inputs; with the last ID" + FRAMED),
+    (paper.homiq(b"I.14;0;05;0;0;s"), "input: number 14 is low", "004, inputs; with the ID that follows the last" + FRAMED),
     (paper.homiq(b"UD;u;0;05;8;s"), "shutter: up", "004, shutters" + FRAMED),
     (paper.homiq(b"UD;s;0;05;9;s"), "shutter: stop", "004, shutters" + FRAMED),
     (paper.homiq(b"HB;1;0H;yy;1;s"), "beat: to all", "004, system" + FRAMED),

@@ -156,7 +156,7 @@ static void read_field(struct reader *r, usize most) {
     read_char(r, ';');
 }
 
-static u32 read_number(struct reader *r, u32 low, u32 high) {
+static u32 read_number(struct reader *r, u32 most) {
     if (!r->at)
         return 0;
     usize n = 0;
@@ -167,7 +167,7 @@ static u32 read_number(struct reader *r, u32 low, u32 high) {
             break;
         v = v * 10 + c - '0';
     }
-    if (n == 0 || n > 3 || (n > 1 && r->s[r->at] == '0') || v < low || v > high)
+    if (n == 0 || n > 3 || (n > 1 && r->s[r->at] == '0') || v > most)
         r->at = 0;
     else
         r->at += n;
@@ -183,14 +183,14 @@ static inline __attribute__((always_inline)) usize homiq_end(const u8 *s, usize 
     read_field(&r, 16);
     read_field(&r, 4);
     read_field(&r, 4);
-    read_number(&r, 1, 511);
+    read_number(&r, 511);
     if (r.at && r.at < m && (s[r.at] == 's' || s[r.at] == 'a'))
         r.at++;
     else
         r.at = 0;
     read_char(&r, ';');
     usize head = r.at;
-    *found = read_number(&r, 0, 255);
+    *found = read_number(&r, 255);
     read_char(&r, '>');
     read_char(&r, '\r');
     read_char(&r, '\n');

@@ -414,7 +414,7 @@ def any_frame(kind, rng):
     """With right check values; now and then a field is outside its limits."""
     if kind == 5 and rng.randrange(4) == 0:
         fields = (bytes(rng.choice(b'"\\/!~uOI.019AZ') for _ in range(rng.randint(1, most))) for most in (8, 16, 4, 4))
-        return paper.homiq(b";".join((*fields, b"%d" % rng.randint(1, 511), rng.choice((b"s", b"a")))))
+        return paper.homiq(b";".join((*fields, b"%d" % rng.randint(0, 511), rng.choice((b"s", b"a")))))
     name = rng.choice(table.OF_KIND[kind])
     if kind == 4 and rng.randrange(2):
         name = rng.choice(("ask", "reply", "put", "done"))

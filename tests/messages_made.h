@@ -83,7 +83,7 @@ static usize homiq_message(u8 *f) {
     default:
         snprintf(cmd, sizeof cmd, "S.%u", (unsigned)(any() % 1000));
     }
-    snprintf(fields, sizeof fields, "%s;%c;0H;%u;%u;%c", cmd, val, (unsigned)(any() % 100), (unsigned)(any() % 511 + 1), of("sa", 2));
+    snprintf(fields, sizeof fields, "%s;%c;0H;%u;%u;%c", cmd, val, (unsigned)(any() % 100), (unsigned)(any() % 512), of("sa", 2));
     return made_homiq(f, fields, 0);
 }
 

@@ -144,8 +144,11 @@ LINK = re.compile(rb"\$([0-9A-F]{2})((?:[0-9A-F]{2})+)([0-9A-F]{4})([0-9A-F]{2})
 PRESS = re.compile(rb"#N([0-9A-F]{6})\r")
 # a tail's payload is empty; document 01 does not say where, docs/CALLS.md does: at the end
 TAIL = re.compile(rb"#E1\r()")
-FIELDS = rb"(C{1,8});(C{1,16});(C{1,4});(C{1,4});([1-9][0-9]*);([sa])".replace(b"C", CHARACTER)
-HOMIQ = re.compile(rb"<;(%s);(0|[1-9][0-9]*);>\r\n" % FIELDS)
+NATURAL = rb"(0|[1-9][0-9]*)"
+FIELDS = rb"(C{1,8});(C{1,16});(C{1,4});(C{1,4});N;([sa])".replace(b"C", CHARACTER).replace(b"N", NATURAL)
+HOMIQ = re.compile(rb"<;(%s);%s;>\r\n" % (FIELDS, NATURAL))
+# document 02, K3: Homiq counts from 0 to this ID, and from there goes on with 0
+LAST_ID = 511
 COMMANDS = bytes.fromhex("606268696a6b6c")
 PREAMBLES = {2: bytes.fromhex("d5aa96"), 3: bytes.fromhex("d5d5aa96")}
 
@@ -198,7 +201,7 @@ def nibe_at(s, at):
 def homiq_at(s, at):
     """The form by a pattern, then the two numbers."""
     found = HOMIQ.match(s, at)
-    if not found or int(found.group(6)) > 511:
+    if not found or int(found.group(6)) > LAST_ID:
         return None
     stands, right = homiq_values(found)
     return (found.end(), *found.span(1)) if stands == right else None
@@ -223,7 +226,14 @@ def may_start(kind, s):
 def is_payload(s):
     """Whether these are Homiq's six fields; the ID's limit is compared as a number."""
     found = re.fullmatch(FIELDS, s)
-    return bool(found) and int(found.group(5)) <= 511
+    return bool(found) and int(found.group(5)) <= LAST_ID
+
+
+def next_id(number):
+    """The ID after this one, or the refusal's number."""
+    if number > LAST_ID:
+        return 5
+    return (0,) if number == LAST_ID else (number + 1,)
 
 
 def search(kind, s, place):
@@ -282,7 +292,7 @@ def check_values(kind, s, size):
     if kind == 4:
         return [(s[size - 1], value("nibe xor", s[2 : size - 1]))] if s[1] in COMMANDS else None
     found = HOMIQ.match(s)
-    return [homiq_values(found)] if found and int(found.group(6)) <= 511 and int(found.group(8)) <= 255 else None
+    return [homiq_values(found)] if found and int(found.group(6)) <= LAST_ID and int(found.group(8)) <= 255 else None
 
 
 def verdict(kind, s):

@@ -224,6 +224,14 @@ def known_frame_cases():
     yield from both_cases(2, nest(2, 0x82, bytes(3)), nest(2, 0x82, b"\x01\x10\x21"))
 
 
+def later_frame_cases():
+    """Document 02, K3: IDs 0 and 511 are frames' IDs, 512 and `00` are not; the ID after each."""
+    beats = b"<;HB;1;0H;0;0;s;149;>", b"<;HB;1;0H;0;511;s;48;>", b"<;HB;1;0H;0;512;s;101;>", b"<;HB;1;0H;0;00;s;250;>"
+    yield from both_cases(5, *[beat + b"\r\n" for beat in beats])
+    for number in (0, 1, 510, 511, 512, 513, 65535):
+        yield request("messages::homiq::next_id", number), answer(paper.next_id(number))
+
+
 def nikobus_cases():
     # LL at its lower limit and below it, odd, and not that of what follows: the check values are right for what stands there
     lengths = [link(b""), link(b"11"), link(b"110", over=b"\x11"), link(b"110", over=b"\x01\x10"), link(b"1100")]
@@ -277,7 +285,7 @@ def nibe_cases():
 
 
 def homiq_cases():
-    for number in (b"0", b"1", b"511", b"512", b"042", b"1000", b"4x", b"-1", b""):
+    for number in (b"0", b"00", b"000", b"01", b"1", b"511", b"512", b"042", b"1000", b"4x", b"-1", b""):
         yield from both_cases(5, homiq(b"I.3;1;0H;0;%s;s" % number))
     # CRC 0 and 255, 256 for 0, leading zeros, none, a sign
     zero, most, acknowledged = b"I.3;1;0H;0;187;s", b"I.3;1;0H;0;182;s", b"I.3;1;0;0H;42;a"
@@ -479,7 +487,7 @@ def test_cases():
     for at, others in enumerate((b"|ABCDEFGH|ABCDEFGHI", b"|0123456789ABCDEF|0123456789ABCDEFG", b"|0HJK|0HJKL", b"|0LMN|0LMNO")):
         yield from (payload_case(b";".join([*fields[:at], other, *fields[at + 1 :]])) for other in others.split(b"|"))
         yield from (payload_case(b";".join([*fields[:at], bytes([c]), *fields[at + 1 :]])) for c in b" !:;<=>?~\x7f\x80")
-    yield from (payload_case(b";".join([*fields[:4], number, b"s"])) for number in b"|0|1|511|512|042|1000|4x|-1".split(b"|"))
+    yield from (payload_case(b";".join([*fields[:4], number, b"s"])) for number in b"|0|00|1|511|512|042|1000|4x|-1".split(b"|"))
     yield from (payload_case(b";".join([*fields[:5], letter])) for letter in b"|s|a|x|S|ss|sa".split(b"|"))
     yield from (payload_case(s) for s in (b"", b";;;;;", b"I.3;1;0H;0;42", b"I.3;1;0H;0;42;s;", b";I.3;1;0H;0;42;s", b"I.3;1;0H;0;0;42;s", HOMIQ_G))
 
@@ -744,6 +752,7 @@ SUBJECTS = [
     single_cases,
     check_cases,
     known_frame_cases,
+    later_frame_cases,
     nikobus_cases,
     nest_cases,
     nibe_cases,

@@ -28,7 +28,7 @@ paper.value = functools.lru_cache(maxsize=None)(paper.value)
 
 class Case(NamedTuple):
     test: str
-    asked: str  # decode, encode, acknowledge, field, voltages, pair, meant, content line, payload, allowed or line
+    asked: str  # decode, encode, acknowledge, search, field, next id, voltages, pair, meant, content line, payload, allowed or line
     kind: int = 0
     name: str = "read"  # a message's, or a tag's if a content is asked of
     fields: dict = {}
@@ -92,6 +92,11 @@ def pairs(case):
     elif asked == "field":
         field = dict(enumerate(content.split(b";"))).get(fields["number"], b"")
         yield request("messages::homiq::field", content, fields["number"]), answer((field,))
+    elif asked == "search":
+        yield request("frames::search", kind, content, 0), answer(paper.search(kind, content, 0))
+        yield request("frames::why", kind, content, 0), answer(paper.why(kind, content, 0))
+    elif asked == "next id":
+        yield request("messages::homiq::next_id", fields["id"]), answer(paper.next_id(fields["id"]))
     elif asked == "voltages":
         yield request("messages::nest::voltages", content), answer(table.voltages(content))
     elif asked == "meant":
@@ -260,7 +265,7 @@ def homiq_contents():
     for command in b"O|I|O3|I3|o.3|i.3|U.3|OO.3|UD|ud|U|UDD|D|HB|hb|H|HBB|O.1.|I.-0".split(b"|"):
         for value in b"0|1|u|d|s|x|U|ud|11".split(b"|"):
             yield b"%s;%s;0H;0;42;s" % (command, value)
-    for number in b"0|1|9|10|99|100|510|511|512|513|999|1000|007|01||-1|+1|4x|x| 1|4294967297".split(b"|"):
+    for number in b"0|00|000|1|9|10|99|100|510|511|512|513|999|1000|007|01||-1|+1|4x|x| 1|4294967297".split(b"|"):
         for kind in (b"s", b"a"):
             yield b"I.3;1;0H;0;%s;%s" % (number, kind)
     for kind in b"|x|S|A|ss|sa|as| |\x00|b|r|t".split(b"|"):
@@ -415,6 +420,19 @@ def field_cases(content):
         yield Case("field", "field", fields={"number": number}, content=content)
 
 
+def id_cases():
+    """Each ID, many numbers that are none, and other texts: wherever one is read, and what follows it."""
+    for number in [b"%d" % i for i in range(601)] + b"|00|000|0000|01|-0|+0| 0|0 ".split(b"|"):
+        content = b"HB;1;0H;0;%s;s" % number
+        s = paper.homiq(content)
+        yield Case("each ID found", "search", 5, content=s)
+        yield Case("each ID decoded", "decode", 5, content=s)
+        yield Case("each ID encoded", "encode", 5, "beat", content=content, room=60)
+        yield Case("each ID acknowledged", "acknowledge", content=s, room=60)
+    for number in (*range(601), 1023, 1024, 65535):
+        yield Case("the ID after each", "next id", fields={"id": number})
+
+
 def limit_cases():
     """All of the messages above."""
     rng = random.Random(0)
@@ -435,6 +453,7 @@ def limit_cases():
         yield from field_cases(content)
         for other in damaged(s, rng) if len(s) < 64 else ():
             yield from acknowledge_cases("acknowledge damaged", other)
+    yield from id_cases()
     for s in (paper.LINK_A, paper.RESET, paper.ASK, b""):
         yield from acknowledge_cases("acknowledge", s)
         yield from field_cases(s)
@@ -486,7 +505,7 @@ def any_homiq(rng):
 
     command = rng.choice((b"O.%d" % rng.randrange(12), b"I.%d" % rng.randrange(18), b"UD", b"HB", text(8), text(9)))
     value = rng.choice((b"0", b"1", b"u", b"d", b"s", text(16), text(17)))
-    number = b"%d" % rng.choice((rng.randint(1, 511), rng.randint(1, 511), rng.randint(0, 600)))
+    number = b"%d" % rng.choice((rng.randint(0, 511), rng.randint(0, 511), rng.randint(0, 600)))
     s = b";".join((command, value, text(4), text(4), number, rng.choice((b"s", b"a"))))
     if rng.randrange(8) == 0:
         at = rng.randrange(len(s))

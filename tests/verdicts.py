@@ -36,7 +36,7 @@ def good(kind, pick):
     if kind == 4:
         return paper.nibe(pick.choice(paper.COMMANDS), data)
     command, type_ = pick.choice((b"HB", b"O.3", b"UD")), pick.choice((b"s", b"a"))
-    return paper.homiq(b"%s;%d;0H;%d;%d;%s" % (command, pick.randrange(99), pick.randrange(9), pick.randrange(1, 512), type_))
+    return paper.homiq(b"%s;%d;0H;%d;%d;%s" % (command, pick.randrange(99), pick.randrange(9), pick.randrange(512), type_))
 
 
 def damaged(frame, pick):

@@ -471,6 +471,7 @@ fn in_messages(function: &str, words: &mut Words) -> Option<Answer> {
             let field = messages::homiq_field(&bytes, words.number()?);
             says(shown(field.unwrap_or_default()))
         }
+        "homiq::next_id" => tries(messages::homiq_id_after(words.number()?)),
         _ => None,
     }
 }
@@ -714,6 +715,7 @@ mod tests {
             "messages::decode",
             "messages::find",
             "messages::homiq::field",
+            "messages::homiq::next_id",
             "messages::nest::voltages",
             "commands::encode",
             "lines::write",

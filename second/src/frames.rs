@@ -17,6 +17,8 @@ pub const RESPONSE_PREAMBLE: &[u8] = &[0xD5, 0xD5, 0xAA, 0x96];
 pub const MOST_LINK_BYTES: usize = 122;
 pub const MOST_NEST_PAYLOAD: usize = 1024;
 pub const MOST_NIBE_DATA: usize = 255;
+/// Document 02, K3: Homiq counts from 0 to this ID, and from there goes on with 0.
+pub const LAST_HOMIQ_ID: u16 = 511;
 pub const NIBE_COMMANDS: &[u8] = &[0x60, 0x62, 0x68, 0x69, 0x6A, 0x6B, 0x6C];
 
 /// The kinds and the names that requests have for them.
@@ -358,9 +360,14 @@ fn homiq_field(number: usize, field: &[u8]) -> bool {
             (1..=HOMIQ_FIELDS[number]).contains(&field.len())
                 && field.iter().all(|c| homiq_character(*c))
         }
-        4 => digits::number_of_decimal(field, 511).is_some_and(|id| id >= 1),
+        4 => homiq_id(field).is_some(),
         _ => field == b"s" || field == b"a",
     }
+}
+
+/// The ID that is written so.
+pub fn homiq_id(field: &[u8]) -> Option<u64> {
+    digits::number_of_decimal(field, LAST_HOMIQ_ID.into())
 }
 
 fn homiq_character(character: u8) -> bool {

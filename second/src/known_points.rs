@@ -180,9 +180,37 @@ fn lengths_of_a_nest_payload() {
     }
 }
 
+/// Document 02, K3: a beat with ID 0, and the IDs beside the limit.
+#[test]
+fn homiq_counts_from_0() {
+    let sent = b"<;HB;1;0H;0;0;s;149;>\r\n";
+    assert_eq!(message(5, sent), Ok(Message::Beat));
+    let returned = b"<;HB;1;0;0H;0;a;202;>\r\n".to_vec();
+    assert_eq!(acknowledge(sent), Ok(returned));
+    let last = b"<;HB;1;0H;0;511;s;48;>\r\n".to_vec();
+    assert_eq!(build::homiq(b"HB;1;0H;0;511;s"), Ok(last));
+    assert_eq!(build::homiq(b"HB;1;0H;0;512;s"), Err(Refusal::Limits));
+    for none in [
+        b"<;HB;1;0H;0;512;s;101;>\r\n" as &[u8],
+        b"<;HB;1;0H;0;00;s;250;>\r\n",
+    ] {
+        assert_eq!(frames::search(5, none, 0), Err(Refusal::NoFrame));
+    }
+}
+
 #[test]
 fn homiq_ids() {
-    for (id, is_frame) in [("0", false), ("1", true), ("511", true), ("512", false)] {
+    let cases = [
+        ("0", true),
+        ("00", false),
+        ("000", false),
+        ("01", false),
+        ("", false),
+        ("1", true),
+        ("511", true),
+        ("512", false),
+    ];
+    for (id, is_frame) in cases {
         let content = format!("O.3;1;0;0H;{id};s");
         let crc = frames::homiq_crc(content.as_bytes());
         let frame = format!("<;{content};{crc};>\r\n").into_bytes();
@@ -636,6 +664,11 @@ fn each_function_answers() {
         ("messages::homiq::field 413B423B 1", "ok 42"),
         ("messages::homiq::field 413B423B 2", "ok -"),
         ("messages::homiq::field 413B423B 3", "ok -"),
+        ("messages::homiq::next_id 0", "ok 1"),
+        ("messages::homiq::next_id 510", "ok 511"),
+        ("messages::homiq::next_id 511", "ok 0"),
+        ("messages::homiq::next_id 512", "refused 5"),
+        ("messages::homiq::next_id 65535", "refused 5"),
         (
             "lines::of tail 00 7 4 31 1",
             "ok 30 room EE7B226174223A372C226C656E223A342C226D7367223A227461696C227D0A+0",

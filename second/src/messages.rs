@@ -327,6 +327,15 @@ pub fn homiq_field(content: &[u8], number: u64) -> Option<&[u8]> {
     content.split(|c| *c == b';').nth(number)
 }
 
+/// The ID of the frame after one with this ID, round and round: 5 if it is none.
+pub fn homiq_id_after(id: u16) -> Result<u16, Refusal> {
+    match id {
+        frames::LAST_HOMIQ_ID => Ok(0),
+        0..frames::LAST_HOMIQ_ID => Ok(id + 1),
+        _ => Err(Refusal::Limits),
+    }
+}
+
 /// Vin, Vop and Vbat of a state's payload: 5 if it is too short.
 pub fn voltages(payload: &[u8]) -> Result<[u16; 3], Refusal> {
     if payload.len() < LEAST_STATE {

@@ -7,6 +7,7 @@ use messages::FoundMessage;
 use messages::Meant;
 use messages::Standing;
 use messages::homiq;
+use messages::homiq::NextId;
 use messages::nest;
 use messages::nest::Pair;
 use messages::nest::Volts;
@@ -27,7 +28,8 @@ pub(crate) fn call(
         905 => standing(messages::allowed(message::of(values, six), s)),
         906 => for_panel(values),
         907 => volts(nest::voltages(s)),
-        _ => answer::bytes(homiq::field(s, values[0] as usize), room),
+        908 => answer::bytes(homiq::field(s, values[0] as usize), room),
+        _ => next_id(homiq::next_id((values[0] % 65_536) as u16)),
     }
 }
 
@@ -100,5 +102,12 @@ fn volts(r: Volts) -> Answer {
     match r {
         Volts::Are { vin, vop, vbat } => answer::three(vin as u64, vop as u64, vbat as u64),
         Volts::Refused(why) => answer::refused(why),
+    }
+}
+
+fn next_id(r: NextId) -> Answer {
+    match r {
+        NextId::Is(id) => answer::number(id as u64),
+        NextId::Refused(why) => answer::refused(why),
     }
 }

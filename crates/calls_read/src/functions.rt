@@ -113,6 +113,7 @@ fn of_messages(line: &[u8], words: &mut [u64; 14], store: &mut [u8]) {
         messages::nest::for_panel 906 Message\n\
         messages::nest::voltages 907 bytes\n\
         messages::homiq::field 908 bytes usize\n\
+        messages::homiq::next_id 909 u16\n\
         commands::encode 1001 u8 Message bytes room\n\
         commands::acknowledge 1002 bytes room\n\
         lines::write 1101 u8 bytes usize room\n\

@@ -217,20 +217,18 @@ of-homiq m =
       val = p .1 .0;
       src = p .1 .1 .0;
       dst = p .1 .1 .1 .0;
-      low = p .1 .1 .1 .1 .0;
-      high = p .1 .1 .1 .1 .1 .0;
-      type = p .1 .1 .1 .1 .1 .1 .0;
-      crc = p .1 .1 .1 .1 .1 .1 .1;
+      id = p .1 .1 .1 .1 .0;
+      type = p .1 .1 .1 .1 .1 .0;
+      crc = p .1 .1 .1 .1 .1 .1;
     })
-    (λ r. (r .cmd, (r .val, (r .src, (r .dst, (r .low, (r .high, (r .type, r .crc))))))))
+    (λ r. (r .cmd, (r .val, (r .src, (r .dst, (r .id, (r .type, r .crc)))))))
     (both (field 8 (m .cmd))
     (both (field 16 (m .val))
     (both (field 4 (m .src))
     (both (field 4 (m .dst))
-    (both (le homiqs.firstId (m .id))
     (both (le (m .id) homiqs.lastId)
     (both (test (oneOf (ascii "sa") (m .type)))
-    (le (m .crc) 255))))))))
+    (le (m .crc) 255)))))))
 
 abbrev of-fields : (bus : Kind) (m : layoutOf bus .Fields) → Decided (layoutOf bus .Limits m)
 of-fields Nikobus m = of-nikobus m

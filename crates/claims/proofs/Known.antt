@@ -1,4 +1,4 @@
--- THE KNOWN POINTS (a) to (l), all in one statement. Each crate's own Known has its part, computed from the definitions.
+-- THE KNOWN POINTS (a) to (l), all in one statement, and those of document 02 in another. Each crate's own Known has its part, computed from the definitions.
 -- Assumes nothing.
 use mathlib.Core.List.{List, [], _∷_, _++_}
 use mathlib.Core.Path.{_≡_, refl, sym, ap, _∙_, subst}
@@ -26,7 +26,7 @@ use Rattle.frames.proofs.Known as frames
 use Rattle.messages.proofs.Known as messages
 use Rattle.commands.proofs.Known as commands
 use Rattle.book.proofs.Known as books
-use Rattle.claims.specs.Paper.Points.{AllHold, points}
+use Rattle.claims.specs.Paper.Points.{AllHold, points, laterPoints}
 
 -- what is computed is the one right answer of the search
 answer : (k : ℕ) (s : List ℕ) {r : Found} → searched k s 0 ≡ r → Searches k s 0 r
@@ -96,4 +96,11 @@ known = (
       ),
     ),
   ),
+)
+
+-- THE POINTS OF DOCUMENT 02
+pub later-known : AllHold laterPoints
+later-known = (
+  messages.id-0,
+  (record { wire = messages.numbered-0; frame = commands.id-0; is = sym commands.id-0-acknowledged }, (refl, tt)),
 )

@@ -1,5 +1,6 @@
 pub mod Demands
 pub mod Edges
+pub mod Ids
 pub mod Known
 mod Laws
 mod Occur

@@ -43,6 +43,7 @@ use Rattle.messages.specs.Paper.Allowed.{StandingCause}
 use Rattle.messages.specs.Paper.Answers.{DecodeCause}
 use Rattle.messages.specs.Paper.Meant.{MeantCause}
 use Rattle.messages.specs.Paper.Message.{Message, end, response, command, row}
+use Rattle.messages.specs.Paper.NextId.{NextIdCause}
 use Rattle.messages.specs.Paper.Panel.{PairCause, VoltsCause}
 use Rattle.messages.specs.Paper.Says.{ofResponse}
 use Rattle.messages.specs.Paper.Table.{Above, contentOf, Good, in-put}
@@ -297,6 +298,9 @@ allowed = (
   (record { message = coded.Homiq Beat; content = [] }, StandingCause.outside (λ m s l. no-payload (s .payload))),
   ((record { message = coded.Response (responses.Other 0x002F); content = [] }, StandingCause.taken refl taken), tt),
 )
+
+pub homiq-next-id : Occur (messages.homiq-next-id .Cause) (messages.homiq-next-id .refusals)
+homiq-next-id = ((record { id = 512 }, NextIdCause.no-id (lit< tt)), tt)
 
 pub nest-for-panel : Occur (messages.nest-for-panel .Cause) (messages.nest-for-panel .refusals)
 nest-for-panel = (

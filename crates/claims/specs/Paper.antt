@@ -4,6 +4,7 @@ pub mod Demands
 pub mod Edges
 pub mod Function
 pub mod Functions
+pub mod Ids
 pub mod Points
 pub mod Row
 pub mod Table

@@ -142,8 +142,7 @@ acknowledgement-frame {w = w} o =
         val = l .val;
         src = l .dst;
         dst = l .src;
-        low = l .low;
-        high = l .high;
+        id = l .id;
         type = tt;
         crc = omega arith;
       });

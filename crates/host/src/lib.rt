@@ -16,5 +16,5 @@ ghost use Rattle.host.specs.Paper.Version.{version};
 pub extern "C" fn bolsterweft_version() -> u32
     ensures { λ r. ⌜ r ≡ version ⌝ }
 {
-    10_300
+    10_400
 }

@@ -25,6 +25,9 @@ ghost use Rattle.layouts.specs.Paper.Made.{Wire, Payload};
 ghost use Rattle.layouts.specs.Work.Heads.{leading, onward};
 ghost use Rattle.layouts.specs.Work.Homiq.{fieldLen, isFigure, numberIn, numberLen, typeLen, headLen, fiveLen};
 
+// IDs are 0 to this one, and 0 follows it.
+pub const LAST_ID: u16 = 511;
+
 // What stands at the head of s; a frame's payload is CMD to TYPE. Tested in this order: `<;`, the fields with CR LF, the CRC.
 pub fn frame(s: &[u8]) -> AtHead
     ensures { λ r. ⌜ Recognises homiq (now (s .entry)) r ⌝ }
@@ -33,7 +36,7 @@ pub fn frame(s: &[u8]) -> AtHead
         return nothing(Test::Start);
     }
     let before = head(s);
-    let claimed = number_at(s, before, 0, 255);
+    let claimed = number_at(s, before, 255);
     let behind = claimed.end;
     let n = words::word_at(s, behind, b">\r\n");
     if n == 0 {
@@ -97,7 +100,7 @@ fn five(p: &[u8]) -> usize
     let b = field_at(p, a, 16);
     let c = field_at(p, b, 4);
     let d = field_at(p, c, 4);
-    number_at(p, d, 1, 511).end
+    number_at(p, d, LAST_ID).end
 }
 
 fn is_type(c: u8) -> bool
@@ -118,7 +121,7 @@ fn head(s: &[u8]) -> usize
     let c = field_at(s, b, 16);
     let d = field_at(s, c, 4);
     let e = field_at(s, d, 4);
-    let f = number_at(s, e, 1, 511).end;
+    let f = number_at(s, e, LAST_ID).end;
     type_at(s, f)
 }
 
@@ -192,36 +195,33 @@ struct Numeral {
     value: u16,
 }
 
-// The number from low to high at a place; its end is that of its `;`.
-fn number_at(s: &[u8], at: usize, low: u16, high: u16) -> Numeral
+// The number of at most `most` at a place; its end is that of its `;`.
+fn number_at(s: &[u8], at: usize, most: u16) -> Numeral
     requires { ⌜ at ≤ length (now s) ⌝ }
-    requires { ⌜ high < 1000 ⌝ }
-    ensures { λ r. ⌜ r .end ≡ onward (numberLen low high) (now (s .entry)) at ⌝ }
+    requires { ⌜ most < 1000 ⌝ }
+    ensures { λ r. ⌜ r .end ≡ onward (numberLen most) (now (s .entry)) at ⌝ }
     ensures { λ r. ⌜ (0 < r .end → r .value ≡ numberIn (drop at (now (s .entry)))) ⌝ }
 {
     if at == 0 {
         return Numeral { end: 0, value: 0 };
     }
-    let n = number(&s[at..], low, high);
+    let n = number(&s[at..], most);
     Numeral {
         end: words::onto(at, n.end),
         value: n.value,
     }
 }
 
-// The number from low to high at the head of s; its end is that of its `;`.
-fn number(s: &[u8], low: u16, high: u16) -> Numeral
-    requires { ⌜ high < 1000 ⌝ }
-    ensures { λ r. ⌜ r .end ≡ numberLen low high (now (s .entry)) ⌝ }
+// The number of at most `most` at the head of s; its end is that of its `;`.
+fn number(s: &[u8], most: u16) -> Numeral
+    requires { ⌜ most < 1000 ⌝ }
+    ensures { λ r. ⌜ r .end ≡ numberLen most (now (s .entry)) ⌝ }
     ensures { λ r. ⌜ (0 < r .end → r .value ≡ numberIn (now (s .entry))) ⌝ }
 {
     let digits = figures(words::first(s, 4));
     let n = digits.end;
     let v = digits.value;
-    if v < low {
-        return Numeral { end: 0, value: 0 };
-    }
-    if high < v {
+    if most < v {
         return Numeral { end: 0, value: 0 };
     }
     // none at all, or leading zeros

@@ -15,9 +15,11 @@ pub mod Decode
 pub mod Buses
 pub mod Says
 pub mod Links
+pub mod Fives
 pub mod Responses
 pub mod NestUnique
 pub mod HomiqLook
+pub mod NextId
 pub mod Cases
 pub mod Find
 pub mod Meant

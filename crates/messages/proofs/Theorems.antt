@@ -1,25 +1,33 @@
--- What the table comes to, for a reader: demand 2's messages.
+-- What the table comes to, for a reader: demand 2's messages; and that IDs go round.
 -- Assumes nothing.
+use mathlib.Core.Bool.{Bool, true, false}
 use mathlib.Core.List.{List, [], _∷_}
 use mathlib.Core.Path.{_≡_, refl, sym, _∙_, ap, subst}
-use Prim.Native.Nat.{ℕ}
-use lib.Dec.{T}
+use Prim.Native.Nat.{ℕ, _≤_}
+use native.Mathlib.Omega.{arith}
+use lib.Dec.{T, leb}
+use borrow.Author.Tests.{leb-true, leb-false}
 use denote.Ref.{RefT, now}
 use Rattle.digits.specs.Paper.Bytes.{part}
 use Rattle.digits.proofs.Laws.Handed.{bytes-of}
 use Rattle.digits.proofs.Laws.Refusals.{answered}
+use Rattle.digits.specs.declared.refusal.Refusal.the-variants.{OutOfLimits}
 use Rattle.frames.specs.Paper.Kinds.{numberOf, Frame}
 use Rattle.messages.specs.Paper.Answers.{Stands, Said, contentEnds, Contents}
 use Rattle.messages.specs.Paper.Content.{Content, kindOf, laid, payloadIn, payloadFrom}
 use Rattle.messages.specs.Paper.Message.{Message, read, set, answer, press, tail, link, command, climate, state, break, end, text, response, ask, reply, put, done, nibe, output, input, shutter, beat, homiq, row}
 use Rattle.layouts.specs.Paper.Chars.{oneOf}
+use Rattle.layouts.specs.Paper.Homiq.{lastId}
+use Rattle.messages.specs.Paper.NextId.{Follows}
 use Rattle.messages.specs.Paper.Table.{contentOf, bytes, Limits, Above, Good}
 use Rattle.messages.specs.Work.Look.{look}
 use Rattle.messages.specs.declared.Message.{Message as Coded}
+use Rattle.messages.specs.declared.homiq.NextId.the-variants.{Is as Next, Refused as NoNext}
 use Rattle.messages.proofs.Laws.Decode as decoding
 use Rattle.messages.proofs.Laws.Frames.{made-content, content-bytes, content-kind, one-content, frame-of}
 use Rattle.messages.proofs.Laws.HomiqRows.{output-found, input-found, shutter-found, beat-found}
 use Rattle.messages.proofs.Laws.NestRows.{climate-found, state-found, break-found, end-found}
+use Rattle.messages.proofs.Laws.NextId.{next-refused, one-next}
 use Rattle.messages.proofs.Laws.NibeRows.{ask-found, reply-found, put-found, done-found}
 use Rattle.messages.proofs.Laws.NikobusRows.{read-found, set-found, answer-found}
 use Rattle.messages.proofs.Laws.Table.{fit, free, one-message}
@@ -97,3 +105,24 @@ only-these (input w) l x = absurd (free (input w) (input-found w l) x)
 only-these (shutter w) l x = absurd (free (shutter w) (shutter-found w l) x)
 only-these (beat w) l x = absurd (free (beat w) (beat-found w l) x)
 only-these (homiq w) l x = tt
+
+-- ---- 02, K3: IDs follow one another in a circle
+
+-- only an ID has a successor
+has-next : {i n : ℕ} → Follows i (Next n) → i ≤ lastId
+has-next {i} {n} f = go (leb i lastId) refl
+  where
+    go : (b : Bool) → leb i lastId ≡ b → i ≤ lastId
+    go true e = leb-true _ _ e
+    go false e =
+        let same : Next n ≡ NoNext OutOfLimits = one-next i (Next n) (NoNext OutOfLimits) f (next-refused (leb-false _ _ e)) in
+        let z : _≡_ {A = ℕ} 0 1 = cc in
+        absurd (omega arith)
+
+-- THE SUCCESSOR OF AN ID is an ID
+pub next-is-id : {i n : ℕ} → Follows i (Next n) → n ≤ lastId
+next-is-id {i} f = omega (arith, answered f refl)
+
+-- AND NO TWO IDS HAVE THE SAME ONE
+pub next-of-one : {i j n : ℕ} → Follows i (Next n) → Follows j (Next n) → i ≡ j
+next-of-one {i} {j} f g = omega (arith, has-next f, has-next g, answered f refl, answered g refl)

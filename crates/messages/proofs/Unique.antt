@@ -26,6 +26,8 @@ use Rattle.messages.specs.declared.Message.the-variants.{Command}
 use Rattle.messages.specs.declared.FoundMessage.{FoundMessage}
 use Rattle.messages.specs.declared.FoundMessage.the-variants.{At, Refused as NotFound}
 use Rattle.messages.specs.Paper.Panel.{ShowsPair, ReadsVolts}
+use Rattle.messages.specs.Paper.NextId.{Follows}
+use Rattle.messages.specs.declared.homiq.NextId.{NextId}
 use Rattle.messages.specs.declared.nest.Pair.{Pair}
 use Rattle.messages.specs.declared.nest.Response.{Response}
 use Rattle.messages.specs.declared.nest.Volts.{Volts}
@@ -36,6 +38,7 @@ use Rattle.messages.proofs.Laws.Allowed.{one-standing}
 use Rattle.messages.proofs.Laws.Meant.{one-content-with, one-meant}
 use Rattle.messages.proofs.Laws.Cases.{said-in, search-in, found-in, search-refused}
 use Rattle.messages.proofs.Laws.NestUnique.{one-pair, one-volts}
+use Rattle.messages.proofs.Laws.NextId.{one-next}
 use Rattle.messages.proofs.Laws.Says.{one-case}
 use Rattle.messages.proofs.Theorems.{one-message-of}
 
@@ -91,6 +94,10 @@ for-panel = one-pair
 -- nest::voltages
 pub voltages : (p : List ℕ) (r q : Volts) → ReadsVolts p r → ReadsVolts p q → r ≡ q
 voltages = one-volts
+
+-- homiq::next_id
+pub next-id : (i : ℕ) (r q : NextId) → Follows i r → Follows i q → r ≡ q
+next-id = one-next
 
 -- of
 pub of : (t : Tag) (p : List ℕ) (r q : Meant) → Means (ContentWith t p) r → Means (ContentWith t p) q → r ≡ q

@@ -2,6 +2,7 @@ pub mod Message
 pub mod Content
 pub mod Table
 pub mod Homiq
+pub mod NextId
 pub mod Says
 pub mod Answers
 pub mod Panel

@@ -16,6 +16,7 @@ ghost use Rattle.digits.specs.Paper.Read.{Decides};
 ghost use Rattle.messages.specs.Paper.Allowed.{StandsSo};
 ghost use Rattle.messages.specs.Paper.Homiq.{upTo, fieldAt, fieldEnds};
 ghost use Rattle.messages.specs.Paper.Meant.{Means, HomiqWith};
+ghost use Rattle.messages.specs.Paper.NextId.{Follows};
 ghost use Rattle.messages.specs.Paper.Says.{SaysHomiq};
 ghost use Rattle.messages.specs.Paper.Table.{MarkedNumber, Letter};
 ghost use Rattle.messages.specs.Work.Homiq.{whichOf, caseNumber};
@@ -30,6 +31,12 @@ pub enum Homiq {
     Shutter,
     Beat,
     Other,
+}
+
+// What follows an ID: one as well, or a refusal if it is none.
+pub enum NextId {
+    Is(u16),
+    Refused(Refusal),
 }
 
 // The message of CMD to TYPE; 5 if they are not six fields within their limits.
@@ -87,6 +94,16 @@ pub fn field(content: &[u8], number: usize) -> &[u8]
         left -= 1;
     }
     &content[from..field_end(content, from)]
+}
+
+// The ID of the frame after one with this ID, for whoever numbers frames; 5 if this is no ID.
+pub fn next_id(id: u16) -> NextId
+    ensures { λ r. ⌜ Follows id r ⌝ }
+{
+    if homiq::LAST_ID < id {
+        return NextId::Refused(Refusal::OutOfLimits);
+    }
+    NextId::Is((id + 1) % (homiq::LAST_ID + 1))
 }
 
 // Where the field that begins at a place ends: at the next `;`, or at the end.

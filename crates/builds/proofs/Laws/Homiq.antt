@@ -127,7 +127,7 @@ length-around p =
 pub longest : {p : List ℕ} {w : Wire} → Payload p w → length p ≤ 41
 longest {p} {w} h =
     let l = h .limits in
-    let i : length (decimal (w .id)) ≤ 3 = length-decimal 2 (w .id) (omega (arith, l .high)) in
+    let i : length (decimal (w .id)) ≤ 3 = length-decimal 2 (w .id) (omega (arith, l .id)) in
     let z : List ℕ = ascii ";" in
     let a₁ : List ℕ = w .cmd ++ z in
     let a₂ : List ℕ = a₁ ++ w .val in

@@ -8,6 +8,7 @@ use Rattle.messages.specs.Paper.Answers.{DecodeCause}
 use Rattle.messages.specs.Paper.Content.{Content}
 use Rattle.messages.specs.Paper.Meant.{MeantCause}
 use Rattle.messages.specs.Paper.Message.{Message}
+use Rattle.messages.specs.Paper.NextId.{NextIdCause}
 use Rattle.messages.specs.Paper.Panel.{PairCause, VoltsCause}
 use Rattle.messages.specs.declared.nest.Response.{Response}
 use Rattle.digits.proofs.Laws.Handed.{one-part}
@@ -152,6 +153,29 @@ allowed-proper =
       one = λ κs a r q ws vs x y. (unique.allowed (a .0) (a .1 .0 .now) r q x y, refl);
     }
 
+homiq-next-id-stated : {i no : ℕ} → NextIdCause i no → OneOf no (5 ∷ [])
+homiq-next-id-stated (NextIdCause.no-id h) = here
+
+abbrev pub homiq-next-id : Row
+homiq-next-id =
+    record {
+      function = function-of messages.homiq.next_id.Key.name messages.homiq.next_id.Kinds.ps messages.homiq.next_id.Kinds.r
+          messages.homiq.next_id.Symbol.routine;
+      claim = λ κs. claims.homiq-next-id;
+      args = λ κs a. record { id = a .0 };
+      later = λ κs s. [];
+    }
+
+pub homiq-next-id-proper : Proper homiq-next-id
+homiq-next-id-proper =
+    record {
+      named = λ κs. refl;
+      keeps = λ w. messages.homiq.next_id.Met.met (w .𝓤) (w .H) (w .𝓜) (w .𝓖) (w .𝓡);
+      stated = λ κs a no c. homiq-next-id-stated c;
+      occurs = λ κs. inputs.homiq-next-id;
+      one = λ κs a r q ws vs x y. (unique.next-id (a .0) r q x y, refl);
+    }
+
 nest-for-panel-stated : {e : Response} {no : ℕ} → PairCause e no → OneOf no (5 ∷ [])
 nest-for-panel-stated (PairCause.other f) = here
 
@@ -201,7 +225,7 @@ nest-voltages-proper =
 -- ---- all of them
 
 abbrev pub rows : List Row
-rows = decode ∷ find ∷ content ∷ of ∷ allowed ∷ homiq-field ∷ nest-for-panel ∷ nest-voltages ∷ []
+rows = decode ∷ find ∷ content ∷ of ∷ allowed ∷ homiq-field ∷ homiq-next-id ∷ nest-for-panel ∷ nest-voltages ∷ []
 
 pub rows-proper : Every Proper rows
 rows-proper =
@@ -211,5 +235,6 @@ rows-proper =
     (and of-proper
     (and allowed-proper
     (and homiq-field-proper
+    (and homiq-next-id-proper
     (and nest-for-panel-proper
-    (and nest-voltages-proper none)))))))
+    (and nest-voltages-proper none))))))))

@@ -247,8 +247,8 @@ frameEdges =
     ∷ src (0x3A ∷ []) but-not src (0x3B ∷ [])
     ∷ dst (0x3D ∷ []) but-not dst (0x3C ∷ [])
     ∷ cmd (0x3F ∷ []) but-not cmd (0x3E ∷ [])
-    -- "ID is 1 to 511 .., decimal without leading zeros"
-    ∷ sent (ascii "<;I.3;1;0H;0;1;s;238;>") but-not sent (ascii "<;I.3;1;0H;0;0;s;42;>")
+    -- "ID is .., decimal without leading zeros"; 02, K3: "ID 0 is to be accepted"; "512 is still no frame"
+    ∷ sent (ascii "<;I.3;1;0H;0;0;s;42;>") but-not sent (ascii "<;I.3;1;0H;0;00;s;137;>")
     ∷ sent (ascii "<;I.3;1;0H;0;511;s;42;>") but-not sent (ascii "<;I.3;1;0H;0;512;s;127;>")
     ∷ sent (ascii "<;I.3;1;0H;0;42;s;134;>") but-not sent (ascii "<;I.3;1;0H;0;042;s;203;>")
     -- "CRC 0 to 255"

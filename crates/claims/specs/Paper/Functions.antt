@@ -115,6 +115,7 @@ functions =
     ∷ ("messages::of", 5 ∷ [])
     ∷ ("messages::allowed", 5 ∷ 6 ∷ [])
     ∷ ("messages::homiq::field", [])
+    ∷ ("messages::homiq::next_id", 5 ∷ [])
     ∷ ("messages::nest::for_panel", 5 ∷ [])
     ∷ ("messages::nest::voltages", 5 ∷ [])
     -- commands

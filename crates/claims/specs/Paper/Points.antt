@@ -1,4 +1,5 @@
--- 01, "Known points": "Proved, all in a single statement over a list". What a point can say, and the list.
+-- 01, "Known points": "Proved, all in a single statement over a list". What a point can say, the list, and a second
+-- list of points of document 02.
 -- Assumes nothing.
 use mathlib.Core.Bool.{true, false}
 use mathlib.Core.List.{List, [], _∷_, _++_}
@@ -18,7 +19,8 @@ use Rattle.frames.specs.Paper.Kinds.{Frame}
 use Rattle.frames.specs.Paper.Search.{Searches}
 use Rattle.frames.specs.declared.Found.the-variants.{At}
 use Rattle.messages.specs.Paper.Answers.{Stands}
-use Rattle.messages.specs.Paper.Message.{Message, read, link, command, ask}
+use Rattle.messages.specs.Paper.Message.{Message, read, link, command, ask, beat}
+use Rattle.messages.specs.Paper.NextId.{nextId}
 use Rattle.commands.specs.Paper.Acknowledge.{AcknowledgementOf}
 use Rattle.book.specs.Paper.Book.{Book}
 
@@ -36,6 +38,8 @@ pub data Point : Type 0 where
   fails : (kind : ℕ) (bytes : List ℕ) → Point
   -- the acknowledgement of a frame
   acknowledged : (frame answer : List ℕ) → Point
+  -- the ID of the frame after one with this ID
+  follows : (id next : ℕ) → Point
   -- a raw number's text with this number of decimals
   written : (raw : ℤ) (decimals : ℕ) (text : List ℕ) → Point
   -- a raw number fits a single; it does not
@@ -53,6 +57,7 @@ PointHolds (found k s start len) = (from : ℕ) × (to : ℕ) × Searches k s 0 
 PointHolds (passes k f) = Frame k f
 PointHolds (fails k f) = Frame k f → ⊥
 PointHolds (acknowledged f a) = AcknowledgementOf f a
+PointHolds (follows i n) = nextId i ≡ n
 PointHolds (written z d t) = text z d ≡ t
 PointHolds (fits z) = fitsSingle z ≡ true
 PointHolds (fits-not z) = fitsSingle z ≡ false
@@ -98,4 +103,17 @@ points =
     ∷ empty (0x00 ∷ 0x00 ∷ 0x06 ∷ 0x00 ∷ 0x00 ∷ 0x00 ∷ [])
     -- (l) "Nest payloads `00 00 00` and `01 10 21`, same id, have one CRC: 17 bits is beyond demand 3"
     ∷ one-crc 17 (0x00 ∷ 0x00 ∷ 0x00 ∷ []) (0x01 ∷ 0x10 ∷ 0x21 ∷ [])
+    ∷ []
+
+-- ---- points of document 02, beside those of 01
+
+abbrev pub laterPoints : List Point
+laterPoints =
+    -- K3: "ID 0 is to be accepted and written as `0`"
+    is 5 (ascii "<;HB;1;0H;0;0;s;149;>" ++ (CR ∷ LF ∷ []))
+    (beat (record { cmd = ascii "HB"; val = ascii "1"; src = ascii "0H"; dst = ascii "0"; id = 0; type = 115 }))
+    ∷ acknowledged (ascii "<;HB;1;0H;0;0;s;149;>" ++ (CR ∷ LF ∷ []))
+    (ascii "<;HB;1;0;0H;0;a;202;>" ++ (CR ∷ LF ∷ []))
+    -- "the successor of 511 is 0"
+    ∷ follows 511 0
     ∷ []

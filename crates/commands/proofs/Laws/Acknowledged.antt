@@ -79,7 +79,7 @@ exchanged-payload {p} {w} x =
     record {
       limits =
           homiq-fit (acknowledged w) 0
-          (record { cmd = l .cmd; val = l .val; src = l .dst; dst = l .src; low = l .low; high = l .high; type = tt; crc = lit≤ tt });
+          (record { cmd = l .cmd; val = l .val; src = l .dst; dst = l .src; id = l .id; type = tt; crc = lit≤ tt });
       laid = put-together (ascii ";") (ascii "a") (payload-cmd x) (payload-val x) (payload-dst x) (payload-src x) (payload-id x);
     }
 

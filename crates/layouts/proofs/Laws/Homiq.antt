@@ -18,7 +18,7 @@ use Rattle.checks.proofs.Laws.Feed.{feed-lt, feed-append, feed-nil}
 use Rattle.checks.specs.Paper.Buses.{homiqCrc}
 use Rattle.checks.specs.Paper.Check.{feed, check}
 use Rattle.layouts.specs.Paper.Chars.{oneOf, all, CR, LF}
-use Rattle.layouts.specs.Paper.Homiq.{Homiq, fieldChar, firstId, lastId, Limits, payload, joined, homiq, withoutSeparators}
+use Rattle.layouts.specs.Paper.Homiq.{Homiq, fieldChar, lastId, Limits, payload, joined, homiq, withoutSeparators}
 use Rattle.layouts.specs.Paper.Layout.{bytesOf, Form}
 use Rattle.layouts.specs.Work.Homiq.{numberIn, headLen, homiqFormLen, homiqPair, homiqTo, homiqRecogniser}
 use Rattle.layouts.specs.declared.Compared.{Compared}
@@ -40,14 +40,14 @@ pub record Fronted (w : List ℕ) : Type 0 where
 
 abbrev Nested : List ℕ → Type 0
 Nested =
-    Then (Then (Then (Then (Then (Then (λ u. u ≡ ascii "<;") (λ _. Fielded 8)) (λ _. Fielded 16)) (λ _. Fielded 4)) (λ _. Fielded 4)) (λ _. NumberField firstId lastId))
+    Then (Then (Then (Then (Then (Then (λ u. u ≡ ascii "<;") (λ _. Fielded 8)) (λ _. Fielded 16)) (λ _. Fielded 4)) (λ _. Fielded 4)) (λ _. NumberField lastId))
     (λ _. Typed)
 
 nested-right : Right Nested headLen
 unfolding headLen
 nested-right =
     then-right (then-right (then-right (then-right (then-right (then-right (word-right (ascii "<;") (omega arith))
-    (λ w a. field-right 8)) (λ w a. field-right 16)) (λ w a. field-right 4)) (λ w a. field-right 4)) (λ w a. number-right firstId lastId (omega arith)))
+    (λ w a. field-right 8)) (λ w a. field-right 16)) (λ w a. field-right 4)) (λ w a. field-right 4)) (λ w a. number-right lastId (omega arith)))
     (λ w a. type-right)
 
 to-front : (w : List ℕ) → Nested w → Fronted w
@@ -74,8 +74,7 @@ to-front w r₆ =
             val = r₂ .second .field;
             src = r₃ .second .field;
             dst = r₄ .second .field;
-            low = r₅ .second .least;
-            high = r₅ .second .most;
+            id = r₅ .second .most;
             type = r₆ .second .is;
             crc = omega arith;
           };
@@ -105,7 +104,7 @@ from-front w r =
     (record { word = m .val; field = l .val; ends = refl }))
     (record { word = m .src; field = l .src; ends = refl }))
     (record { word = m .dst; field = l .dst; ends = refl }))
-    (record { value = m .id; least = l .low; most = l .high; ends = refl }))
+    (record { value = m .id; most = l .id; ends = refl }))
     (record { type = m .type; is = l .type; ends = refl }))
 
 pub head-right : Right Fronted headLen
@@ -136,11 +135,11 @@ front-payload m = shorter (ascii "<;") (ascii ";") (m .cmd) (m .val) (m .src) (m
     shorter o z a b c d e t = simp append-assoc
 
 abbrev Whole : List ℕ → Type 0
-Whole = Then (Then Fronted (λ _. NumberField 0 255)) (λ _ u. u ≡ closing)
+Whole = Then (Then Fronted (λ _. NumberField 255)) (λ _ u. u ≡ closing)
 
 whole-right : Right Whole homiqFormLen
 unfolding homiqFormLen
-whole-right = then-right (then-right head-right (λ w a. number-right 0 255 (omega arith))) (λ w a. word-right closing (omega arith))
+whole-right = then-right (then-right head-right (λ w a. number-right 255 (omega arith))) (λ w a. word-right closing (omega arith))
 
 to-form : (f : List ℕ) → Whole f → Form homiq f
 to-form f r =
@@ -151,7 +150,7 @@ to-form f r =
     let k : Homiq = record { cmd = m .cmd; val = m .val; src = m .src; dst = m .dst; id = m .id; type = m .type; crc = n .value } in
     record {
       fields = k;
-      limits = record { cmd = l .cmd; val = l .val; src = l .src; dst = l .dst; low = l .low; high = l .high; type = l .type; crc = n .most };
+      limits = record { cmd = l .cmd; val = l .val; src = l .src; dst = l .dst; id = l .id; type = l .type; crc = n .most };
       laid =
           glue (r .joins) (glue (r .first .joins) (h .laid) (n .ends)) (r .second)
           ∙ append-assoc (frontOf k) (decimal (n .value) ++ ascii ";") closing ∙ sym (front-homiq k);
@@ -166,7 +165,7 @@ from-form f r =
     (join (frontOf m ++ d) closing
     (join (frontOf m) d
     (record { fields = m; limits = r .limits; laid = refl })
-    (record { value = m .crc; least = omega arith; most = r .limits .crc; ends = refl }))
+    (record { value = m .crc; most = r .limits .crc; ends = refl }))
     refl)
 
 pub form-right : Right (Form homiq) homiqFormLen

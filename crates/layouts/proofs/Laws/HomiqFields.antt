@@ -241,47 +241,42 @@ module _ (v : ℕ) (small : v < 1000) (t : List ℕ) where
   unfolding numberIn
   number-read = rw (number-run, take-append-seam (decimal v) (59 ∷ t)) (guess-decimal v)
 
-pub record NumberField (low high : ℕ) (u : List ℕ) : Type 0 where
+pub record NumberField (limit : ℕ) (u : List ℕ) : Type 0 where
   pub value : ℕ
-  pub least : low ≤ value
-  pub most : value ≤ high
+  pub most : value ≤ limit
   pub ends : u ≡ decimal value ++ ascii ";"
 
-module _ (low high : ℕ) (small : high < 1000) where
-  pub number-right : Right (NumberField low high) (numberLen low high)
+module _ (limit : ℕ) (small : limit < 1000) where
+  pub number-right : Right (NumberField limit) (numberLen limit)
   unfolding numberLen
   number-right = record { some = λ r. rw (r .ends) (omega (arith, closed-length (decimal (r .value)))); sound = sound; complete = complete }
     where
       word : (v : ℕ) → Right (λ u. u ≡ decimal v ++ ascii ";") (wordLen (decimal v ++ ascii ";"))
       word v = word-right (decimal v ++ ascii ";") (omega (arith, closed-length (decimal v)))
 
-      made : (s : List ℕ) (v r : ℕ) → low ≤ v → v ≤ high → r ≡ wordLen (decimal v ++ ascii ";") s → Head (λ u. u ≡ decimal v ++ ascii ";") s (wordLen (decimal v ++ ascii ";") s) → Head (NumberField low high) s r
-      made s v r a b e h =
-          record { word = h .word; rest = h .rest; splits = h .splits; is = record { value = v; least = a; most = b; ends = h .is }; size = e ∙ h .size }
+      made : (s : List ℕ) (v r : ℕ) → v ≤ limit → r ≡ wordLen (decimal v ++ ascii ";") s → Head (λ u. u ≡ decimal v ++ ascii ";") s (wordLen (decimal v ++ ascii ";") s) → Head (NumberField limit) s r
+      made s v r b e h =
+          record { word = h .word; rest = h .rest; splits = h .splits; is = record { value = v; most = b; ends = h .is }; size = e ∙ h .size }
 
-      sound : (s : List ℕ) → 0 < numberLen low high s → Head (NumberField low high) s (numberLen low high s)
-      sound s h₀ =
-          let e₀ = only-eq _ _ h₀ in
-          let h₁ = rw e₀ at h₀ in
-          let e₁ = only-eq _ _ h₁ in
-          let h₂ = rw e₁ at h₁ in
-          made s (numberIn s) _ (leb→le _ _ (only-test _ _ h₀)) (leb→le _ _ (only-test _ _ h₁)) (e₀ ∙ e₁) (word (numberIn s) .sound s h₂)
+      sound : (s : List ℕ) → 0 < numberLen limit s → Head (NumberField limit) s (numberLen limit s)
+      sound s h =
+          let e = only-eq _ _ h in
+          made s (numberIn s) _ (leb→le _ _ (only-test _ _ h)) e (word (numberIn s) .sound s (rw e at h))
 
-      whole : (s : List ℕ) (v : ℕ) → numberIn s ≡ v → low ≤ v → v ≤ high → (t : List ℕ) → s ≡ decimal v ++ ascii ";" ++ t → numberLen low high s ≡ length (decimal v ++ ascii ";")
-      whole s v e a b t l =
-          rw e (only-yes _ _ (le-leb low v a) ∙ only-yes _ _ (le-leb v high b) ∙ rw l (word v .complete {w = decimal v ++ ascii ";"} refl t))
+      whole : (s : List ℕ) (v : ℕ) → numberIn s ≡ v → v ≤ limit → (t : List ℕ) → s ≡ decimal v ++ ascii ";" ++ t → numberLen limit s ≡ length (decimal v ++ ascii ";")
+      whole s v e b t l =
+          rw e (only-yes _ _ (le-leb v limit b) ∙ rw l (word v .complete {w = decimal v ++ ascii ";"} refl t))
 
-      complete : {u : List ℕ} → NumberField low high u → (t : List ℕ) → numberLen low high (u ++ t) ≡ length u
+      complete : {u : List ℕ} → NumberField limit u → (t : List ℕ) → numberLen limit (u ++ t) ≡ length u
       complete r t =
           let v = r .value in
           let most = r .most in
           rw (r .ends)
-          (whole (decimal v ++ ascii ";" ++ t) v (rw (append-snoc (decimal v) 59 t) (number-read v (omega arith) t)) (r .least) (r .most) t refl)
+          (whole (decimal v ++ ascii ";" ++ t) v (rw (append-snoc (decimal v) 59 t) (number-read v (omega arith) t)) (r .most) t refl)
 
 -- what the code has found where it answers a length: n figures, which make the number v
-pub record NumberAt (low high : ℕ) (s : List ℕ) (n v : ℕ) : Type 0 where
-  pub least : low ≤ v
-  pub most : v ≤ high
+pub record NumberAt (limit : ℕ) (s : List ℕ) (n v : ℕ) : Type 0 where
+  pub most : v ≤ limit
   pub digits : n ≡ length (decimal v)
   pub end : getD s n 0 ≡ 59
 
@@ -295,34 +290,33 @@ module _ (s : List ℕ) (n v : ℕ) (is : n ≡ leading isFigure (take 4 s)) (re
   unfolding numberIn
   number-value = made-of ∙ ap (λ (k : ℕ). guess 0 (take k s)) is
 
-  module _ (low high : ℕ) (small : high < 1000) where
-    number-at : 0 < numberLen low high s → NumberAt low high s n v
+  module _ (limit : ℕ) (small : limit < 1000) where
+    number-at : 0 < numberLen limit s → NumberAt limit s n v
     number-at p =
-        let h = number-right low high small .sound s p in
+        let h = number-right limit small .sound s p in
         let x = h .is .value in
         let most = h .is .most in
         let e : s ≡ decimal x ++ 59 ∷ h .rest = h .splits ∙ ap (λ (l : List ℕ). l ++ h .rest) (h .is .ends) ∙ append-snoc (decimal x) 59 (h .rest) in
         let d : n ≡ length (decimal x) = is ∙ ap (λ (l : List ℕ). leading isFigure (take 4 l)) e ∙ number-run x (omega arith) (h .rest) in
         let r : v ≡ x = made-of ∙ ap (guess 0) (front-of s (decimal x) (59 ∷ h .rest) n e d) ∙ guess-decimal x in
         record {
-          least = omega (arith, h .is .least);
           most = omega arith;
           digits = d ∙ ap (λ (k : ℕ). length (decimal k)) (sym r);
           end = ap (λ (l : List ℕ). getD l n 0) e ∙ getD-at (decimal x) 59 (h .rest) 0 n (sym d);
         }
 
-    pub number-no : (NumberAt low high s n v → ⊥) → 0 ≡ numberLen low high s
+    pub number-no : (NumberAt limit s n v → ⊥) → 0 ≡ numberLen limit s
     number-no f = none-of _ (λ h. f (number-at h))
 
-    pub number-whole : low ≤ v → v ≤ high → n ≡ length (decimal v) → getD s n 0 ≡ 59 → n + 1 ≡ numberLen low high s
-    number-whole a b d e =
+    pub number-whole : v ≤ limit → n ≡ length (decimal v) → getD s n 0 ≡ 59 → n + 1 ≡ numberLen limit s
+    number-whole b d e =
         let u = take n s in
         let l : length u ≡ n = length-take-le n s (rw is (leading-most isFigure 4 s .1)) in
         let f : T (all isFigure u) = rw is (leading-front isFigure 4 s) in
         let g : u ≡ decimal v = figures-decimal u f (l ∙ d ∙ ap (λ (k : ℕ). length (decimal k)) made-of) ∙ ap decimal (sym made-of) in
         sym
-        (ap (numberLen low high) (closed-splits s n e)
-        ∙ number-right low high small .complete (record { value = v; least = a; most = b; ends = ap (λ (w : List ℕ). w ++ ascii ";") g }) (drop (suc n) s)
+        (ap (numberLen limit) (closed-splits s n e)
+        ∙ number-right limit small .complete (record { value = v; most = b; ends = ap (λ (w : List ℕ). w ++ ascii ";") g }) (drop (suc n) s)
         ∙ sym (closed-length u) ∙ ap (λ (k : ℕ). k + 1) l)
 
 -- ---- TYPE

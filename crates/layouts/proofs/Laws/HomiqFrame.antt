@@ -11,7 +11,7 @@ use Rattle.digits.specs.Paper.Bytes.{part}
 use Rattle.digits.specs.Paper.Decimal.{decimal}
 use Rattle.checks.specs.Paper.Buses.{homiqCrc}
 use Rattle.checks.specs.Paper.Check.{check}
-use Rattle.layouts.specs.Paper.Homiq.{joined, homiq, withoutSeparators}
+use Rattle.layouts.specs.Paper.Homiq.{lastId, joined, homiq, withoutSeparators}
 use Rattle.layouts.specs.Paper.Layout.{Form}
 use Rattle.layouts.specs.Work.Heads.{wordLen, on, onward}
 use Rattle.layouts.specs.Work.Homiq.{fieldLen, numberIn, numberLen, typeLen, headLen, homiqFormLen, homiqPair, homiqTo}
@@ -23,7 +23,7 @@ use Rattle.layouts.proofs.Laws.HomiqFields.{number-right, number-read, 
 
 -- the head, one part behind the other
 pub head-whole : (s : List ℕ) (a b c d e f r : ℕ) → a ≡ wordLen (ascii "<;") s → b ≡ onward (fieldLen 8) s a → c ≡ onward (fieldLen 16) s b
-    → d ≡ onward (fieldLen 4) s c → e ≡ onward (fieldLen 4) s d → f ≡ onward (numberLen 1 511) s e → r ≡ onward typeLen s f → r ≡ headLen s
+    → d ≡ onward (fieldLen 4) s c → e ≡ onward (fieldLen 4) s d → f ≡ onward (numberLen lastId) s e → r ≡ onward typeLen s f → r ≡ headLen s
 unfolding headLen
 head-whole s a b c d e f r ha hb hc hd he hf hr = rw (hr, hf, he, hd, hc, hb, ha)
 
@@ -39,7 +39,7 @@ pub record Found (s : List ℕ) (before behind n : ℕ) : Type 0 where
   pub claims : numberIn (drop before s) ≡ form .fields .crc
   pub covered : withoutSeparators (part 2 before s) ≡ joined (form .fields)
 
-module _ (s : List ℕ) (before behind n : ℕ) (eb : before ≡ headLen s) (en : behind ≡ onward (numberLen 0 255) s before) (ee : n ≡ onward (wordLen closing) s behind) where
+module _ (s : List ℕ) (before behind n : ℕ) (eb : before ≡ headLen s) (en : behind ≡ onward (numberLen 255) s before) (ee : n ≡ onward (wordLen closing) s behind) where
   size : n ≡ homiqFormLen s
   unfolding homiqFormLen
   size = rw (ee, en, eb)
@@ -58,8 +58,8 @@ module _ (s : List ℕ) (before behind n : ℕ) (eb : before ≡ headLen s) (en 
       in
       let e : before ≡ length (frontOf m) = eb ∙ front-length m l s t laid in
       let k : drop before s ≡ d ++ t = back-of s (frontOf m) (d ++ t) before laid e in
-      let w : numberLen 0 255 (drop before s) ≡ length d =
-      ap (numberLen 0 255) k ∙ number-right 0 255 (omega arith) .complete (record { value = m .crc; least = omega arith; most = l .crc; ends = refl }) t
+      let w : numberLen 255 (drop before s) ≡ length d =
+      ap (numberLen 255) k ∙ number-right 255 (omega arith) .complete (record { value = m .crc; most = l .crc; ends = refl }) t
       in
       let b : behind ≡ before + length d =
       en ∙ ap (on before) w ∙ on-both before (length d) (omega arith) (omega (arith, closed-length (decimal (m .crc))))
@@ -71,7 +71,7 @@ module _ (s : List ℕ) (before behind n : ℕ) (eb : before ≡ headLen s) (en 
         head = form-head (take n s) r ∙ sym e;
         two = omega arith;
         crosses = omega (arith, closed-length (decimal (m .crc)));
-        inner = ends-inside (numberLen 0 255) (inside (number-right 0 255 (omega arith))) s before behind en;
+        inner = ends-inside (numberLen 255) (inside (number-right 255 (omega arith))) s before behind en;
         claims = ap numberIn (k ∙ append-snoc (decimal (m .crc)) 59 t) ∙ number-read (m .crc) (omega (arith, l .crc)) t;
         covered = ap (λ (i : ℕ). withoutSeparators (part 2 i s)) eb ∙ front-covered m l s t laid;
       }

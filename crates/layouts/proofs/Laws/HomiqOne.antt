@@ -12,7 +12,7 @@ use Rattle.digits.specs.Paper.Ascii.{ascii}
 use Rattle.digits.specs.Paper.Bytes.{Bytes}
 use Rattle.digits.specs.Paper.Decimal.{decimal}
 use Rattle.layouts.specs.Paper.Chars.{all}
-use Rattle.layouts.specs.Paper.Homiq.{Homiq, fieldChar, Field, firstId, lastId, Limits, joined, homiq, withoutSeparators}
+use Rattle.layouts.specs.Paper.Homiq.{Homiq, fieldChar, Field, lastId, Limits, joined, homiq, withoutSeparators}
 use Rattle.layouts.specs.Paper.Layout.{bytesOf}
 use Rattle.layouts.specs.Work.Homiq.{numberIn}
 use Rattle.layouts.proofs.Laws.ByteRuns.{bytes-by}
@@ -33,13 +33,10 @@ field-cut {k} a b r s p q e =
     let h = peel (field-right k) (record { word = a; field = p; ends = refl }) (record { word = b; field = q; ends = refl }) r s e in
     (sym (without-separators-closed a (p .chars)) ∙ ap withoutSeparators (h .0) ∙ without-separators-closed b (q .chars), h .1)
 
-module _ (low high : ℕ) (small : high < 1000) where
-  number-cut : (a b : ℕ) (r s : List ℕ) → low ≤ a → a ≤ high → low ≤ b → b ≤ high → (decimal a ++ ascii ";") ++ r ≡ (decimal b ++ ascii ";") ++ s → (a ≡ b) × (r ≡ s)
-  number-cut a b r s la ha lb hb e =
-      let h =
-      peel (number-right low high small) (record { value = a; least = la; most = ha; ends = refl })
-      (record { value = b; least = lb; most = hb; ends = refl }) r s e
-      in
+module _ (most : ℕ) (small : most < 1000) where
+  number-cut : (a b : ℕ) (r s : List ℕ) → a ≤ most → b ≤ most → (decimal a ++ ascii ";") ++ r ≡ (decimal b ++ ascii ";") ++ s → (a ≡ b) × (r ≡ s)
+  number-cut a b r s ha hb e =
+      let h = peel (number-right most small) (record { value = a; most = ha; ends = refl }) (record { value = b; most = hb; ends = refl }) r s e in
       (sym (number-read a (omega arith) []) ∙ ap numberIn (h .0) ∙ number-read b (omega arith) [], h .1)
 
 spread-front : (m : Homiq) → drop 2 (frontOf m) ≡ (m .cmd ++ ascii ";") ++ ((m .val ++ ascii ";") ++ ((m .src ++ ascii ";") ++ ((m .dst ++ ascii ";") ++ ((decimal (m .id) ++ ascii ";") ++ (m .type ∷ ascii ";")))))
@@ -62,9 +59,9 @@ homiq-one m n p q e =
     let b = field-cut (m .val) (n .val) _ _ (p .val) (q .val) (a .1) in
     let c = field-cut (m .src) (n .src) _ _ (p .src) (q .src) (b .1) in
     let d = field-cut (m .dst) (n .dst) _ _ (p .dst) (q .dst) (c .1) in
-    let i = number-cut firstId lastId (omega arith) (m .id) (n .id) _ _ (p .low) (p .high) (q .low) (q .high) (d .1) in
+    let i = number-cut lastId (omega arith) (m .id) (n .id) _ _ (p .id) (q .id) (d .1) in
     let t : m .type ≡ n .type = ap (λ (l : List ℕ). getD l 0 0) (i .1) in
-    let x = number-cut 0 255 (omega arith) (m .crc) (n .crc) closing closing (omega arith) (p .crc) (omega arith) (q .crc) (f .1) in
+    let x = number-cut 255 (omega arith) (m .crc) (n .crc) closing closing (p .crc) (q .crc) (f .1) in
     same (a .0) (b .0) (c .0) (d .0) (i .0) t (x .0)
   where
     same : {a a′ b b′ c c′ d d′ : List ℕ} {e e′ f f′ g g′ : ℕ} → a ≡ a′ → b ≡ b′ → c ≡ c′ → d ≡ d′ → e ≡ e′ → f ≡ f′ → g ≡ g′

@@ -12,7 +12,7 @@ use Rattle.digits.specs.Paper.Ascii.{ascii}
 use Rattle.digits.specs.Paper.Decimal.{decimal}
 use Rattle.digits.specs.Paper.Read.{Decides, holds, fails}
 use Rattle.layouts.specs.Paper.Chars.{oneOf}
-use Rattle.layouts.specs.Paper.Homiq.{firstId, lastId, Limits, payload}
+use Rattle.layouts.specs.Paper.Homiq.{lastId, Limits, payload}
 use Rattle.layouts.specs.Paper.Made.{Wire, closed, homiqOf, Payload}
 use Rattle.layouts.specs.Work.Homiq.{fieldLen, numberLen, fiveLen}
 use Rattle.layouts.specs.Work.Heads.{onward}
@@ -26,17 +26,17 @@ abbrev fiveOf : Wire → List ℕ
 fiveOf w = (w .cmd ++ ascii ";") ++ (w .val ++ ascii ";") ++ (w .src ++ ascii ";") ++ (w .dst ++ ascii ";") ++ (decimal (w .id) ++ ascii ";")
 
 abbrev Five : List ℕ → Type 0
-Five = Then (Then (Then (Then (Fielded 8) (λ _. Fielded 16)) (λ _. Fielded 4)) (λ _. Fielded 4)) (λ _. NumberField firstId lastId)
+Five = Then (Then (Then (Then (Fielded 8) (λ _. Fielded 16)) (λ _. Fielded 4)) (λ _. Fielded 4)) (λ _. NumberField lastId)
 
 five-right : Right Five fiveLen
 unfolding fiveLen
 five-right =
     then-right (then-right (then-right (then-right (field-right 8) (λ w a. field-right 16)) (λ w a. field-right 4)) (λ w a. field-right 4))
-    (λ w a. number-right firstId lastId (omega arith))
+    (λ w a. number-right lastId (omega arith))
 
 -- the five, one behind the other
 pub five-whole : (s : List ℕ) (a b c d r : ℕ) → a ≡ fieldLen 8 s → b ≡ onward (fieldLen 16) s a → c ≡ onward (fieldLen 4) s b
-    → d ≡ onward (fieldLen 4) s c → r ≡ onward (numberLen 1 511) s d → r ≡ fiveLen s
+    → d ≡ onward (fieldLen 4) s c → r ≡ onward (numberLen lastId) s d → r ≡ fiveLen s
 unfolding fiveLen
 five-whole s a b c d r ha hb hc hd hr = rw (hr, hd, hc, hb, ha)
 
@@ -63,8 +63,7 @@ five-payload u t r₅ type =
       val = r₂ .second .field;
       src = r₃ .second .field;
       dst = r₄ .second .field;
-      low = r₅ .second .least;
-      high = r₅ .second .most;
+      id = r₅ .second .most;
       type = type;
       crc = omega arith;
     }
@@ -89,7 +88,7 @@ payload-fields w l =
     (record { word = w .val; field = l .val; ends = refl }))
     (record { word = w .src; field = l .src; ends = refl }))
     (record { word = w .dst; field = l .dst; ends = refl }))
-    (record { value = w .id; least = l .low; most = l .high; ends = refl })
+    (record { value = w .id; most = l .id; ends = refl })
 
 -- ---- the test
 

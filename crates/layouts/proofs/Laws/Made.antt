@@ -35,7 +35,7 @@ nibe-fit c d command short bytes =
 pub homiq-fit : (w : Wire) (crc : ℕ) → homiqs.Limits (closed w crc) → homiqs.Limits (homiqOf w)
 homiq-fit w crc l =
     let h = check-lt homiqCrc (homiqs.joined (closed w 0)) in
-    record { cmd = l .cmd; val = l .val; src = l .src; dst = l .dst; low = l .low; high = l .high; type = l .type; crc = omega (arith, h) }
+    record { cmd = l .cmd; val = l .val; src = l .src; dst = l .dst; id = l .id; type = l .type; crc = omega (arith, h) }
 
 -- ---- what the limits of Nikobus say, form by form
 

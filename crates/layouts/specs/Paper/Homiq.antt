@@ -31,10 +31,7 @@ pub record Field (most : ℕ) (w : List ℕ) : Type 0 where
   pub short : length w ≤ most
   pub chars : T (all fieldChar w)
 
--- "ID is 1 to 511"
-abbrev pub firstId : ℕ
-firstId = 1
-
+-- 02, K3, in place of 01's "ID is 1 to 511": "ID 0 is to be accepted and written as `0`"; "512 is still no frame"
 abbrev pub lastId : ℕ
 lastId = 511
 
@@ -44,8 +41,7 @@ pub record Limits (m : Homiq) : Type 0 where
   pub val : Field 16 (m .val)
   pub src : Field 4 (m .src)
   pub dst : Field 4 (m .dst)
-  pub low : firstId ≤ m .id
-  pub high : m .id ≤ lastId
+  pub id : m .id ≤ lastId
   pub type : T (oneOf (ascii "sa") (m .type))
   pub crc : m .crc ≤ 255
 

@@ -12,7 +12,7 @@ use Rattle.digits.specs.Work.Decimal.{guess}
 use Rattle.checks.specs.Paper.Buses.{homiqCrc}
 use Rattle.checks.specs.Paper.Check.{check}
 use Rattle.layouts.specs.Paper.Chars.{CR, LF}
-use Rattle.layouts.specs.Paper.Homiq.{fieldChar, firstId, lastId, withoutSeparators}
+use Rattle.layouts.specs.Paper.Homiq.{fieldChar, lastId, withoutSeparators}
 use Rattle.layouts.specs.Work.Heads.{onlyIf, wordLen, leading, andThen, orElse}
 use Rattle.layouts.specs.Work.Recogniser.{Recogniser}
 use Rattle.layouts.specs.declared.Compared.{Compared}
@@ -31,11 +31,9 @@ isFigure c = leb 48 c && leb c 57
 unfoldable pub numberIn : List ℕ → ℕ
 numberIn s = guess 0 (take (leading isFigure (take 4 s)) s)
 
--- a number from low to high, and `;`
-unfoldable pub numberLen : ℕ → ℕ → List ℕ → ℕ
-numberLen low high s =
-    let v = numberIn s in
-    onlyIf (leb low v) (onlyIf (leb v high) (wordLen (decimal v ++ ascii ";") s))
+-- a number of at most `most`, and `;`
+unfoldable pub numberLen : ℕ → List ℕ → ℕ
+numberLen most s = let v = numberIn s in onlyIf (leb v most) (wordLen (decimal v ++ ascii ";") s)
 
 -- TYPE and `;`
 unfoldable pub typeLen : List ℕ → ℕ
@@ -45,18 +43,18 @@ typeLen s = orElse (wordLen (ascii "s;") s) (wordLen (ascii "a;") s)
 unfoldable pub headLen : List ℕ → ℕ
 headLen =
     andThen (andThen (andThen (andThen (andThen (andThen (wordLen (ascii "<;"))
-    (λ _. fieldLen 8)) (λ _. fieldLen 16)) (λ _. fieldLen 4)) (λ _. fieldLen 4)) (λ _. numberLen firstId lastId))
+    (λ _. fieldLen 8)) (λ _. fieldLen 16)) (λ _. fieldLen 4)) (λ _. fieldLen 4)) (λ _. numberLen lastId))
     (λ _. typeLen)
 
 -- CMD `;` VAL `;` SRC `;` DST `;` ID `;`: a payload but for its last character
 unfoldable pub fiveLen : List ℕ → ℕ
 fiveLen =
     andThen (andThen (andThen (andThen (fieldLen 8) (λ _. fieldLen 16)) (λ _. fieldLen 4)) (λ _. fieldLen 4))
-    (λ _. numberLen firstId lastId)
+    (λ _. numberLen lastId)
 
 -- .. CRC `;` `>` CR LF
 unfoldable pub homiqFormLen : List ℕ → ℕ
-homiqFormLen = andThen (andThen headLen (λ _. numberLen 0 255)) (λ _. wordLen (ascii ">" ++ (CR ∷ LF ∷ [])))
+homiqFormLen = andThen (andThen headLen (λ _. numberLen 255)) (λ _. wordLen (ascii ">" ++ (CR ∷ LF ∷ [])))
 
 -- the number behind TYPE, and the CRC of what stands from CMD to there, the separators left out
 unfoldable pub homiqPair : List ℕ → Compared

@@ -113,7 +113,7 @@ homiq-most : (w : Wire) → homiqs.Limits (homiqOf w) → length (laid (content.
 homiq-most w l =
     let c = check homiqCrc (joined (closed w 0)) in
     let h : c < 256 = check-lt homiqCrc (joined (closed w 0)) in
-    let i : length (decimal (w .id)) ≤ 3 = length-decimal 2 (w .id) (omega (arith, l .high)) in
+    let i : length (decimal (w .id)) ≤ 3 = length-decimal 2 (w .id) (omega (arith, l .id)) in
     let d : length (decimal c) ≤ 3 = length-decimal 2 c (omega arith) in
     omega (
       arith,
@@ -200,7 +200,7 @@ wired-fits w n l h =
       length-chars (w .val),
       length-chars (w .src),
       length-chars (w .dst),
-      length-decimal 2 (w .id) (omega (arith, l .high)),
+      length-decimal 2 (w .id) (omega (arith, l .id)),
       length-chars (w .type ∷ []),
     )
 

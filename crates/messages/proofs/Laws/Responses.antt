@@ -12,10 +12,9 @@ use borrow.Author.Tests.{eqb-true, eq-eqb, lt-ltb, le-ltb}
 use mir.Syntax.{w16, w32}
 use mir.Val.{SFits, toZ, ofZ}
 use mir.ValLaws.{toZ-ofZ, toZ-pos}
-use Rattle.digits.proofs.Laws.Refusals.{pass-over}
 use Rattle.digits.specs.Paper.Bytes.{Bytes}
 use Rattle.digits.specs.Paper.Read.{Decides, holds, fails}
-use Rattle.digits.specs.Paper.Refusals.{refusalOrder, First, clear, here, after, answers, refuses}
+use Rattle.digits.specs.Paper.Refusals.{answers, refuses}
 use Rattle.digits.specs.declared.refusal.Refusal.the-variants.{OutOfLimits}
 use Rattle.layouts.proofs.Laws.Heads.{starts-append}
 use Rattle.layouts.specs.Work.Heads.{starts}
@@ -30,6 +29,7 @@ use Rattle.messages.specs.declared.nest.Response.{Response}
 use Rattle.messages.specs.declared.nest.Response.the-variants.{Climate, State, Break, End, Text, Other}
 use Rattle.messages.specs.declared.nest.Volts.the-variants.{Are, Refused as NoVolts}
 use Rattle.messages.proofs.Laws.Choices.{both-true}
+use Rattle.messages.proofs.Laws.Fives.{five, none}
 use Rattle.messages.proofs.Laws.NestRows.{of-twos, is-word}
 use Rattle.messages.proofs.Laws.Words.{word-lt}
 
@@ -90,14 +90,6 @@ word-test w p (fails f) = go (eqb (length p) (length w) && starts w p) refl
     go false e = refl
 
 -- ---- the causes of a refusal
-
--- the calls refuse with 5 alone
-module _ {C : ℕ → Type 0} (only : (k : ℕ) → eqb k 5 ≡ false → C k → ⊥) where
-  five : C 5 → First C refusalOrder 5
-  five c = pass-over (λ k. eqb k 5) only refusalOrder (here c)
-
-  none : (C 5 → ⊥) → First C refusalOrder 0
-  none n = pass-over (λ k. eqb k 5) only refusalOrder (after n clear)
 
 pair-only : {e : Response} (k : ℕ) → eqb k 5 ≡ false → PairCause e k → ⊥
 pair-only k f (other g) = true≢false f

@@ -215,9 +215,9 @@ pub fn acknowledged(random: &mut Random) -> Vec<u8> {
 
 fn homiq_number(random: &mut Random) -> usize {
     if random.one_in(2) {
-        random.from_to(1, 511)
+        random.from_to(0, 511)
     } else {
-        random.pick(&[1, 9, 10, 99, 100, 255, 256, 510, 511])
+        random.pick(&[0, 1, 9, 10, 99, 100, 255, 256, 510, 511])
     }
 }
 

@@ -321,6 +321,8 @@ pub fn homiq_limits(random: &mut Random) -> Vec<u8> {
 fn homiq_number(random: &mut Random) -> Vec<u8> {
     let texts = [
         "0",
+        "00",
+        "000",
         "1",
         "511",
         "512",

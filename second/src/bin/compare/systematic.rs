@@ -35,7 +35,8 @@ pub fn capture(kind: u8, nth: usize, of: usize, random: &mut Random) -> Vec<u8> 
             .filter(falls_here)
             .flat_map(|length| commanded(length, random))
             .collect(),
-        _ => (1..=511)
+        // from 512 on they are no frames
+        _ => (0..=600)
             .filter(falls_here)
             .flat_map(|id| frames::homiq(&numbered(id, random)))
             .collect(),

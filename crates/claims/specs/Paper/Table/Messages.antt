@@ -12,6 +12,7 @@ use Rattle.messages.specs.Paper.Answers.{zeroFoundMessage}
 use Rattle.messages.specs.Paper.Homiq.{fieldEnds}
 use Rattle.messages.specs.Paper.Message as paper
 use Rattle.messages.specs.Paper.Meant.{ContentWith, MeantAs, MeantCause, meantRefusal, meantValue, noneMeant}
+use Rattle.messages.specs.Paper.NextId.{nextId, NextIdCause, nextIdRefusal, nextIdValue}
 use Rattle.messages.specs.Paper.Panel.{PairCause, PairOf, VoltsCause, pairRefusal, pairValue, voltsIn, voltsRefusal}
 use Rattle.messages.specs.Paper.Panel.{voltsValue, zeroCounts, zeroVolts}
 use Rattle.messages.specs.Paper.Says.{Says}
@@ -21,6 +22,7 @@ use Rattle.messages.specs.declared.Message.{Message}
 use Rattle.messages.specs.declared.FoundMessage.{FoundMessage}
 use Rattle.messages.specs.declared.Standing.{Standing}
 use Rattle.messages.specs.declared.Tag.{Tag}
+use Rattle.messages.specs.declared.homiq.NextId.{NextId}
 use Rattle.messages.specs.declared.nest.Pair.{Pair}
 use Rattle.messages.specs.declared.nest.Response.{Response}
 use Rattle.messages.specs.declared.nest.Volts.{Volts}
@@ -140,6 +142,26 @@ homiq-field =
       refusals = [];
       Cause = λ a. NeverRefused;
       form = hands (λ a. a .content) (λ a e. e ≡ fieldEnds (a .number) (now (a .content)));
+    }
+
+-- The ID of the frame after one with this ID.
+pub record HomiqNextIdArgs : Type 0 where
+  pub id : ℕ
+
+abbrev pub homiq-next-id : Claim NextId
+homiq-next-id =
+    record {
+      name = "messages::homiq::next_id";
+      Args = HomiqNextIdArgs;
+      refusals = 5 ∷ [];
+      Cause = λ a. NextIdCause (a .id);
+      form = refuses
+          (record {
+            refusal = nextIdRefusal;
+            value = nextIdValue;
+            zeros = 0;
+            Right = λ a n. n ≡ nextId (a .id);
+          });
     }
 
 -- A climate message's counts for the panel.

@@ -38,7 +38,7 @@ slice-aggregate-word-at : tie.Need-slice-aggregate-word-at
 slice-aggregate-word-at c = search needs
 
 word-at-requires : tie.Need-word-at-requires
-word-at-requires c κs = ends-inside (numberLen 0 255) (inside (number-right 0 255 (omega arith))) _ _ _ (c .before .number-at .ensures .0)
+word-at-requires c κs = ends-inside (numberLen 255) (inside (number-right 255 (omega arith))) _ _ _ (c .before .number-at .ensures .0)
 
 nothing-requires-2 : tie.Need-nothing-requires-2
 nothing-requires-2 c κs = search needs

@@ -1,6 +1,7 @@
 -- `layouts::homiq::head` meets its contract: the parts follow one another as in `headLen`.
 -- Assumes nothing.
 use native.Mathlib.Omega.{arith}
+use Rattle.layouts.specs.Paper.Homiq.{lastId}
 use Rattle.layouts.specs.Work.Homiq.{fieldLen, numberLen}
 use Rattle.layouts.proofs.Laws.Heads.{word-inside, inside, ends-inside}
 use Rattle.layouts.proofs.Laws.HomiqFields.{field-right, number-right}
@@ -31,7 +32,7 @@ number-at-requires : tie.Need-number-at-requires
 number-at-requires c κs = (ends-inside (fieldLen 4) (inside (field-right 4)) _ _ _ (c .field-at4 .ensures), omega arith)
 
 type-at-requires : tie.Need-type-at-requires
-type-at-requires c κs = ends-inside (numberLen 1 511) (inside (number-right 1 511 (omega arith))) _ _ _ (c .number-at .ensures .0)
+type-at-requires c κs = ends-inside (numberLen lastId) (inside (number-right lastId (omega arith))) _ _ _ (c .number-at .ensures .0)
 
 returns : tie.Need-returns
 returns c = head-whole _ _ _ _ _ _ _ _ (c .before .before .before .before .before .before .word .ensures) (c .before .before .before .before .before .field-at .ensures) (c .before .before .before .before .field-at2 .ensures) (c .before .before .before .field-at3 .ensures) (c .before .before .field-at4 .ensures) (c .before .number-at .ensures .0) (c .type-at .ensures)

@@ -30,9 +30,9 @@ made c = c .figures .ensures .1 ∙ ap (λ u. guess 0 (take (c .figures .result 
 
 refuted : (c : Read)
     → let s = c .before .before .before .args in
-    (NumberAt (s .low) (s .high) (now (s .s)) (c .figures .result .end) (c .figures .result .value) → ⊥)
-    → (0 ≡ numberLen (s .low) (s .high) (now (s .s))) × (0 < 0 → 0 ≡ numberIn (now (s .s)))
-refuted c f = (number-no _ _ _ (counted c) (made c) _ _ (c .before .before .before .pre) f, λ p. absurd (omega arith))
+    (NumberAt (s .most) (now (s .s)) (c .figures .result .end) (c .figures .result .value) → ⊥)
+    → (0 ≡ numberLen (s .most) (now (s .s))) × (0 < 0 → 0 ≡ numberIn (now (s .s)))
+refuted c f = (number-no _ _ _ (counted c) (made c) _ (c .before .before .before .pre) f, λ p. absurd (omega arith))
 
 first-requires : tie.Need-first-requires
 first-requires c κs = search needs
@@ -41,34 +41,31 @@ figures-requires : tie.Need-figures-requires
 figures-requires c κs = let e = c .first .ensures in rw e (omega (arith, length-take 4 (now (c .before .before .args .s))))
 
 returns : tie.Need-returns
-returns c = let h = c .if1 .taken in refuted (c .before) (λ f. omega (arith, f .least))
-
-returns-2 : tie.Need-returns-2
-returns-2 c = let h = c .if2 .taken in refuted (c .before .before) (λ f. omega (arith, f .most))
+returns c = let h = c .if1 .taken in refuted (c .before) (λ f. omega (arith, f .most))
 
 width-requires : tie.Need-width-requires
 width-requires c κs = search needs
 
+returns-2 : tie.Need-returns-2
+returns-2 c = refuted (c .before .before .before) (λ f. c .if2 .taken (f .digits ∙ sym (c .before .width .ensures)))
+
 returns-3 : tie.Need-returns-3
-returns-3 c = refuted (c .before .before .before .before) (λ f. c .if3 .taken (f .digits ∙ sym (c .before .width .ensures)))
+returns-3 c = let n = c .before .before .before .before in refuted n (λ f. closed-past (now (n .before .before .before .args .s)) _ (c .if3 .taken) (f .end))
+
+shared-slice-read-if4 : tie.Need-shared-slice-read-if4
+shared-slice-read-if4 c = search needs
 
 returns-4 : tie.Need-returns-4
-returns-4 c = let n = c .before .before .before .before .before in refuted n (λ f. closed-past (now (n .before .before .before .args .s)) _ (c .if4 .taken) (f .end))
+returns-4 c = refuted (c .before .before .before .before .before .before) (λ f. c .if4 .taken (f .end))
 
-shared-slice-read-if5 : tie.Need-shared-slice-read-if5
-shared-slice-read-if5 c = search needs
+add-t8 : tie.Need-add-t8
+add-t8 c = search needs
 
 returns-5 : tie.Need-returns-5
-returns-5 c = refuted (c .before .before .before .before .before .before .before) (λ f. c .if5 .taken (f .end))
-
-add-t9 : tie.Need-add-t9
-add-t9 c = search needs
-
-returns-6 : tie.Need-returns-6
-returns-6 c =
+returns-5 c =
     let w = c .before .before .before .before in
-    let n = w .before .before .before in (
-      number-whole _ _ _ (counted n) (made n) _ _ (n .before .before .before .pre) (w .before .before .if1 .left) (w .before .if2 .left) (c .before .before .before .if3 .left ∙ w .width .ensures) (c .if5 .left),
+    let n = w .before .before in (
+      number-whole _ _ _ (counted n) (made n) _ (n .before .before .before .pre) (w .before .if1 .left) (c .before .before .before .if2 .left ∙ w .width .ensures) (c .if4 .left),
       λ p. number-value _ _ _ (counted n) (made n),
     )
 
@@ -79,11 +76,10 @@ number-spec =
     first-requires
     figures-requires
     returns
-    returns-2
     width-requires
+    returns-2
     returns-3
+    shared-slice-read-if4
     returns-4
-    shared-slice-read-if5
-    returns-5
-    add-t9
-    returns-6)
+    add-t8
+    returns-5)

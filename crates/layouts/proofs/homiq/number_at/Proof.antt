@@ -29,14 +29,14 @@ number-requires : tie.Need-number-requires
 number-requires c κs = search needs
 
 onto-requires : tie.Need-onto-requires
-onto-requires c κs = let s = c .before .before .before .before in at-fits (numberLen (s .args .low) (s .args .high)) (now (s .args .s)) _ _ (c .number .ensures .0) (inside (number-right _ _ (s .pre .1))) (s .pre .0) (omega (arith, s .good))
+onto-requires c κs = let s = c .before .before .before .before in at-fits (numberLen (s .args .most)) (now (s .args .s)) _ _ (c .number .ensures .0) (inside (number-right _ (s .pre .1))) (s .pre .0) (omega (arith, s .good))
 
 returns-2 : tie.Need-returns-2
 returns-2 c =
     let s = c .before .before .before .before .before in
     let n = c .before .number .ensures in
     let e = c .onto .ensures in (
-      at-ends (numberLen (s .args .low) (s .args .high)) (now (s .args .s)) _ _ (n .0) _ e,
+      at-ends (numberLen (s .args .most)) (now (s .args .s)) _ _ (n .0) _ e,
       λ p. n .1 (on-back (s .args .at) _ (rw e at p)) ∙ ap numberIn (part-rest (s .args .at) (now (s .args .s))),
     )
 

@@ -246,6 +246,19 @@ pub fn decoded() -> Vec<Function> {
             };
             words([hex(&content), arguments::entry(6, r)])
         }),
+        function(
+            "messages::homiq::next_id",
+            4,
+            &["ok", "ok 0", "refused 5"],
+            |r| {
+                let id = match r.below(3) {
+                    0 => r.below(512),
+                    1 => r.pick(&[0, 1, 510, 511, 512, 513, 1023, 65_535]),
+                    _ => r.below(65_536),
+                };
+                words([id.to_string()])
+            },
+        ),
     ]
 }
 

@@ -1,6 +1,7 @@
 //! Every function of docs/CALLS.md: what its requests are made of, and which sorts of answer must come.
 
 mod framed;
+mod ids;
 mod in_c;
 mod judged;
 mod kept;
@@ -77,6 +78,7 @@ pub fn all_fixed() -> Vec<Fixed> {
     let why = judged::byte_by_byte("frames::why", true);
     why.into_iter()
         .chain(judged::heads_byte_by_byte())
+        .chain(ids::each())
         .collect()
 }
 
