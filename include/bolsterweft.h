@@ -328,7 +328,7 @@ struct bolsterweft_fault bolsterweft_sheet_fault(const uint8_t *text, size_t tex
  *   5  if the bytes are not one frame.
  *   4  if the room is too short.
  * Cost: linear in frame_length.
- * Stack: 576 bytes.
+ * Stack: 640 bytes.
  *
  * Example:
  *
@@ -353,7 +353,7 @@ struct bolsterweft_count bolsterweft_line(uint32_t kind, const uint8_t *frame, s
  *   5  if the bytes are not one frame.
  *   4  if the room is too short.
  * Cost: linear in frame_length.
- * Stack: 576 bytes.
+ * Stack: 640 bytes.
  *
  * Example:
  *
@@ -388,7 +388,7 @@ struct bolsterweft_listed {
  *   4  if there is a frame, and the room is too short for its line.
  *   1  if no frame starts at or after the place.
  * Cost: that of the search, and linear in the frame's length.
- * Stack: 832 bytes.
+ * Stack: 896 bytes.
  *
  * Example:
  *
@@ -415,7 +415,7 @@ struct bolsterweft_listed bolsterweft_line_next(uint32_t kind, const uint8_t *ca
  *   4  if there is a frame, and the room is too short for its line.
  *   1  if no frame starts at or after the place.
  * Cost: that of the search, and linear in the frame's length.
- * Stack: 832 bytes.
+ * Stack: 896 bytes.
  *
  * Example:
  *
@@ -436,7 +436,7 @@ struct bolsterweft_listed bolsterweft_line_next_with(uint32_t kind, const uint8_
  * Refuses, in this order:
  *   4  if the room is too short.
  * Cost: that of searching the capture; twice that if the room is shorter than what is always enough.
- * Stack: 640 bytes.
+ * Stack: 1,024 bytes.
  *
  * Example:
  *
@@ -457,7 +457,7 @@ struct bolsterweft_count bolsterweft_list(const uint8_t *input, size_t input_len
  * Refuses, in this order:
  *   4  if the room is too short.
  * Cost: that of searching the capture; twice that if the room is shorter than what is always enough.
- * Stack: 640 bytes.
+ * Stack: 1,024 bytes.
  *
  * Example:
  *

@@ -1,10 +1,8 @@
-// Hex digits, upper case only: a lower-case letter is no digit.
+// Hex digits, upper case only: a lower-case letter is no digit. The digits are two ranges of characters, `0` to `9` and `A` to `F`.
 ghost use mathlib.Core.Path.{_≡_};
 ghost use Prim.Native.Nat.{_%_};
-ghost use lib.ListN.{length, getD};
 ghost use Rattle.digits.specs.Paper.Hex.{hexDigit, hexByte, hexWord};
 ghost use Rattle.digits.specs.Paper.Answers.{ReadsDigit, ReadsByte, ReadsWord};
-ghost use Rattle.digits.specs.Work.Hex.{placeOf};
 
 // What two hex digits are read as: a byte, or `NoDigit` if one of them is no digit.
 pub enum Byte {
@@ -18,52 +16,41 @@ pub enum Word {
     NoDigit,
 }
 
-// The digit table, which only this module uses. It is copied at each use, so the two digits of a byte share one copy.
-const DIGITS: [u8; 16] = *b"0123456789ABCDEF";
-
 // The digit of the low four bits of v.
 pub fn digit(v: u8) -> u8
     ensures { λ r. ⌜ r ≡ hexDigit (v % 16) ⌝ }
 {
-    let table = DIGITS;
-    entry(&table, v)
+    let n = v % 16;
+    if n < 10 {
+        return b'0' + n;
+    }
+    b'A' + (n - 10)
 }
 
-// The entry of a table at the low four bits of v.
-fn entry(table: &[u8], v: u8) -> u8
-    requires { ⌜ length (now table) ≡ 16 ⌝ }
-    ensures { λ r. ⌜ r ≡ getD (now (table .entry)) (v % 16) 0 ⌝ }
-{
-    table[(v % 16) as usize]
-}
-
-// The value of a digit.
+// The value of a digit. The tests go from the last character down: in this order the search is smallest and quickest (docs/DECISIONS.md).
 pub fn value(c: u8) -> Byte
     ensures { λ r. ⌜ ReadsDigit c r ⌝ }
 {
-    let v = place(c);
-    if digit(v) == c {
-        return Byte::Is(v);
+    if b'F' < c {
+        return Byte::NoDigit;
+    }
+    if b'A' <= c {
+        return Byte::Is(c - b'A' + 10);
+    }
+    if b'9' < c {
+        return Byte::NoDigit;
+    }
+    if b'0' <= c {
+        return Byte::Is(c - b'0');
     }
     Byte::NoDigit
-}
-
-// The one place of the table where the character c can stand.
-fn place(c: u8) -> u8
-    ensures { λ r. ⌜ r ≡ placeOf c ⌝ }
-{
-    if c < b'A' {
-        return c % 16;
-    }
-    (c % 16 + 9) % 16
 }
 
 // A byte as two digits, the high one first.
 pub fn two_digits(b: u8) -> [u8; 2]
     ensures { λ r. ⌜ r ≡ hexByte b ⌝ }
 {
-    let table = DIGITS;
-    [entry(&table, b / 16), entry(&table, b)]
+    [digit(b / 16), digit(b)]
 }
 
 // The byte that two digits are.

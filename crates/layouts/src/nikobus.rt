@@ -17,6 +17,7 @@ ghost use lib.Dec.{T};
 ghost use lib.ListN.{length};
 ghost use Rattle.digits.specs.Paper.Ascii.{ascii};
 ghost use Rattle.digits.specs.Paper.Bytes.{part};
+ghost use Rattle.digits.specs.Work.Hex.{placeOf};
 ghost use Rattle.checks.specs.Paper.Check.{check};
 ghost use Rattle.checks.specs.Paper.Buses.{nikobusCrc16};
 ghost use Rattle.layouts.specs.Paper.Chars.{all, isHex};
@@ -278,8 +279,16 @@ fn pair(high: u8, low: u8) -> u8
     requires { ⌜ T (isHex low) ⌝ }
     ensures { λ r. ⌜ r ≡ hexPair high low ⌝ }
 {
-    match hex::byte_of(high, low) {
-        Byte::Is(b) => b,
-        Byte::NoDigit => 0,
+    place(high) * 16 + place(low)
+}
+
+// The value of a character that is a digit, which is known of it: the formula alone, without a branch. Links have any digits, and a branch
+// on which range a digit is of would be guessed wrongly half of the time.
+fn place(c: u8) -> u8
+    ensures { λ r. ⌜ r ≡ placeOf c ⌝ }
+{
+    if c < b'A' {
+        return c % 16;
     }
+    (c % 16 + 9) % 16
 }

@@ -1,6 +1,9 @@
-// The checks by C's calling convention, for the tests and benchmarks that are written in C. Not part of the product. Each promise is an
-// equation, so that two answers which keep it are the same (`equation` of `digits`).
+// The checks, and hex digits into a room, by C's calling convention, for the tests and benchmarks that are written in C. Not part of the
+// product. A check's promise is an equation, so that two answers which keep it are the same (`equation` of `digits`); that of `probe_hex`
+// is that of `puts::hex`.
 ghost use mathlib.Core.Path.{_≡_};
+ghost use Rattle.digits.specs.Paper.Hex.{hexBytes};
+ghost use Rattle.puts.specs.Paper.Put.{Put};
 ghost use Rattle.checks.specs.Paper.Check.{feed, check};
 ghost use Rattle.checks.specs.Paper.Buses.{nikobusCrc16, nikobusCrc8, nestCrc, nibeXor, homiqCrc};
 use checks::homiq;
@@ -81,4 +84,12 @@ pub extern "C" fn probe_homiq_crc_after(v: u8, s: &[u8]) -> u8
     ensures { λ r. ⌜ r ≡ feed homiqCrc v (now (s .entry)) ⌝ }
 {
     homiq::Crc { value: v }.bytes(s).value
+}
+
+// Puts two digits a byte from a place of the room on, as far as it goes; where the rest would end.
+#[no_mangle]
+pub extern "C" fn probe_hex(s: &[u8], room: &mut [u8], at: usize) -> usize
+    ensures { λ r. ⌜ Put (now (room .entry)) (now (room .exit)) at r (hexBytes (now (s .entry))) ⌝ }
+{
+    puts::hex(s, room, at)
 }

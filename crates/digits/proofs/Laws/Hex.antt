@@ -1,12 +1,13 @@
 -- Hex digits there and back.
 -- Assumes nothing.
-use mathlib.Core.Path.{_≡_, refl, sym, ap, ap₂, _∙_, subst}
+use mathlib.Core.Path.{_≡_, refl, sym, ap, ap₂, _∙_}
 use mathlib.Core.Bool.{Bool, true, false, _&&_, _||_, cond}
 use mathlib.Core.List.{List, [], _∷_, _++_}
-use Prim.Native.Nat.{ℕ, zero, suc, _+_, _*_, _/_, _%_, _<_}
+use Prim.Native.Nat.{ℕ, zero, suc, _+_, _-_, _*_, _/_, _%_, _≤_, _<_}
 use native.Mathlib.Omega.{arith}
 use lib.Dec.{T, eqb, leb, ltb, eqb→eq}
 use lib.ListN.{length, getD}
+use borrow.Author.Tests.{lt-ltb, le-ltb, ltb-true, ltb-false}
 use Rattle.digits.specs.Paper.Ascii.{ascii}
 use Rattle.digits.specs.Paper.Bytes.{Bytes}
 use Rattle.digits.specs.Paper.Hex.{hexDigit, hexByte, hexWord, hexBytes}
@@ -44,22 +45,41 @@ pub digit-upper : (v : ℕ) → v < 16 → T ((leb 48 (hexDigit v) && leb (hexDi
 unfolding hexDigit upper
 digit-upper v h = at upper (ascii "0123456789ABCDEF") tt v h
 
--- what is not the digit at its place is no digit
-pub no-digit : (c : ℕ) → (hexDigit (placeOf c) ≡ c → ⊥) → (v : ℕ) → v < 16 → hexDigit v ≡ c → ⊥
-no-digit c f v h e = f (ap hexDigit (ap placeOf (sym e) ∙ place-digit v h) ∙ e)
+-- the digit of each value
+valued : ℕ → ℕ → Bool
+valued v c = eqb c (cond (ltb v 10) (48 + v) (55 + v))
 
--- what looking a digit up in the table answers: v is the place of c, d the digit there
-pub digit-read : (c v d : ℕ) → v ≡ placeOf c → d ≡ hexDigit (v % 16) → d ≡ c → Reads 0 (λ v. v < 16) (λ v. hexDigit v ∷ []) 5 (c ∷ []) 0 v
-digit-read c v d e f g =
-    let h : v < 16 = subst (λ (x : ℕ). x < 16) (sym e) (place-lt c) in
-    let m : v % 16 ≡ v = omega arith in
-    is h (ap (λ (x : ℕ). x ∷ []) (ap hexDigit (sym m) ∙ sym f ∙ g))
+pub digit-of : (v : ℕ) → v < 16 → hexDigit v ≡ cond (ltb v 10) (48 + v) (55 + v)
+unfolding hexDigit valued
+digit-of v h = eqb→eq _ _ (at valued (ascii "0123456789ABCDEF") tt v h)
 
-pub digit-unread : (c v d : ℕ) → v ≡ placeOf c → d ≡ hexDigit (v % 16) → (d ≡ c → ⊥) → Reads 0 (λ v. v < 16) (λ v. hexDigit v ∷ []) 5 (c ∷ []) 5 0
-digit-unread c v d e f g =
-    let h : v < 16 = subst (λ (x : ℕ). x < 16) (sym e) (place-lt c) in
-    let m : v % 16 ≡ v = omega arith in
-    none (λ u l w. no-digit c (λ x. g (f ∙ ap hexDigit (m ∙ e) ∙ x)) u l cc)
+pub digit-figure : (v : ℕ) → v < 10 → 48 + v ≡ hexDigit v
+digit-figure v h = sym (digit-of v (omega arith) ∙ simp (lt-ltb v 10 h))
+
+pub digit-letter : (v : ℕ) → 10 ≤ v → v < 16 → 55 + v ≡ hexDigit v
+digit-letter v h k = sym (digit-of v k ∙ simp (le-ltb v 10 h))
+
+-- what reading a character answers: in the one range and in the other, and in neither
+module _ (c : ℕ) where
+  pub figure-read : 48 ≤ c → c ≤ 57 → Reads 0 (λ v. v < 16) (λ v. hexDigit v ∷ []) 5 (c ∷ []) 0 (c - 48)
+  figure-read h k =
+      let e : 48 + (c - 48) ≡ c = omega arith in
+      is {v = c - 48} (omega arith) (ap (λ (x : ℕ). x ∷ []) (sym (digit-figure (c - 48) (omega arith)) ∙ e))
+
+  pub letter-read : 65 ≤ c → c ≤ 70 → Reads 0 (λ v. v < 16) (λ v. hexDigit v ∷ []) 5 (c ∷ []) 0 (c - 65 + 10)
+  letter-read h k =
+      let e : 55 + (c - 65 + 10) ≡ c = omega arith in
+      is {v = c - 65 + 10} (omega arith) (ap (λ (x : ℕ). x ∷ []) (sym (digit-letter (c - 65 + 10) (omega arith) (omega arith)) ∙ e))
+
+  no-digit : (48 ≤ c → c ≤ 57 → ⊥) → (65 ≤ c → c ≤ 70 → ⊥) → (v : ℕ) → v < 16 → hexDigit v ≡ c → ⊥
+  no-digit f g v h e = go (ltb v 10) refl
+    where
+      go : (b : Bool) → ltb v 10 ≡ b → ⊥
+      go true t = let l = ltb-true v 10 t in let d : 48 + v ≡ c = digit-figure v l ∙ e in f (omega arith) (omega arith)
+      go false t = let l = ltb-false v 10 t in let d : 55 + v ≡ c = digit-letter v l h ∙ e in g (omega arith) (omega arith)
+
+  pub unread : (48 ≤ c → c ≤ 57 → ⊥) → (65 ≤ c → c ≤ 70 → ⊥) → Reads 0 (λ v. v < 16) (λ v. hexDigit v ∷ []) 5 (c ∷ []) 5 0
+  unread f g = none (λ v h e. no-digit f g v h cc)
 
 -- ---- two, and four
 

@@ -1,15 +1,15 @@
 -- Hex digits: which characters are, and the bytes that they are, there and back.
 -- Assumes nothing.
-use mathlib.Core.Bool.{Bool, true, false, not, _&&_, _||_, cond}
+use mathlib.Core.Bool.{Bool, true, false, not, _&&_, _||_}
 use mathlib.Core.List.{List, [], _∷_, _++_}
 use mathlib.Core.Path.{_≡_, refl, sym, _∙_, ap, ap₂, subst}
 use Prim.Native.Nat.{ℕ, zero, suc, _+_, _-_, _*_, _/_, _%_, _^_, _≤_, _<_}
 use native.Mathlib.Omega.{arith}
-use lib.Dec.{T, eqb, leb, ltb, eqb→eq, leb→le}
+use lib.Dec.{T, eqb, leb, eqb→eq, leb→le}
 use lib.ListN.{length, getD, drop, length-drop}
 use borrow.Author.Tests.{lt-ltb, le-ltb, leb-true, leb-false, not-true, not-false}
 use Rattle.digits.proofs.Laws.Bytes.{bytes-nil, bytes-cons, bytes-head, bytes-tail}
-use Rattle.digits.proofs.Laws.Hex.{place-digit, place-lt, digit-upper, byte-of, byte-parts}
+use Rattle.digits.proofs.Laws.Hex.{place-digit, place-lt, digit-upper, digit-of, byte-of, byte-parts}
 use Rattle.digits.proofs.Laws.Parts.{next}
 use Rattle.digits.proofs.Laws.Reads.{answered, refused}
 use Rattle.digits.proofs.Laws.Table.{at}
@@ -64,14 +64,6 @@ hex-cases c C h a b =
     go : (t : Bool) → (leb 48 c && leb c 57) ≡ t → T (t || (leb 65 c && leb c 70)) → C
     go true e k = let q : T (leb 48 c) × T (leb c 57) = T-and (leb 48 c) (leb c 57) (rw e tt) in a (leb→le 48 c (q .0)) (leb→le c 57 (q .1))
     go false e k = let q = T-and (leb 65 c) (leb c 70) k in b (leb→le 65 c (q .0)) (leb→le c 70 (q .1))
-
--- the digit of each value
-valued : ℕ → ℕ → Bool
-valued v c = eqb c (cond (ltb v 10) (48 + v) (55 + v))
-
-digit-of : (v : ℕ) → v < 16 → hexDigit v ≡ cond (ltb v 10) (48 + v) (55 + v)
-unfolding hexDigit valued
-digit-of v h = eqb→eq _ _ (at valued (ascii "0123456789ABCDEF") tt v h)
 
 pub hex-figure : (c : ℕ) → 48 ≤ c → c ≤ 57 → T (isHex c)
 hex-figure c h k =

@@ -1,24 +1,26 @@
--- `layouts::nikobus::pair` meets its contract: two digits are read, and as their byte.
+-- `layouts::nikobus::pair` meets its contract: the two places, each below 16, make the byte.
 -- Assumes nothing.
-use Rattle.layouts.proofs.Laws.HexDigits.{pair-is, pair-read}
+use native.Mathlib.Omega.{arith}
 use borrow.Author.Needs.{needs}
+use Rattle.digits.proofs.Laws.Hex.{place-lt}
 use Rattle.layouts.proofs.nikobus.pair.Statement.{statement}
 use Rattle.layouts.proofs.nikobus.pair.Tie as tie
 
-byte-of-requires : tie.Need-byte-of-requires
-byte-of-requires c κs = search needs
+place-requires : tie.Need-place-requires
+place-requires c κs = search needs
 
-enum-known-b : tie.Need-enum-known-b
-enum-known-b c = search needs
+mul-result : tie.Need-mul-result
+mul-result c = omega (arith, place-lt (c .before .args .high), c .place .ensures)
 
-enum-told : tie.Need-enum-told
-enum-told c = search needs
+place-requires-2 : tie.Need-place-requires-2
+place-requires-2 c κs = search needs
+
+add-result : tie.Need-add-result
+add-result c =
+    omega (arith, place-lt (c .before .before .args .high), place-lt (c .before .before .args .low), c .before .place .ensures, c .place2 .ensures)
 
 returns : tie.Need-returns
-returns c = pair-is (c .before .before .before .byte-of .ensures) (c .before .b .given .1)
-
-returns-2 : tie.Need-returns-2
-returns-2 c = let s = c .before .before .before in absurd (pair-read (s .pre .0) (s .pre .1) (c .before .before .byte-of .ensures) (c .enum-told .given .1))
+returns c = search needs
 
 pub pair-spec : {M : Type 1} → statement M
-pair-spec = tie.close (tie.spec byte-of-requires enum-known-b enum-told returns returns-2)
+pair-spec = tie.close (tie.spec place-requires mul-result place-requires-2 add-result returns)

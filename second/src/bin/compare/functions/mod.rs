@@ -79,6 +79,7 @@ pub fn all_fixed() -> Vec<Fixed> {
     why.into_iter()
         .chain(judged::heads_byte_by_byte())
         .chain(ids::each())
+        .chain(values::each_pair())
         .collect()
 }
 

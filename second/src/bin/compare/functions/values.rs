@@ -1,9 +1,21 @@
 //! The functions on digits, check values, rooms, numbers and JSON.
 
-use super::{at, bytes, function, number, room, words, Function};
+use super::{at, bytes, function, number, room, words, Fixed, Function};
 use crate::arguments::{self, hex};
 use crate::contents::{self, HEX};
 use crate::random::Random;
+
+/// Each pair of characters as a byte.
+pub fn each_pair() -> Vec<Fixed> {
+    let pairs = (0..=255).flat_map(|high| (0..=255).map(move |low| (high, low)));
+    vec![Fixed {
+        test: "digits::hex::byte_of, each pair".to_string(),
+        answers: ["ok", "refused 5"].map(String::from).to_vec(),
+        requests: pairs
+            .map(|(high, low)| format!("digits::hex::byte_of {high} {low}"))
+            .collect(),
+    }]
+}
 
 pub fn digits() -> Vec<Function> {
     const REFUSALS: [&str; 10] = [

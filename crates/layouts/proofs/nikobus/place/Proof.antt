@@ -1,10 +1,10 @@
--- `digits::hex::place` meets its contract: by the two ranges of characters.
+-- `layouts::nikobus::place` meets its contract: by the two ranges of characters.
 -- Assumes nothing.
 use borrow.Author.Needs.{needs}
 use borrow.Author.Tests.{lt-ltb, le-ltb}
 use Rattle.digits.specs.Work.Hex.{placeOf}
-use Rattle.digits.proofs.hex.place.Statement.{statement}
-use Rattle.digits.proofs.hex.place.Tie as tie
+use Rattle.layouts.proofs.nikobus.place.Statement.{statement}
+use Rattle.layouts.proofs.nikobus.place.Tie as tie
 
 returns : tie.Need-returns
 unfolding placeOf
