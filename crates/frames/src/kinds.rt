@@ -96,14 +96,14 @@ pub(crate) fn head(kind: Kind, bytes: &[u8]) -> AtHead
 }
 
 // Whether a frame can begin at a place of a buffer, by the first three bytes from there on. (A part of three bytes, whose length the
-// compiler knows: the layouts' own test of the length costs nothing then.)
+// compiler knows: the layouts' own test of the length costs nothing then.) Of Nikobus, no frame has a second character beyond `N`.
 pub(crate) fn may_start(kind: Kind, buffer: &[u8], place: usize) -> bool
     requires { ⌜ place + 3 ≤ length (now buffer) ⌝ }
     ensures { λ r. ⌜ r ≡ mayStart kind (now (buffer .entry)) place ⌝ }
 {
     let s = &buffer[place..place + 3];
     match kind {
-        Kind::Nikobus => nikobus::may_start(s),
+        Kind::Nikobus => nikobus::may_start(s) & (s[1] <= b'N'),
         Kind::NestCommand => nest::may_start(Direction::Command, s),
         Kind::NestResponse => nest::may_start(Direction::Response, s),
         Kind::Nibe => nibe::may_start(s),

@@ -59,10 +59,7 @@ pub fn may_start(s: &[u8]) -> bool
     if s.len() < 3 {
         return false;
     }
-    if s[0] == b'<' {
-        return s[1] == b';';
-    }
-    false
+    (s[0] == b'<') & (s[1] == b';')
 }
 
 // The CRC that closes a payload, CMD to TYPE: over its characters without the separators.

@@ -43,19 +43,14 @@ pub fn may_start(direction: Direction, s: &[u8]) -> bool
     }
 }
 
-// These three bytes; the last first, since a run of start bytes differs there.
+// These three bytes.
 fn three(s: &[u8], first: u8, second: u8, third: u8) -> bool
     ensures { λ r. ⌜ r ≡ firstThree (λ a b c. eqb a first && (eqb b second && eqb c third)) (now (s .entry)) ⌝ }
 {
     if s.len() < 3 {
         return false;
     }
-    if s[2] == third {
-        if s[1] == second {
-            return s[0] == first;
-        }
-    }
-    false
+    (s[0] == first) & ((s[1] == second) & (s[2] == third))
 }
 
 // What stands there with this preamble. Tested in this order: the preamble, the length and the count of bytes, the CRC. (Any bytes are an

@@ -46,10 +46,7 @@ pub fn may_start(s: &[u8]) -> bool
     if s.len() < 3 {
         return false;
     }
-    if s[0] == 0xC0 {
-        return s[1] / 16 == 6;
-    }
-    false
+    (s[0] == 0xC0) & (s[1] / 16 == 6)
 }
 
 // How long a frame with the length at the head of s is; 0 if the length or as many bytes are not there.

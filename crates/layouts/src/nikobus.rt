@@ -53,13 +53,7 @@ pub fn may_start(s: &[u8]) -> bool
     if s.len() < 3 {
         return false;
     }
-    if s[0] == b'$' {
-        return b'0' <= s[1];
-    }
-    if s[0] == b'#' {
-        return b'0' <= s[1];
-    }
-    false
+    ((s[0] == b'$') | (s[0] == b'#')) & (b'0' <= s[1])
 }
 
 // A link. Tested in this order: LL and the count of bytes, the digits and CR, CRC16, CRC8.

@@ -7,9 +7,9 @@ use Prim.Native.Nat.{ℕ, zero, suc, _+_, _≤_, _<_}
 use native.Mathlib.Nat.{add-sub-cancel-left}
 use native.Mathlib.Omega.{arith}
 use lib.Dec.{eqb, lit<}
-use lib.ListN.{length, take, drop, length-append, length-drop, take-append-drop}
+use lib.ListN.{length, take, drop, length-append, length-drop, take-append-drop, List·getD-append}
 use lib.Seq.{length-take-le}
-use borrow.Author.Tests.{eqb-true}
+use borrow.Author.Tests.{eqb-true, le-leb}
 use Rattle.digits.proofs.Laws.Parts.{part-rest}
 use Rattle.digits.proofs.Laws.Refusals.{answered, cause-at, cause-of, pass-over}
 use Rattle.digits.specs.Paper.Bytes.{part}
@@ -29,7 +29,7 @@ use Rattle.layouts.proofs.Laws.Nest.{nest-bus}
 use Rattle.layouts.proofs.Laws.Nibe.{nibe-bus}
 use Rattle.layouts.proofs.Laws.Nikobus.{nikobus-bus}
 use Rattle.layouts.proofs.Theorems.{one-nikobus, one-nest, one-nibe, one-homiq}
-use Rattle.layouts.proofs.Laws.Starts.{Begun, nikobus-begun, nest-begun, nibe-begun, homiq-begun, nikobus-behind, nest-behind, nibe-behind, homiq-behind}
+use Rattle.layouts.proofs.Laws.Starts.{Begun, nikobus-begun, nikobus-second, nest-begun, nibe-begun, homiq-begun, nikobus-behind, nest-behind, nibe-behind, homiq-behind}
 use Rattle.layouts.specs.Paper.Layout as layout
 use Rattle.frames.specs.Paper.Kinds.{numberOf, layoutOf, known, KindCause, no-kind, Resolves, Frame, payloadFrom, payloadTo}
 use Rattle.frames.specs.Work.Frames.{recogniser, starts, frameLen, wherever, lenAt, fromAt, toAt, mayStart, HeadAt}
@@ -71,14 +71,14 @@ busOf Homiq = homiq-bus
 
 -- how a kind's frames begin, and that this does not depend on what stands behind them
 pub begun : (kind : Kind) (f : List ℕ) → layout.Form (layoutOf kind) f → Begun (starts kind) f
-begun Nikobus = nikobus-begun
-begun NestCommand = nest-begun Command
-begun NestResponse = nest-begun Response
-begun Nibe = nibe-begun
-begun Homiq = homiq-begun
+begun Nikobus f r = let q = nikobus-begun f r in record { four = q .four; mark = rw (q .mark) (le-leb _ _ (nikobus-second f r)) }
+begun NestCommand f r = nest-begun Command f r
+begun NestResponse f r = nest-begun Response f r
+begun Nibe f r = nibe-begun f r
+begun Homiq f r = homiq-begun f r
 
 pub behind : (kind : Kind) (f t : List ℕ) → 3 ≤ length f → starts kind (f ++ t) ≡ starts kind f
-behind Nikobus f t h = nikobus-behind f t h
+behind Nikobus f t h = rw (nikobus-behind f t h, List·getD-append f t 0 1 (omega arith))
 behind NestCommand f t h = nest-behind f t h Command
 behind NestResponse f t h = nest-behind f t h Response
 behind Nibe f t h = nibe-behind f t h

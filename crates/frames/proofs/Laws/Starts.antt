@@ -41,7 +41,7 @@ module _ (kind : Kind) where
     unfolding mayStart lenAt
     no-start e = none-or (lenAt kind s i) (λ h. true≢false (sym (head-begun (drop i s) h .1) ∙ e))
 
-    too-short : length s < i + 4 → lenAt kind s i ≡ 0
+    pub too-short : length s < i + 4 → lenAt kind s i ≡ 0
     unfolding lenAt
     too-short l = none-or (lenAt kind s i) (λ h. let q = head-begun (drop i s) h .0 in omega (arith, length-drop i s))
 

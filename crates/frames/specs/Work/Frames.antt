@@ -1,10 +1,11 @@
 -- The recognisers of the kinds, a line a kind, and what they find at a place of a buffer.
 -- Assumes nothing.
-use mathlib.Core.Bool.{Bool}
+use mathlib.Core.Bool.{Bool, _&&_}
 use mathlib.Core.List.{List}
 use mathlib.Core.Path.{_≡_}
 use Prim.Native.Nat.{ℕ, zero, suc}
-use lib.ListN.{take, drop}
+use lib.Dec.{leb}
+use lib.ListN.{getD, take, drop}
 use Rattle.layouts.specs.Paper.Nest.{preamble}
 use Rattle.layouts.specs.Paper.Starts.{nikobusStarts, nestStarts, nibeStarts, homiqStarts}
 use Rattle.layouts.specs.Work.Homiq.{homiqRecogniser}
@@ -25,9 +26,13 @@ recogniser NestResponse = nestRecogniser (preamble Response)
 recogniser Nibe = nibeRecogniser
 recogniser Homiq = homiqRecogniser
 
+-- of Nikobus also: the second character is at most `N`. In noise that leaves one start of seven
+abbrev pub nikobusBegins : List ℕ → Bool
+nikobusBegins s = nikobusStarts s && leb (getD s 1 0) 78
+
 -- whether a frame can begin with the first bytes of a list
 abbrev pub starts : Kind → List ℕ → Bool
-starts Nikobus = nikobusStarts
+starts Nikobus = nikobusBegins
 starts NestCommand = nestStarts Command
 starts NestResponse = nestStarts Response
 starts Nibe = nibeStarts

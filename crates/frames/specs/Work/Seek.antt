@@ -2,7 +2,8 @@
 -- Assumes nothing.
 use mathlib.Core.Bool.{cond}
 use mathlib.Core.List.{List, [], _∷_}
-use Prim.Native.Nat.{ℕ, zero, suc, _+_, _-_}
+use mathlib.Core.Path.{_≡_}
+use Prim.Native.Nat.{ℕ, zero, suc, _+_, _-_, _≤_}
 use lib.Dec.{eqb, leb}
 use lib.ListN.{length}
 use Rattle.digits.specs.declared.refusal.Refusal.the-variants.{NoFrame, NoKind, NoPlace}
@@ -28,6 +29,12 @@ seekAmong kind s (suc n) i = orElse (lenAt kind s i) i (fromAt kind s i) (toAt k
 -- the first frame of s from the place i on
 unfoldable pub seek : Kind → List ℕ → ℕ → Found
 seek kind s i = seekAmong kind s (length s - i) i
+
+-- the places from i to j are passed: what is found from j on is what is found from i on
+pub record Passed (kind : Kind) (s : List ℕ) (i j : ℕ) : Type 0 where
+  pub onward : i ≤ j
+  pub within : j ≤ length s
+  pub same : seek kind s j ≡ seek kind s i
 
 -- the kind of the list that a number is
 unfoldable pub among : List Kind → ℕ → Resolved

@@ -30,21 +30,21 @@ pub record Begun (starts : List ℕ → Bool) (f : List ℕ) : Type 0 where
   pub four : 4 ≤ length f
   pub mark : starts f ≡ true
 
--- of three tests the last two hold
-pub all-three : (x y z : Bool) → y ≡ true → z ≡ true → x ≡ (x && (y && z))
-all-three x y z e f = rw (e, f) (sym (and-true x))
-
 -- ---- each bus
 
-digit-low : (v : ℕ) → v < 16 → 48 ≤ hexDigit v
-digit-low v h = go (hexDigit v) (digit-upper v h)
+digit-between : (v : ℕ) → v < 16 → (48 ≤ hexDigit v) × (hexDigit v ≤ 78)
+digit-between v h = go (hexDigit v) (digit-upper v h)
   where
-    go : (d : ℕ) → T ((leb 48 d && leb d 57) || (leb 65 d && leb d 70)) → 48 ≤ d
+    -- a number between two others
+    between : (a b d : ℕ) → T (leb a d && leb d b) → (a ≤ d) × (d ≤ b)
+    between a b d t = let q = T-and (leb a d) (leb d b) t in (leb→le a d (q .0), leb→le d b (q .1))
+
+    go : (d : ℕ) → T ((leb 48 d && leb d 57) || (leb 65 d && leb d 70)) → (48 ≤ d) × (d ≤ 78)
     go d t = either (leb 48 d && leb d 57) refl t
       where
-        either : (b : Bool) → (leb 48 d && leb d 57) ≡ b → T (b || (leb 65 d && leb d 70)) → 48 ≤ d
-        either true e k = leb→le 48 d (T-and (leb 48 d) (leb d 57) (rw e tt) .0)
-        either false e k = let h : 65 ≤ d = leb→le 65 d (T-and (leb 65 d) (leb d 70) k .0) in omega arith
+        either : (b : Bool) → (leb 48 d && leb d 57) ≡ b → T (b || (leb 65 d && leb d 70)) → (48 ≤ d) × (d ≤ 78)
+        either true e k = let q = between 48 57 d (rw e tt) in (omega arith, omega arith)
+        either false e k = let q = between 65 70 d k in (omega arith, omega arith)
 
 -- bytes that begin so
 begun : (test : ℕ → ℕ → ℕ → Bool) (f g : List ℕ) → f ≡ g → 4 ≤ length g → test (getD g 0 0) (getD g 1 0) (getD g 2 0) ≡ true → Begun (firstThree test) f
@@ -64,9 +64,21 @@ nikobus-begun f r = go (r .fields) (r .limits) (r .laid)
         let z : List ℕ = hexWord x ++ hexByte y ++ (0x0D ∷ []) in
         let l : (length p * 2 + 10) / 16 < 16 = omega arith in
         begun nikobusTest f (bytesOf N.nikobus (N.link p x y)) e (omega (arith, length-append (hexBytes p) z))
-        (le-leb 48 (hexDigit ((length p * 2 + 10) / 16)) (digit-low ((length p * 2 + 10) / 16) l))
+        (le-leb 48 (hexDigit ((length p * 2 + 10) / 16)) (digit-between ((length p * 2 + 10) / 16) l .0))
     go (N.press d) (N.press-limits six hex) e = begun nikobusTest f (bytesOf N.nikobus (N.press d)) e (omega (arith, length-append d (0x0D ∷ []))) refl
     go N.tail N.tail-limits e = begun nikobusTest f (bytesOf N.nikobus N.tail) e (omega arith) refl
+
+-- the second character is at most `N`
+pub nikobus-second : (f : List ℕ) → Form N.nikobus f → getD f 1 0 ≤ 78
+unfolding hexByte
+nikobus-second f r = go (r .fields) (r .limits) (r .laid)
+  where
+    go : (m : N.Nikobus) → N.Limits m → f ≡ bytesOf N.nikobus m → getD f 1 0 ≤ 78
+    go (N.link p x y) (N.link-limits some short b c d) e =
+        let l : (length p * 2 + 10) / 16 < 16 = omega arith in
+        rw e (digit-between ((length p * 2 + 10) / 16) l .1)
+    go (N.press d) (N.press-limits six hex) e = rw e (omega arith)
+    go N.tail N.tail-limits e = rw e (omega arith)
 
 pub nest-begun : (d : Direction) (f : List ℕ) → Form (nests.nest d) f → Begun (nestStarts d) f
 unfolding nestStarts lowByteFirst

@@ -9,19 +9,19 @@ use Rattle.frames.proofs.seek.first.Statement.{statement}
 use Rattle.frames.proofs.seek.first.Tie as tie
 
 returns : tie.Need-returns
-returns c = let s = c .before .before .before .before in c .first-of .ensures ∙ sym (ap (λ (k : Kind). seek k (now (s .args .buffer)) (s .args .place)) (c .before .enum-told .given .1))
+returns c = let s = c .before .before .before .before .before in c .first-of .ensures ∙ sym (ap (λ (k : Kind). seek k (now (s .args .buffer)) (s .args .place)) (c .before .before .enum-told .given .1))
 
 returns-2 : tie.Need-returns-2
-returns-2 c = let s = c .before .before .before .before in c .first-of2 .ensures ∙ sym (ap (λ (k : Kind). seek k (now (s .args .buffer)) (s .args .place)) (c .before .enum-told2 .given .1))
+returns-2 c = let s = c .before .before .before .before .before in c .first-of2 .ensures ∙ sym (ap (λ (k : Kind). seek k (now (s .args .buffer)) (s .args .place)) (c .before .before .enum-told2 .given .1))
 
 returns-3 : tie.Need-returns-3
-returns-3 c = let s = c .before .before .before .before in c .first-of3 .ensures ∙ sym (ap (λ (k : Kind). seek k (now (s .args .buffer)) (s .args .place)) (c .before .enum-told3 .given .1))
+returns-3 c = let s = c .before .before .before .before .before in c .first-of3 .ensures ∙ sym (ap (λ (k : Kind). seek k (now (s .args .buffer)) (s .args .place)) (c .before .before .enum-told3 .given .1))
 
 returns-4 : tie.Need-returns-4
-returns-4 c = let s = c .before .before .before .before in c .first-of4 .ensures ∙ sym (ap (λ (k : Kind). seek k (now (s .args .buffer)) (s .args .place)) (c .before .enum-told4 .given .1))
+returns-4 c = let s = c .before .before .before .before .before in c .first-of4 .ensures ∙ sym (ap (λ (k : Kind). seek k (now (s .args .buffer)) (s .args .place)) (c .before .before .enum-told4 .given .1))
 
 returns-5 : tie.Need-returns-5
-returns-5 c = let s = c .before .before .before .before in c .first-of5 .ensures ∙ sym (ap (λ (k : Kind). seek k (now (s .args .buffer)) (s .args .place)) (c .before .enum-told5 .given .1))
+returns-5 c = let s = c .before .before .before .before .before in c .first-of5 .ensures ∙ sym (ap (λ (k : Kind). seek k (now (s .args .buffer)) (s .args .place)) (c .before .before .enum-told5 .given .1))
 
 pub first-spec : {M : Type 1} → statement M
 first-spec =
@@ -29,13 +29,18 @@ first-spec =
     (tie.spec
     (λ c. search needs)
     (λ c κs. search needs)
-    (λ c. search needs)
     (λ c κs. search needs)
     (λ c. search needs)
     (λ c κs. search needs)
-    (λ c. search needs)
     (λ c κs. search needs)
     (λ c. search needs)
+    (λ c κs. search needs)
+    (λ c κs. search needs)
+    (λ c. search needs)
+    (λ c κs. search needs)
+    (λ c κs. search needs)
+    (λ c. search needs)
+    (λ c κs. search needs)
     (λ c κs. search needs)
     returns
     returns-2

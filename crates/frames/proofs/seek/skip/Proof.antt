@@ -1,43 +1,61 @@
--- `frames::seek::skip` meets its contract: a place where no frame can begin changes nothing of what is found.
+-- `frames::seek::skip` meets its contract: a place where no frame can begin is passed, and so are the places that `next` passes.
 -- Assumes nothing.
-use mathlib.Core.Path.{_≡_, refl, sym, _∙_}
-use Prim.Native.Nat.{_≤_, _-_}
+use mathlib.Core.Path.{sym, _∙_}
+use Prim.Native.Nat.{_-_}
 use native.Mathlib.Omega.{arith}
 use lib.ListN.{length}
-use borrow.Author.Needs.{needs}
-use denote.Ref.{now}
-use Rattle.frames.specs.Work.Seek.{seek}
-use Rattle.frames.proofs.Laws.Starts.{seek-pass}
+use Rattle.frames.specs.Work.Seek.{Passed}
+use Rattle.frames.proofs.Laws.Loops.{none-passed, one-passed, then-passed, rest-passed}
 use Rattle.frames.proofs.seek.skip.Statement.{statement}
 use Rattle.frames.proofs.seek.skip.Tie as tie
 
 abbrev Inv-loop : tie.InvT-loop
-Inv-loop kind buffer place end at₀ at = (place ≤ at) × ((at ≤ length buffer) × (seek kind buffer at ≡ seek kind buffer place))
+Inv-loop kind buffer place when end at₀ at = Passed kind buffer place at
 
 abbrev μ-loop : tie.MeasureT-loop
-μ-loop kind buffer place end at₀ at = end - at
-
-loop-holds : tie.Need-loop-holds Inv-loop μ-loop
-loop-holds c = (omega arith, (c .before .pre .1, refl))
+μ-loop kind buffer place when end at₀ at = end - at
 
 returns : tie.Need-returns Inv-loop μ-loop
-returns c = c .before .before .before .loop .inv
+returns c = rest-passed (c .before .before .pre) (omega (arith, c .if1 .taken))
 
-add-at : tie.Need-add-at Inv-loop μ-loop
-add-at c = let s = c .before .before .before .before .before in omega (arith, s .pre .0, s .good, c .before .before .loop-test .taken)
+sub-end : tie.Need-sub-end Inv-loop μ-loop
+sub-end c = omega (arith, c .if1 .left)
+
+loop-holds : tie.Need-loop-holds Inv-loop μ-loop
+loop-holds c = none-passed (c .before .before .pre)
+
+may-start-requires : tie.Need-may-start-requires Inv-loop μ-loop
+may-start-requires c κs = omega (arith, c .loop-test .taken, c .before .before .if1 .left)
+
+returns-2 : tie.Need-returns-2 Inv-loop μ-loop
+returns-2 c = c .before .before .before .loop .inv
+
+add-next : tie.Need-add-next Inv-loop μ-loop
+add-next c = omega (arith, c .before .before .loop-test .taken, c .before .before .before .before .before .before .good)
+
+add-next-2 : tie.Need-add-next-2 Inv-loop μ-loop
+add-next-2 c = omega (arith, c .before .before .loop-test .taken, c .before .before .before .before .before .before .good)
+
+sub-next : tie.Need-sub-next Inv-loop μ-loop
+sub-next c = omega (arith, c .before .before .before .loop .inv .onward)
+
+next-requires : tie.Need-next-requires Inv-loop μ-loop
+next-requires c κs = omega (arith, c .before .before .loop-test .taken, c .before .before .before .before .if1 .left)
 
 loop-less : tie.Need-loop-less Inv-loop μ-loop
-loop-less c = omega (arith, c .before .before .loop-test .taken)
+loop-less c = omega (arith, c .next .ensures .onward, c .before .before .before .loop-test .taken)
 
 loop-again : tie.Need-loop-again Inv-loop μ-loop
 loop-again c =
-    let s = c .before .before .before .before .before in
-    let i = c .before .before .before .loop .inv in
-    let h = c .before .before .loop-test .taken in
-    (omega (arith, i .0), (omega (arith, s .pre .0, h), seek-pass (s .args .kind) (now (s .args .buffer)) _ (omega (arith, s .pre .0, h)) (sym (c .before .may-start .ensures) ∙ c .if1 .left) ∙ i .1 .1))
+    let h = c .before .before .before .loop-test .taken in
+    then-passed (c .before .before .before .before .loop .inv)
+    (then-passed (one-passed (omega (arith, h, c .before .before .before .before .before .if1 .left)) (sym (c .before .before .may-start .ensures) ∙ c .before .if2 .left))
+    (c .next .ensures))
 
-returns-2 : tie.Need-returns-2 Inv-loop μ-loop
-returns-2 c = c .before .loop .inv
+returns-3 : tie.Need-returns-3 Inv-loop μ-loop
+returns-3 c =
+    let i = c .before .loop .inv in
+    then-passed i (rest-passed (i .within) (omega (arith, c .loop-test .left, c .before .before .if1 .left)))
 
 pub skip-spec : {M : Type 1} → statement M
 skip-spec =
@@ -45,10 +63,15 @@ skip-spec =
     (tie.spec
     Inv-loop
     μ-loop
-    loop-holds
-    (λ c κs. search needs)
     returns
-    add-at
+    sub-end
+    loop-holds
+    may-start-requires
+    returns-2
+    add-next
+    add-next-2
+    sub-next
+    next-requires
     loop-less
     loop-again
-    returns-2)
+    returns-3)

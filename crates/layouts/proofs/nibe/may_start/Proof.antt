@@ -1,6 +1,6 @@
 -- `layouts::nibe::may_start` meets its contract: by its tests.
 -- Assumes nothing.
-use borrow.Author.Tests.{eq-eqb, ne-eqb, le-leb, lt-leb}
+use borrow.Author.Tests.{le-leb, lt-leb}
 use Rattle.layouts.specs.Paper.Starts.{nibeStarts}
 use borrow.Author.Needs.{needs}
 use Rattle.layouts.proofs.nibe.may_start.Statement.{statement}
@@ -10,20 +10,10 @@ returns : tie.Need-returns
 unfolding nibeStarts
 returns c = simp (lt-leb _ _ (c .if1 .taken))
 
-shared-slice-read-if2 : tie.Need-shared-slice-read-if2
-shared-slice-read-if2 c = search needs
-
-shared-slice-read-result : tie.Need-shared-slice-read-result
-shared-slice-read-result c = search needs
-
 returns-2 : tie.Need-returns-2
 unfolding nibeStarts
-returns-2 c = simp (le-leb 3 _ (c .before .before .before .if1 .left), eq-eqb _ _ (c .before .if2 .taken))
-
-returns-3 : tie.Need-returns-3
-unfolding nibeStarts
-returns-3 c = simp (le-leb 3 _ (c .before .before .if1 .left), ne-eqb _ _ (c .if2 .left))
+returns-2 c = simp (le-leb 3 _ (c .before .before .if1 .left))
 
 pub may-start-spec : {M : Type 1} → statement M
 may-start-spec =
-    tie.close (tie.spec returns shared-slice-read-if2 shared-slice-read-result returns-2 returns-3)
+    tie.close (tie.spec returns (λ c. search needs) (λ c. search needs) returns-2)
