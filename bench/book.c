@@ -41,12 +41,19 @@ static int same(void) {
 }
 
 /* Two rows: a book that is filled with such frames. */
-static int compare(const char *what, void of(struct piece *e, u8 kind)) {
+static int compare(const char *what, void of(struct piece *e, u8 kind), double most_adding, double most_listing) {
     static const struct job adding = {make, add_ours, add_theirs, same, 1.5}, listing = {make, list_ours, list_theirs, same, 0};
     char input[80];
     make_piece = of;
     snprintf(input, sizeof input, "%s: %s", kind_names[kind], what);
-    return row("book, add", input, 1.5, &adding) + row("book, list", input, 1.5, &listing);
+    return row("book, add", input, most_adding, &adding) + row("book, list", input, most_listing, &listing);
+}
+
+/* Short frames. Above 1.25 are Nibe's and Homiq's, alone and among the others. Homiq's: our test of its fields takes longer than C's, and what an
+   entry says is tested again for its line. What keeps Nibe's above has not been found. */
+static int compare_short(void) {
+    static const double adding[] = {1.25, 1.25, 1.25, 1.25, 1.35, 1.35}, listing[] = {1.6, 1.3, 1.25, 1.3, 1.5, 1.5};
+    return compare("short frames, all messages", make_message, adding[kind], listing[kind]);
 }
 
 /* The kinds in turn, with frames of middle length: books of every size have them in the same parts. */
@@ -75,10 +82,10 @@ int main(void) {
     int bad = 0;
     state = 1; /* the same messages in each run */
     for (kind = 0; kind <= 5; kind++) {
-        bad += compare("short frames, all messages", make_message);
-        bad += compare("the longest frames", make_longest);
+        bad += compare_short();
+        bad += compare("the longest frames", make_longest, 1.25, 1.25);
     }
     kind = 0;
-    bad += compare("middle frames, in turn", make_in_turn);
+    bad += compare("middle frames, in turn", make_in_turn, 1.25, 1.25);
     return bad ? 1 : 0;
 }

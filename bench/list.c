@@ -51,24 +51,25 @@ static usize zero(u8 *f, u8 kind) {
     return 1;
 }
 
-static int compare(const char *what, usize (*of)(u8 *f, u8 kind)) {
+static int compare(const char *what, usize (*of)(u8 *f, u8 kind), double most) {
     static const struct job job = {make, ours, theirs, same, 0};
     char name[80];
     frame = of;
     snprintf(name, sizeof name, "%s: %s", kind_names[kind], what);
-    return row("listing", name, 1.5, &job);
+    return row("listing", name, most, &job);
 }
 
 int main(void) {
     int bad = 0;
     state = 1; /* the same messages in each run */
     for (kind = 1; kind <= 5; kind++) {
-        bad += compare("short frames, all messages", message);
-        bad += compare("the longest frames", good_longest);
+        /* short lines are at 1.20 to 1.25, and so are texts (a guess: we test the room's end at each label and value, and C never) */
+        bad += compare("short frames, all messages", message, 1.3);
+        bad += compare("the longest frames", good_longest, 1.25);
         if (kind == 3)
-            bad += compare("the longest texts", text);
-        bad += compare("noise", noise);
-        bad += compare("zeros", zero);
+            bad += compare("the longest texts", text, 1.3);
+        bad += compare("noise", noise, 1.0);
+        bad += compare("zeros", zero, 1.0);
     }
     return bad ? 1 : 0;
 }

@@ -162,8 +162,8 @@ static usize middle(u8 *f, u8 which) {
     }
 }
 
-/* Frames with noise before each of them. Above 1.5 are Nest, whose CRC does not overlap with as much of our noise as of the expert's, since that
-   passes it in fewer instructions, and Homiq, whose fields take us longer than C. */
+/* Frames with noise before each of them. Above 1.5 are Homiq, whose fields take us longer than C, and Nest. (A guess: while a CRC is worked out,
+   the processor runs ahead into the noise, and the expert's noise takes fewer instructions.) */
 static int in_noise(usize noise) {
     noisy = noise;
     copied_length = middle(copied, kind);

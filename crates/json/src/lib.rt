@@ -4,9 +4,11 @@ use numbers::single;
 use numbers::single::Fit;
 use numbers::text;
 use puts::Written;
+ghost use mathlib.Core.Bool.{true};
 ghost use mathlib.Core.Path.{_≡_};
-ghost use mathlib.Core.List.{_++_};
+ghost use mathlib.Core.List.{[], _∷_, _++_};
 ghost use Prim.Native.Nat.{_≤_};
+ghost use lib.ListN.{length, take};
 ghost use lib.IntN.{pos};
 ghost use Rattle.digits.specs.Paper.Ascii.{ascii};
 ghost use Rattle.digits.specs.Paper.Hex.{hexByte};
@@ -34,13 +36,45 @@ pub fn hex(s: &[u8], room: &mut [u8], at: usize) -> usize
     puts::byte(b'"', room, end)
 }
 
-// Puts a string, one character a byte.
+// Puts a string, one character a byte. What needs no escape at its head is copied at once: a field of Homiq is nothing else, and so are most texts.
 pub fn chars(s: &[u8], room: &mut [u8], at: usize) -> usize
     ensures { λ r. ⌜ Put (now (room .entry)) (now (room .exit)) at r (paper.chars (now (s .entry))) ⌝ }
 {
     let from = puts::byte(b'"', room, at);
-    let end = escaped_bytes(s, room, from);
+    let n = plain(s);
+    let next = puts::bytes(&s[0..n], room, from);
+    let end = escaped_bytes(&s[n..], room, next);
     puts::byte(b'"', room, end)
+}
+
+// How many bytes at the head of s are spelt as themselves.
+fn plain(s: &[u8]) -> usize
+    ensures { λ r. ⌜ r ≤ length (now (s .entry)) ⌝ }
+    ensures { λ r. ⌜ paper.eachEscaped (take r (now (s .entry))) ≡ take r (now (s .entry)) ⌝ }
+{
+    let mut i = 0;
+    while i < s.len() {
+        if !is_plain(s[i]) {
+            return i;
+        }
+        i += 1;
+    }
+    i
+}
+
+fn is_plain(b: u8) -> bool
+    ensures { λ r. ⌜ (r ≡ true → b ∷ [] ≡ paper.escaped b) ⌝ }
+{
+    if b == b'"' {
+        return false;
+    }
+    if b == b'\\' {
+        return false;
+    }
+    if b < 0x20 {
+        return false;
+    }
+    b <= 0x7E
 }
 
 fn escaped_bytes(s: &[u8], room: &mut [u8], at: usize) -> usize
@@ -73,13 +107,12 @@ fn escaped(b: u8, room: &mut [u8], at: usize) -> usize
     puts::byte(b, room, at)
 }
 
-// Puts a character that is spelt by its number.
+// Puts a character that is spelt by its number: six characters at once, so that the room's end is tested once for them.
 fn code(b: u8, room: &mut [u8], at: usize) -> usize
     ensures { λ r. ⌜ Put (now (room .entry)) (now (room .exit)) at r (ascii "\\u00" ++ hexByte b) ⌝ }
 {
-    let next = puts::bytes(b"\\u00", room, at);
-    let last = puts::byte(hex::digit(b / 16), room, next);
-    puts::byte(hex::digit(b), room, last)
+    let six = [b'\\', b'u', b'0', b'0', hex::digit(b / 16), hex::digit(b)];
+    puts::bytes(&six, room, at)
 }
 
 // Puts `true` or `false`.
