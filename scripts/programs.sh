@@ -10,7 +10,7 @@
 . "${BASH_SOURCE[0]%/*}/run.sh"
 
 # How long bin/prove takes from nothing, on two cores.
-minutes=8
+minutes=10
 
 # below ROOT CRATE: the crates and the kit's libraries below CRATE, by ROOT/crates.txt.
 below() {

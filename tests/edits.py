@@ -1,7 +1,8 @@
 #!/usr/bin/env python3
 """Whether the must-fail edits show what they are said to show, by the logs that `rt ci` left in target/must-fail/.
 
-- No two changes of an edit stand in the same function (tests/changes.py says which functions a change stands in).
+- No two changes of an edit stand in the same function (tests/changes.py says which functions a change stands in), nor in two that call each
+  other: these have one proof.
 - Where a change stands, the first thing that the prover says of the function is that a fact does not hold: not that the proof no longer fits
   the code, nor that it waits for another function. Of a changed definition it is the first thing that the prover says at all.
 - Each public function of a library is left unproved by two wrong answers at least, of its own code or of what it calls. (A changed definition
@@ -29,8 +30,8 @@ class Log:
         error = re.compile(r".*/%s/%s/proofs/(\S+)/Proof\.antt:\d+:\d+: error: (.*)" % (crate, edit))
         for line in lines:
             found = error.match(line)
-            if found:
-                self.said.setdefault("::".join([crate, *found.group(1).split("/")]), found.group(2))
+            for function in functions.proved_in(crate, found.group(1)) if found else ():
+                self.said.setdefault(function, found.group(2))
             if not self.first and (" error: " in line or "it is not proved that" in line):
                 self.first = line.strip()
             found = re.match(r"fn (\S+): (?:not proved|no proof|could not tell)(.*)", line)
@@ -75,6 +76,7 @@ def edit_shows(path, shown):
             amiss = "" if is_fact(log.first) else "refused for another reason than a fact: %s" % log.first[:200]
         else:
             inside = changes.stands_in(change, all_changes)
+            inside = inside.union(*(cycle for cycle in functions.called_by_each_other(change.crate) if cycle & inside))
             twice = sorted(inside & stands.keys())
             stands.update(dict.fromkeys(inside, change.name))
             if twice:

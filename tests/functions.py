@@ -35,6 +35,18 @@ def functions_in(crate, path, root=ROOT):
             begun = None
 
 
+def proved_in(crate, place):
+    """The functions whose proof stands in a folder of `proofs`: one, or all those that call each other, joined by `+`."""
+    *module, last = place.split("/")
+    return ["::".join([crate, *module, name]) for name in last.strip("+").split("+")]
+
+
+def called_by_each_other(crate):
+    """The sets of a crate's functions that call each other, and so have one proof."""
+    proofs = ROOT / "crates" / crate / "proofs"
+    return [set(proved_in(crate, str(path.relative_to(proofs)))) for path in sorted(proofs.rglob("+*"))]
+
+
 def libraries(root=ROOT):
     """The crates that are libraries."""
     return sorted(path.parent.parent.name for path in (root / "crates").glob("*/src/lib.rt"))

@@ -1,5 +1,5 @@
-/* The functions of the crate `probe`, which are for the tests alone: the check values, whole and in pieces, and hex digits. A slice is a
-   pointer, then a length. */
+/* The functions of the crate `probe`, which are for the tests alone: the check values, whole and in pieces, hex digits, and the test of a
+   JSON text. A slice is a pointer, then a length. */
 #ifndef PROBE_H
 #define PROBE_H
 
@@ -18,5 +18,7 @@ u8 probe_nibe_xor_after(u8 v, const u8 *s, usize n);
 u8 probe_homiq_crc_after(u8 v, const u8 *s, usize n);
 
 usize probe_hex(const u8 *s, usize n, u8 *room, usize room_length, usize at);
+
+_Bool probe_jsontext(const u8 *s, usize n);
 
 #endif

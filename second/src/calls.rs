@@ -5,6 +5,7 @@ use crate::book;
 use crate::checks::{self, Check};
 use crate::digits;
 use crate::frames::{self, build, starts, Compared, Failed, Head};
+use crate::jsontext;
 use crate::lines::{self, Value};
 use crate::list;
 use crate::messages::{self, Message};
@@ -73,6 +74,7 @@ fn called(request: &[u8]) -> Option<Answer> {
         "book" => in_book(function, &mut words),
         "list" => in_list(function, &mut words),
         "sheet" => in_sheet(function, &mut words),
+        "jsontext" => in_jsontext(function, &mut words),
         _ => None,
     }?;
     words.end()?;
@@ -673,6 +675,22 @@ fn in_sheet(function: &str, words: &mut Words) -> Option<Answer> {
     }
 }
 
+fn in_jsontext(function: &str, words: &mut Words) -> Option<Answer> {
+    match function {
+        "accepts" => says(jsontext::accepts(&words.bytes()?)),
+        "members::count" => tries(jsontext::count(&words.bytes()?)),
+        "members::value_of" => {
+            let ends = jsontext::value_of(&words.bytes()?, &words.bytes()?);
+            tries(ends.map(|(from, to)| format!("{from} {to}")))
+        }
+        "members::characters" => {
+            let bytes = jsontext::bytes_of_string(&words.bytes()?);
+            writes(words.room()?, bytes)
+        }
+        _ => None,
+    }
+}
+
 /// A type: width, whether it has a sign, decimals.
 fn typed(result: Result<Type, Refusal>) -> Option<Answer> {
     tries(result.map(|listed| {
@@ -709,6 +727,10 @@ mod tests {
             "puts::whole",
             "json::chars",
             "json::signed",
+            "jsontext::accepts",
+            "jsontext::members::count",
+            "jsontext::members::value_of",
+            "jsontext::members::characters",
             "frames::search",
             "frames::why",
             "frames::payload",

@@ -515,6 +515,8 @@ fn each_function_answers() {
         ("digits::refusal::number Book", "ok 8"),
         ("digits::refusal::number NoRegister", "ok 9"),
         ("digits::refusal::number BadSheet", "ok 10"),
+        ("digits::refusal::number NotInGrammar", "ok 11"),
+        ("digits::refusal::number BadMembers", "ok 12"),
         ("checks::nikobus::Crc16::rule", "ok 16 4129 65535 high"),
         ("checks::nikobus::Crc8::rule", "ok 8 153 0 high"),
         ("checks::nest::Crc::rule", "ok 16 4129 0 high"),

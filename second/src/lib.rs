@@ -7,6 +7,7 @@ pub mod calls;
 pub mod checks;
 pub mod digits;
 pub mod frames;
+pub mod jsontext;
 pub mod lines;
 pub mod list;
 pub mod messages;
@@ -19,6 +20,8 @@ pub mod words;
 mod known_points;
 #[cfg(test)]
 mod known_splits;
+#[cfg(test)]
+mod known_texts;
 #[cfg(test)]
 mod known_verdicts;
 

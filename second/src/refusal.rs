@@ -22,6 +22,10 @@ pub enum Refusal {
     NoRegister,
     /// A sheet that is not as described (02, K2).
     BadSheet,
+    /// A text that is not in the grammar of JSON, or over a limit (02, K4).
+    NotInGrammar,
+    /// Members that are missing, extra, of another sort or spelling, or that disagree (02, K4).
+    BadMembers,
 }
 
 impl Refusal {
@@ -37,6 +41,8 @@ impl Refusal {
             Refusal::Book => 8,
             Refusal::NoRegister => 9,
             Refusal::BadSheet => 10,
+            Refusal::NotInGrammar => 11,
+            Refusal::BadMembers => 12,
         }
     }
 
@@ -53,6 +59,8 @@ impl Refusal {
             b"Book" => Some(Refusal::Book),
             b"NoRegister" => Some(Refusal::NoRegister),
             b"BadSheet" => Some(Refusal::BadSheet),
+            b"NotInGrammar" => Some(Refusal::NotInGrammar),
+            b"BadMembers" => Some(Refusal::BadMembers),
             _ => None,
         }
     }

@@ -1,6 +1,6 @@
 // The functions: a row each, with its name, its number and the types of its parameters. The numbers of a library's functions begin with the
-// library's own, and by its number the program that has a function knows it. There are five tables, since one of all rows would take long
-// to look through.
+// library's own, and by its number the program that has a function knows it. There are six tables, since one of all rows would take long to
+// look through.
 use super::request;
 use super::table;
 
@@ -9,13 +9,14 @@ pub(crate) fn read(line: &[u8], words: &mut [u64; 14], store: &mut [u8]) {
     let n = table::until(line, b':');
     let library = table::number(
         &line[0..n],
-        b"digits\nchecks\nputs\njson\nnumbers\nlayouts\nbuilds\nframes\nmessages\ncommands\nlines\nbook\nlist\nsheet\n",
+        b"digits\nchecks\nputs\njson\nnumbers\nlayouts\nbuilds\nframes\nmessages\ncommands\nlines\nbook\nlist\nsheet\njsontext\n",
     );
     match library {
         1..=5 => of_values(line, words, store),
         6..=8 => of_frames(line, words, store),
         9..=11 => of_messages(line, words, store),
         14 => of_sheets(line, words, store),
+        15 => of_texts(line, words, store),
         _ => of_books(line, words, store),
     }
 }
@@ -155,5 +156,14 @@ fn of_sheets(line: &[u8], words: &mut [u64; 14], store: &mut [u8]) {
         sheet::type_in 1407 bytes u16\n\
         sheet::splits 1408 bytes bytes\n\
         sheet::unsolicited 1409 u8\n";
+    request::read(rows, line, words, store)
+}
+
+fn of_texts(line: &[u8], words: &mut [u64; 14], store: &mut [u8]) {
+    let rows = b"\
+        jsontext::accepts 1501 bytes\n\
+        jsontext::members::count 1502 bytes\n\
+        jsontext::members::value_of 1503 bytes bytes\n\
+        jsontext::members::characters 1504 bytes room\n";
     request::read(rows, line, words, store)
 }

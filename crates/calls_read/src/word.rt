@@ -31,7 +31,7 @@ pub(crate) fn of(kind: usize, word: &[u8]) -> Value {
         11 => named(word, b"0\n1\n2\n3\n"),
         12 => named(
             word,
-            b"NoFrame\nKind\nPlace\nRoom\nLimits\nAbove\nForm\nBook\nNoRegister\nBadSheet\n",
+            b"NoFrame\nKind\nPlace\nRoom\nLimits\nAbove\nForm\nBook\nNoRegister\nBadSheet\nNotInGrammar\nBadMembers\n",
         ),
         13 => named(word, b"nikobus\nnest-command\nnest-response\nnibe\nhomiq\n"),
         _ => Value::Wrong,

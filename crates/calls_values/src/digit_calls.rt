@@ -98,6 +98,8 @@ fn named(n: u64) -> Refusal {
         6 => Refusal::BadForm,
         7 => Refusal::NoBook,
         8 => Refusal::NoRegister,
-        _ => Refusal::BadSheet,
+        9 => Refusal::BadSheet,
+        10 => Refusal::NotInGrammar,
+        _ => Refusal::BadMembers,
     }
 }

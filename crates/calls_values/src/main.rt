@@ -1,11 +1,12 @@
-// Answers the records that ask for a function of `digits`, `checks`, `puts`, `json`, `numbers` or `sheet`, and passes all records on.
-// crates/calls_read/src/request.rt says what a record is.
+// Answers the records that ask for a function of `digits`, `checks`, `puts`, `json`, `numbers`, `sheet` or `jsontext`, and passes all
+// records on. crates/calls_read/src/request.rt says what a record is.
 mod answer;
 mod check_calls;
 mod digit_calls;
 mod number_calls;
 mod put_calls;
 mod sheet_calls;
+mod text_calls;
 mod value;
 
 use answer::Answer;
@@ -77,7 +78,7 @@ fn answered(record: &mut [u8], room: &mut [u8]) {
 // Whether the function is of a library that this program has.
 fn asked(function: u64) -> bool {
     match function / 100 {
-        1..=5 | 14 => true,
+        1..=5 | 14 | 15 => true,
         _ => false,
     }
 }
@@ -88,7 +89,8 @@ fn call(function: u64, x: u64, y: u64, z: u64, first: &[u8], s: &[u8], room: &mu
         2 => check_calls::call(function, value::small(x), first, s),
         3 | 4 => put_calls::call(function, x, y, z, s, room),
         5 => number_calls::call(function, x, y, z, s, room),
-        _ => sheet_calls::call(function, x, first, s, room),
+        14 => sheet_calls::call(function, x, first, s, room),
+        _ => text_calls::call(function, first, s, room),
     }
 }
 

@@ -45,6 +45,7 @@ use Rattle.claims.proofs.Table.Puts as puts
 use Rattle.claims.proofs.Table.Numbers as numbers
 use Rattle.claims.proofs.Table.Json as json
 use Rattle.claims.proofs.Table.Sheet as sheet
+use Rattle.claims.proofs.Table.Jsontext as jsontext
 use Rattle.claims.proofs.Table.Layouts as layouts
 use Rattle.claims.proofs.Table.Builds as builds
 use Rattle.claims.proofs.Table.Frames as frames
@@ -67,6 +68,7 @@ table =
     ++ (numbers.rows
     ++ (json.rows
     ++ (sheet.rows
+    ++ (jsontext.rows
     ++ (layouts.rows
     ++ (builds.rows
     ++ (frames.rows
@@ -75,7 +77,7 @@ table =
     ++ (lines.rows
     ++ (book.rows
     ++ (list.rows
-    ++ host.rows)))))))))))))
+    ++ host.rows))))))))))))))
 
 -- the functions of two lists
 joined : {Property : Row → Type 3} {xs ys : List Row} → Every Property xs → Every Property ys → Every Property (xs ++ ys)
@@ -90,6 +92,7 @@ demand-1 =
     (joined numbers.rows-proper
     (joined json.rows-proper
     (joined sheet.rows-proper
+    (joined jsontext.rows-proper
     (joined layouts.rows-proper
     (joined builds.rows-proper
     (joined frames.rows-proper
@@ -98,7 +101,7 @@ demand-1 =
     (joined lines.rows-proper
     (joined book.rows-proper
     (joined list.rows-proper
-    host.rows-proper)))))))))))))
+    host.rows-proper))))))))))))))
 
 -- these are the functions that are listed, with the numbers that they refuse with
 pub the-table : map listed table ≡ functions

@@ -68,6 +68,8 @@ use Rattle.sheet.specs.Paper.Answers as sheet
 use Rattle.sheet.specs.Paper.Map.{sheetIn}
 use Rattle.sheet.specs.Paper.Sheet.{Lookup, find as listed-in}
 use Rattle.sheet.proofs.Known as sheet-known
+use Rattle.jsontext.specs.Paper.Members as text-members
+use Rattle.jsontext.proofs.Known as text-known
 use Rattle.claims.specs.Paper.Causes as causes
 use Rattle.host.specs.Paper.Answers.{flag}
 use Rattle.host.specs.Paper.Panel.{ClimateCause}
@@ -76,6 +78,7 @@ use Rattle.claims.specs.Paper.Table.Digits as digits
 use Rattle.claims.specs.Paper.Table.Puts as puts
 use Rattle.claims.specs.Paper.Table.Numbers as numbers
 use Rattle.claims.specs.Paper.Table.Sheet as sheets
+use Rattle.claims.specs.Paper.Table.Jsontext as texts
 use Rattle.claims.specs.Paper.Table.Builds as builds
 use Rattle.claims.specs.Paper.Table.Frames as frames
 use Rattle.claims.specs.Paper.Table.Messages as messages
@@ -643,6 +646,21 @@ sheet-map = (
 
 pub sheet-type-in : Occur (sheets.type-in .Cause) (sheets.type-in .refusals)
 sheet-type-in = ((record { map = []; register = 0 }, sheet.TypeInCause.unlisted sheet-known.not-in-map), tt)
+
+-- ---- jsontext
+
+-- the empty text, and a string of one character
+pub text-count : Occur (texts.count .Cause) (texts.count .refusals)
+text-count = ((record { text = [] }, text-members.CountCause.no-object text-known.no-object), tt)
+
+pub text-value-of : Occur (texts.value-of .Cause) (texts.value-of .refusals)
+text-value-of = ((record { text = []; name = [] }, text-members.ValueCause.no-value (λ ms m x f. text-known.no-object ms x)), tt)
+
+pub text-characters : Occur (texts.characters .Cause) (texts.characters .refusals)
+text-characters = (
+  (record { text = []; room = [] }, text-members.CharactersCause.no-string text-known.no-string),
+  ((record { text = ascii "\"\\n\""; room = [] }, text-members.CharactersCause.short text-known.a-string (lit< tt)), tt),
+)
 
 -- ---- host
 

@@ -6,6 +6,7 @@ pub mod Digits
 pub mod Frames
 pub mod Host
 pub mod Json
+pub mod Jsontext
 pub mod Layouts
 pub mod Lines
 pub mod List

@@ -112,7 +112,9 @@ of-the-kind : {k n first : ℕ} (e : Coded) (s : List ℕ) → First (EncodeCaus
 of-the-kind {k} {n} e s f z = go (ℕ-discrete (numberOf (kindIn e)) k)
   where
     not-5 : EncodeCause k e s n 5 → ⊥
-    not-5 = none-first (lit< tt) z (none-first (lit< tt) z (none-first (lit< tt) z (none-first (lit< tt) z (none-first (lit< tt) z f .1) .1) .1) .1) .0
+    not-5 =
+        let g = none-first (lit< tt) z (none-first (lit< tt) z (none-first (lit< tt) z f .1) .1) .1 in
+        none-first (lit< tt) z (none-first (lit< tt) z (none-first (lit< tt) z (none-first (lit< tt) z g .1) .1) .1) .0
 
     go : Dec (numberOf (kindIn e) ≡ k) → numberOf (kindIn e) ≡ k
     go (yes h) = h

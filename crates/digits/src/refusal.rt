@@ -14,6 +14,8 @@ pub enum Refusal {
     NoBook,
     NoRegister,
     BadSheet,
+    NotInGrammar,
+    BadMembers,
 }
 
 // The number that the documents give it.
@@ -31,5 +33,7 @@ pub fn number(why: Refusal) -> u8
         Refusal::NoBook => 8,
         Refusal::NoRegister => 9,
         Refusal::BadSheet => 10,
+        Refusal::NotInGrammar => 11,
+        Refusal::BadMembers => 12,
     }
 }

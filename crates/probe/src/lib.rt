@@ -1,8 +1,10 @@
-// The checks, and hex digits into a room, by C's calling convention, for the tests and benchmarks that are written in C. Not part of the
-// product. A check's promise is an equation, so that two answers which keep it are the same (`equation` of `digits`); that of `probe_hex`
-// is that of `puts::hex`.
+// The checks, hex digits into a room, and the test of a JSON text, by C's calling convention, for the tests and benchmarks that are written
+// in C. Not part of the product. A check's promise is an equation, so that two answers which keep it are the same (`equation` of `digits`);
+// that of `probe_hex` is that of `puts::hex`, and that of `probe_jsontext` that of `jsontext::accepts`.
 ghost use mathlib.Core.Path.{_≡_};
 ghost use Rattle.digits.specs.Paper.Hex.{hexBytes};
+ghost use Rattle.digits.specs.Paper.Read.{Decides};
+ghost use Rattle.jsontext.specs.Paper.Names.{InGrammar};
 ghost use Rattle.puts.specs.Paper.Put.{Put};
 ghost use Rattle.checks.specs.Paper.Check.{feed, check};
 ghost use Rattle.checks.specs.Paper.Buses.{nikobusCrc16, nikobusCrc8, nestCrc, nibeXor, homiqCrc};
@@ -92,4 +94,12 @@ pub extern "C" fn probe_hex(s: &[u8], room: &mut [u8], at: usize) -> usize
     ensures { λ r. ⌜ Put (now (room .entry)) (now (room .exit)) at r (hexBytes (now (s .entry))) ⌝ }
 {
     puts::hex(s, room, at)
+}
+
+// Whether s is a JSON text.
+#[no_mangle]
+pub extern "C" fn probe_jsontext(s: &[u8]) -> bool
+    ensures { λ r. ⌜ Decides (InGrammar (now (s .entry))) r ⌝ }
+{
+    jsontext::accepts(s)
 }

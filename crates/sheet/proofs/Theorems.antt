@@ -60,7 +60,7 @@ one-split {p = p} {q = q} v w = pairs.one-split p q v w
 -- no cause of a call that answers
 module _ {Cause : ℕ → Type 0} where
   not-5 : First Cause refusalOrder 0 → Cause 5 → ⊥
-  not-5 (after a (after b (after c (after d (after e f))))) = e
+  not-5 (after a (after b (after c (after d (after e (after f (after five g))))))) = five
 
 -- values that their types hold are values of eight bytes
 held-ten : {look : Lookup} {p : List Pair} → Held look p → InTen p

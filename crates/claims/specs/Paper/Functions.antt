@@ -79,6 +79,11 @@ functions =
     ∷ ("sheet::splits", [])
     ∷ ("sheet::unsolicited", [])
     ∷ ("sheet::fault", [])
+    -- jsontext
+    ∷ ("jsontext::accepts", [])
+    ∷ ("jsontext::members::count", 12 ∷ [])
+    ∷ ("jsontext::members::value_of", 12 ∷ [])
+    ∷ ("jsontext::members::characters", 12 ∷ 4 ∷ [])
     -- layouts
     ∷ ("layouts::homiq::frame", [])
     ∷ ("layouts::homiq::crc", [])

@@ -9,12 +9,12 @@ use lib.Dec.{lit<}
 use lib.ListN.{getD}
 use Rattle.digits.specs.Paper.Refusals.{refusalNumber, refusalOrder, First, clear, here, after, Answers, answers, refuses}
 use Rattle.digits.specs.declared.refusal.Refusal.{Refusal}
-use Rattle.digits.specs.declared.refusal.Refusal.the-variants.{NoFrame, NoKind, NoPlace, NoRoom, OutOfLimits, ContentAbove, BadForm, NoBook, NoRegister, BadSheet}
+use Rattle.digits.specs.declared.refusal.Refusal.the-variants.{NoFrame, NoKind, NoPlace, NoRoom, OutOfLimits, ContentAbove, BadForm, NoBook, NoRegister, BadSheet, NotInGrammar, BadMembers}
 
 -- ---- the table
 
 abbrev named : ℕ → Refusal
-named n = getD (NoFrame ∷ NoKind ∷ NoPlace ∷ NoRoom ∷ OutOfLimits ∷ ContentAbove ∷ BadForm ∷ NoBook ∷ NoRegister ∷ BadSheet ∷ []) (n - 1) NoFrame
+named n = getD (NoFrame ∷ NoKind ∷ NoPlace ∷ NoRoom ∷ OutOfLimits ∷ ContentAbove ∷ BadForm ∷ NoBook ∷ NoRegister ∷ BadSheet ∷ NotInGrammar ∷ BadMembers ∷ []) (n - 1) NoFrame
 
 name-of : (p : Refusal) → named (refusalNumber p) ≡ p
 name-of NoFrame = refl
@@ -27,6 +27,8 @@ name-of BadForm = refl
 name-of NoBook = refl
 name-of NoRegister = refl
 name-of BadSheet = refl
+name-of NotInGrammar = refl
+name-of BadMembers = refl
 
 pub one-refusal : (p q : Refusal) → refusalNumber p ≡ refusalNumber q → p ≡ q
 one-refusal p q e = sym (name-of p) ∙ ap named e ∙ name-of q
@@ -43,6 +45,8 @@ some-number BadForm = lit< tt
 some-number NoBook = lit< tt
 some-number NoRegister = lit< tt
 some-number BadSheet = lit< tt
+some-number NotInGrammar = lit< tt
+some-number BadMembers = lit< tt
 
 -- ---- the first cause
 

@@ -20,6 +20,7 @@ const MORE: usize = 50;
 pub fn compare(sides: &Sides, seed: u64, count: usize) -> Totals {
     let mut all = tests_of(&functions::all(), seed, count);
     all.extend(tests_of(&functions::by_sheet(), seed, count / 2));
+    all.extend(tests_of(&functions::on_texts(), seed, 3 * count / 8));
     all.push(unknown(seed));
     all.extend(functions::all_fixed().into_iter().map(fixed));
     all.push(of_requests(

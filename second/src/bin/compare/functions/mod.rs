@@ -7,6 +7,7 @@ mod judged;
 mod kept;
 mod layouts;
 mod sheeted;
+mod spelt;
 mod table;
 mod values;
 
@@ -67,6 +68,11 @@ pub fn by_sheet() -> Vec<Function> {
         .collect()
 }
 
+/// The functions on texts of JSON.
+pub fn on_texts() -> Vec<Function> {
+    spelt::texts()
+}
+
 /// Requests that are listed, not drawn, and the first words of each sort of answer, as in `Function`.
 pub struct Fixed {
     pub test: String,
@@ -80,6 +86,7 @@ pub fn all_fixed() -> Vec<Fixed> {
         .chain(judged::heads_byte_by_byte())
         .chain(ids::each())
         .chain(values::each_pair())
+        .chain(spelt::each())
         .collect()
 }
 

@@ -18,7 +18,7 @@ pub fn each_pair() -> Vec<Fixed> {
 }
 
 pub fn digits() -> Vec<Function> {
-    const REFUSALS: [&str; 10] = [
+    const REFUSALS: [&str; 12] = [
         "NoFrame",
         "Kind",
         "Place",
@@ -29,6 +29,8 @@ pub fn digits() -> Vec<Function> {
         "Book",
         "NoRegister",
         "BadSheet",
+        "NotInGrammar",
+        "BadMembers",
     ];
     vec![
         function("digits::hex::digit", 2, &["ok"], |r| words([number(8, r)])),
@@ -76,6 +78,7 @@ pub fn digits() -> Vec<Function> {
             2,
             &[
                 "ok 1", "ok 2", "ok 3", "ok 4", "ok 5", "ok 6", "ok 7", "ok 8", "ok 9", "ok 10",
+                "ok 11", "ok 12",
             ],
             |r| words([r.pick(&REFUSALS).to_string()]),
         ),
