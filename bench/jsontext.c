@@ -364,7 +364,7 @@ int main(void) {
         {"numbers", numbers, passing_again, 1.5},
         {"numbers of one digit", short_numbers, passing_again, 1.5},
         {"arrays nested to 16", nesting, passing_again, 1.5},
-        {"objects nested to 15, a name each", objects, passing_again, 1.6},
+        {"objects nested to 15, a name each", objects, passing_again, 1.5},
         {"a string with escapes", escapes, passing_again, 1.5},
         {"a string of UTF-8", utf8, passing_again, 1.5},
         {"a string of letters", plain_string, passing_again, 1.5},

@@ -167,7 +167,7 @@ static usize middle(u8 *f, u8 which) {
 static int in_noise(usize noise) {
     noisy = noise;
     copied_length = middle(copied, kind);
-    int bad = compare_expert("frames in noise", kind == BOLSTERWEFT_NIKOBUS || kind == BOLSTERWEFT_NIBE ? 1.5 : 2.0);
+    int bad = compare_expert("frames in noise", 1.5);
     noisy = 0;
     return bad;
 }
@@ -213,7 +213,7 @@ static int rows_expert(void) {
     bad += in_noise(400);
     /* Homiq's fields take us longer than C */
     copied_length = shortest(copied, kind);
-    bad += compare_expert("short frames, back to back", kind == BOLSTERWEFT_HOMIQ ? 1.4 : 1.25);
+    bad += compare_expert("short frames, back to back", 1.25);
     if (kind != BOLSTERWEFT_HOMIQ) { /* its short ones have 24 bytes */
         copied_length = middle(copied, kind);
         bad += compare_expert("middle frames, back to back", 1.25);
