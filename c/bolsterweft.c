@@ -26,6 +26,7 @@ static const char usage_text[] =
     "       bolsterweft frame KIND < FRAME            whether it is one frame: where its payload is, and the payload in hex\n"
     "       bolsterweft why KIND PLACE [FILE]         the first test that a frame at that place of a capture fails\n"
     "       bolsterweft acknowledge < FRAME           the acknowledgement of a Homiq frame\n"
+    "       bolsterweft encode < COMMAND              the frame of a command, which is a line of JSON\n"
     "       bolsterweft sheet [FILE]                  the registers of a register sheet, with type and decimals\n"
     "       bolsterweft text RAW DECIMALS             the text of a raw number\n"
     "       bolsterweft number TEXT                   the raw number and the decimals of a text\n"
@@ -359,6 +360,20 @@ static int acknowledge(void) {
     return DONE;
 }
 
+/* A command is a line as `list` prints it, with `kind` in place of `at` and `len`. The LF at its end is a blank of JSON. */
+static int encode(void) {
+    static uint8_t text[BOLSTERWEFT_COMMAND_MOST], room[BOLSTERWEFT_FRAME_MOST];
+    size_t length;
+    struct bolsterweft_count written;
+    if (read_input(text, sizeof text, &length) != DONE)
+        return FAILED;
+    written = bolsterweft_encode(text, length, room, sizeof room);
+    if (written.refusal != 0)
+        return refused("encode", written.refusal);
+    print_bytes(room, written.length);
+    return DONE;
+}
+
 /* ---- numbers */
 
 static int print_text(int64_t raw, uint32_t decimals) {
@@ -544,6 +559,11 @@ static int do_acknowledge(char **words) {
     return acknowledge();
 }
 
+static int do_encode(char **words) {
+    (void)words;
+    return encode();
+}
+
 static int do_text(char **words) {
     int64_t raw;
     uint32_t decimals;
@@ -623,7 +643,7 @@ static const struct command {
     {"acknowledge", 0, 0, do_acknowledge}, {"text", 2, 2, do_text},         {"number", 1, 1, do_number},
     {"value", 3, 3, do_value},             {"value-of", 3, 3, do_value_of}, {"fits", 1, 1, do_fits},
     {"panel", 1, 1, do_panel},             {"climate", 2, 2, do_climate},   {"book", 2, 3, do_book},
-    {"sheet", 0, 1, do_sheet},             {"version", 0, 0, do_version},
+    {"sheet", 0, 1, do_sheet},             {"encode", 0, 0, do_encode},     {"version", 0, 0, do_version},
 };
 
 static int run(int count, char **words) {

@@ -1,6 +1,7 @@
-/* The listing, the search, the verdict, the lines and the acknowledgement against those in plain C. The input is that of the program
-   `listing`. */
+/* The listing, the search, the verdict, the lines and the acknowledgement against those in plain C. A line in plain C with the kind in place
+   of `at` and `len` is a command, whose frame must be the one that the line is of. The input is that of the program `listing`. */
 #include "../tests/lines_in_c.h"
+#include "commands.h"
 #include "fenced.h"
 #include "mend.h"
 
@@ -52,6 +53,7 @@ static void try_bytes(u32 kind, const u8 *s, usize n, usize at) {
     try_why(kind, f, n, 0);
     try_line(kind, f, n, at, length);
     try_acknowledge(f, n, answer);
+    try_command(kind, f, n, at);
     if (length)
         try_line(kind, f, n, at, length - 1);
     if (answer)

@@ -1,7 +1,8 @@
 /* Bolsterweft for C: frames of four home buses (Nikobus, Nest, Nibe, Homiq), their lines of JSON, capture books, exact numbers.
  *
  * Platform: x86-64 Linux, System V calling convention. The header compiles as C89, C99, C11, C17 and C++11 or later. Link
- * with libbolsterweft.a (`cc program.c -lbolsterweft`). Of the C library the archive needs only `memcpy`.
+ * with libbolsterweft.a (`cc program.c -lbolsterweft`). Of the C library the archive needs only `memcpy`, and `memset` for
+ * `bolsterweft_encode`.
  *
  *
  * WHAT EVERY CALL DOES
@@ -52,7 +53,7 @@ extern "C" {
 
 /* The version that this header is of: 10000 * major + 100 * minor + patch. Compare it with `bolsterweft_version()` once, as the
  * program starts: if they differ, header and archive are not a pair, and the structs below may not be those of the archive. */
-#define BOLSTERWEFT_VERSION 10400
+#define BOLSTERWEFT_VERSION 10500
 
 /* The kinds: a bus and a direction. */
 enum bolsterweft_kind {
@@ -63,18 +64,20 @@ enum bolsterweft_kind {
     BOLSTERWEFT_HOMIQ = 5          /* the Homiq line */
 };
 
-/* The refusals. `bolsterweft_refusal_text` has a sentence for each. No call for C refuses with 6 or 9 today. */
+/* The refusals. `bolsterweft_refusal_text` has a sentence for each. No call for C refuses with 9 today. */
 enum bolsterweft_refusal {
-    BOLSTERWEFT_NO_FRAME = 1,      /* no frame from that place on */
-    BOLSTERWEFT_NO_KIND = 2,       /* the kind is not 1 to 5 */
-    BOLSTERWEFT_NO_PLACE = 3,      /* the place is beyond the buffer's length; the book has no entry of that number */
-    BOLSTERWEFT_NO_ROOM = 4,       /* the room is too short */
-    BOLSTERWEFT_OUT_OF_LIMITS = 5, /* a frame, a book or a number is outside its limits */
-    BOLSTERWEFT_CONTENT_ABOVE = 6, /* a message has the content of one above it in the table */
-    BOLSTERWEFT_BAD_FORM = 7,      /* a width, decimals or a number text are not as they must be */
-    BOLSTERWEFT_NO_BOOK = 8,       /* the bytes are not a capture book */
-    BOLSTERWEFT_NO_REGISTER = 9,   /* a register is not in the register sheet, or data end inside a value */
-    BOLSTERWEFT_BAD_SHEET = 10     /* the bytes are not a register sheet */
+    BOLSTERWEFT_NO_FRAME = 1,        /* no frame from that place on */
+    BOLSTERWEFT_NO_KIND = 2,         /* the kind is not 1 to 5 */
+    BOLSTERWEFT_NO_PLACE = 3,        /* the place is beyond the buffer's length; the book has no entry of that number */
+    BOLSTERWEFT_NO_ROOM = 4,         /* the room is too short */
+    BOLSTERWEFT_OUT_OF_LIMITS = 5,   /* a frame, a book or a number is outside its limits */
+    BOLSTERWEFT_CONTENT_ABOVE = 6,   /* a message has the content of one above it in the table */
+    BOLSTERWEFT_BAD_FORM = 7,        /* a width, decimals or a number text are not as they must be */
+    BOLSTERWEFT_NO_BOOK = 8,         /* the bytes are not a capture book */
+    BOLSTERWEFT_NO_REGISTER = 9,     /* a register is not in the register sheet, or data end inside a value */
+    BOLSTERWEFT_BAD_SHEET = 10,      /* the bytes are not a register sheet */
+    BOLSTERWEFT_NOT_IN_GRAMMAR = 11, /* a text is not JSON, or over a limit */
+    BOLSTERWEFT_BAD_MEMBERS = 12     /* members of a command are missing, extra, not spelt as they must be, or disagree */
 };
 
 /* Sizes that are always enough, and limits. */
@@ -87,6 +90,7 @@ enum bolsterweft_size {
     BOLSTERWEFT_HOMIQ_MOST = 51,           /* the longest Homiq frame */
     BOLSTERWEFT_FRAME_MOST = 1034,         /* the longest frame of any kind */
     BOLSTERWEFT_ACKNOWLEDGE_ROOM = 51,     /* room for any acknowledgement, as for any Homiq frame */
+    BOLSTERWEFT_COMMAND_MOST = 8192,       /* the longest command as a text of JSON */
     BOLSTERWEFT_LINE_ROOM = 8368,          /* room for the line of any frame: 8 bytes for each of the frame's, and 96 more */
     BOLSTERWEFT_INPUT_MOST = 65536,        /* the longest input of `bolsterweft_list` */
     BOLSTERWEFT_LIST_ROOM = 2097202,       /* room for any listing: 32 bytes for each of the input's, and 50 more */
@@ -111,7 +115,7 @@ enum bolsterweft_size {
  *
  *     if (bolsterweft_version() != BOLSTERWEFT_VERSION)
  *         abort();
- *     printf("%u\n", (unsigned)bolsterweft_version()); // 10400
+ *     printf("%u\n", (unsigned)bolsterweft_version()); // 10500
  */
 uint32_t bolsterweft_version(void);
 
@@ -248,6 +252,32 @@ struct bolsterweft_count {
  *         fwrite(room, 1, a.length, stdout); // <;I.3;1;0;0H;42;a;64;>
  */
 struct bolsterweft_count bolsterweft_acknowledge(const uint8_t *frame, size_t frame_length, uint8_t *room, size_t room_length);
+
+/* Writes the frame of a command that is a text of JSON: an object with the members of a frame's line, as docs/LINES.md describes them,
+ * but with `kind`, its number, in place of `at` and `len`. The members may stand in any order.
+ *
+ *   text, text_length  the text: UTF-8, BOLSTERWEFT_COMMAND_MOST bytes at most; blanks and LF may stand around it
+ *   room, room_length  BOLSTERWEFT_FRAME_MOST bytes are always enough
+ *
+ * Answers: how many bytes were written, which are a frame of that kind. No NUL is behind them.
+ * Refuses, in this order:
+ *   11  if the text is not JSON or too long, has values more than 16 deep in one another, or a name twice in an object.
+ *   12  if members are missing, extra, of another sort or spelling than in a line, or disagree.
+ *   5  if a value is outside its limits.
+ *   6  if the message has the content of one above it in the table.
+ *   4  if the room is too short.
+ * Cost: linear in text_length; in addition each object costs at most the number of its members times its size, twice
+ * BOLSTERWEFT_COMMAND_MOST bytes are cleared, and a text that is too long is refused at once. An object of as many members as fit
+ * is the worst text (14 ms, measured on a busy machine); the longest commands take 0.05 ms.
+ * Stack: 24,000 bytes.
+ *
+ * Example:
+ *
+ *     struct bolsterweft_count c = bolsterweft_encode((const uint8_t *)"{\"kind\":4,\"msg\":\"ask\",\"reg\":100}", 32, room, sizeof room);
+ *     if (c.refusal == 0)
+ *         printf("%zu %02X %02X\n", c.length, (unsigned)room[0], (unsigned)room[1]); // 6 C0 69
+ */
+struct bolsterweft_count bolsterweft_encode(const uint8_t *text, size_t text_length, uint8_t *room, size_t room_length);
 
 
 /* ---- the register sheet -------------------------------------------------------------------------------------------------- */
@@ -860,6 +890,10 @@ static inline const char *bolsterweft_refusal_text(uint32_t refusal) {
         return "A register is not in the register sheet, or the data end inside a value.";
     case BOLSTERWEFT_BAD_SHEET:
         return "The bytes are not a register sheet.";
+    case BOLSTERWEFT_NOT_IN_GRAMMAR:
+        return "The text is not JSON, or over a limit.";
+    case BOLSTERWEFT_BAD_MEMBERS:
+        return "Members of the command are missing, extra or not as they must be.";
     default:
         return "There is no refusal of this number.";
     }

@@ -1,4 +1,5 @@
-# To be sourced by the commands in bin/ that read a capture, behind scripts/command.sh: the kinds, and how a capture and a sheet are read.
+# To be sourced by the commands in bin/ that read a capture or commands, behind scripts/command.sh: the kinds, and how a file, a capture and a
+# sheet are read.
 
 # The longest capture that is read. A program is given one byte more, so that it sees what is too long.
 most=65534
@@ -32,8 +33,8 @@ make_room() {
 # reason: the system's own words for an error, which end what the shell or a command said of it.
 reason() { sed -n '$s/.*: //p' "$room/said"; }
 
-# open_capture FILE: standard input is this file from now on; `-` leaves it as it is.
-open_capture() {
+# open_input FILE: standard input is this file from now on; `-` leaves it as it is.
+open_input() {
     file=$1
     [ "$file" != - ] || return 0
     [ ! -d "$file" ] || fail "cannot read $file: Is a directory"

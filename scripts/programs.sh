@@ -121,7 +121,7 @@ archives() {
 
 # The crates that the library for C is made of. Each is an object of its own in libbolsterweft.a: a program links what it calls, and the
 # compiler makes each as quick as if it were alone.
-library=(host host_lines host_list host_sheet host_book)
+library=(host host_lines host_list host_sheet host_asked host_book)
 
 # merge OUT ARCHIVE..: one archive of several.
 merge() {

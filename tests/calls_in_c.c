@@ -1,4 +1,5 @@
-/* The calls of bolsterweft.h in plain C, in place of the archive: for tests/host_wrong, which puts mistakes into them. */
+/* The calls of bolsterweft.h in plain C, in place of the archive, but for `bolsterweft_encode`: for tests/host_wrong, which puts mistakes
+   into them. */
 #include "book_in_c.h"
 #include "numbers_in_c.h"
 #include "sheet_in_c.h"
@@ -35,6 +36,18 @@ struct bolsterweft_listed bolsterweft_line_next(u32 kind, const u8 *s, usize n, 
 struct bolsterweft_count bolsterweft_list(const u8 *input, usize n, u8 *room, usize m) {
     struct bolsterweft_count c = list_call_in_c(input, n, room, m);
     return c;
+}
+
+struct bolsterweft_count bolsterweft_line_with(u32 kind, const u8 *f, usize n, usize at, const u8 *map, usize k, u8 *room, usize m) {
+    return line_by_map_in_c(kind, f, n, at, (struct map){map, k}, room, m);
+}
+
+struct bolsterweft_listed bolsterweft_line_next_with(u32 kind, const u8 *s, usize n, usize place, const u8 *map, usize k, u8 *room, usize m) {
+    return next_by_map_in_c(kind, s, n, place, (struct map){map, k}, room, m);
+}
+
+struct bolsterweft_count bolsterweft_list_with(const u8 *input, usize n, const u8 *map, usize k, u8 *room, usize m) {
+    return list_call_by_map_in_c(input, n, (struct map){map, k}, room, m);
 }
 
 struct bolsterweft_count bolsterweft_sheet_map(const u8 *text, usize n, u8 *map, usize m) {

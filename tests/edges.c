@@ -41,6 +41,7 @@ static void try_empty_bytes(const u8 *p) {
         expect("nothing added", bolsterweft_book_add(empty_book, 6, kind, p, 0, room, 100).refusal == 5);
     }
     expect("nothing is not acknowledged", bolsterweft_acknowledge(p, 0, room, 100).refusal == 5);
+    expect("nothing is no command", bolsterweft_encode(p, 0, room, 100).refusal == 11);
     expect("nothing is no number", bolsterweft_number(p, 0).refusal == 7);
     expect("nothing is no value", bolsterweft_value_read(p, 0, 2, 1).refusal == 5);
     expect("nothing is no book", bolsterweft_book_open(p, 0).refusal == 8 && bolsterweft_book_entry(p, 0, 0).refusal == 8);
@@ -63,6 +64,8 @@ static void try_empty_room(u8 *p) {
     expect("no next line, without a room", bolsterweft_line_next(5, ask, 6, 0, p, 0).refusal == 1);
     expect("a listing without a room", bolsterweft_list(ask, 6, p, 0).refusal == 4);
     expect("an acknowledgement without a room", bolsterweft_acknowledge(homiq, n, p, 0).refusal == 4);
+    expect("a command without a room", bolsterweft_encode((const u8 *)"{\"kind\":1,\"msg\":\"tail\"}", 23, p, 0).refusal == 4);
+    expect("no command, without a room", bolsterweft_encode((const u8 *)"{\"kind\":1,\"msg\":\"tale\"}", 23, p, 0).refusal == 12);
     expect("a book without a room", bolsterweft_book_add(empty_book, 6, 4, ask, 6, p, 0).refusal == 4);
     expect("a sheet without a room", bolsterweft_sheet_map((const u8 *)"1,u8,0\n", 7, p, 0).refusal == 4);
     expect("no sheet, without a room", bolsterweft_sheet_map((const u8 *)"1,u8,0", 6, p, 0).refusal == 10);

@@ -2,9 +2,11 @@
 """The captures of examples/, made from the bytes that the bus documents print, with the check values that document 01's rules give.
 
 tests/examples.py --write   writes examples/*.bin, their listings examples/*.json, what bin/why prints of them (examples/*.why), the
-                            register sheet examples/pump.sheet and examples/README.md
+                            register sheet examples/pump.sheet, the commands examples/commands.jsonl and their frames
+                            examples/commands.hex, and examples/README.md
 tests/examples.py --check   whether these files are what this script writes
 """
+import json
 import os
 import sys
 
@@ -219,7 +221,7 @@ def rows_of(kind, pieces):
 
 
 def readme():
-    yield "# Captures to try the listing on"
+    yield "# Captures to try the listing on, and commands"
     yield ""
     yield "One for each bus and direction. `bin/list nibe examples/nibe.bin` lists one; what it prints is in the file of the same name with"
     yield "`.json`. What `bin/why nibe examples/nibe.bin` prints is in the one with `.why`."
@@ -246,6 +248,22 @@ def readme():
     yield "`bin/why nikobus examples/faults.bin` says what is wrong, and prints what is in faults.why."
     yield ""
     yield from rows_of(1, FAULTS)
+    yield ""
+    yield "## commands.jsonl: a command for each message of each kind"
+    yield ""
+    yield "`bin/encode --hex examples/commands.jsonl` writes the frames, a line each, that are in commands.hex. They are the first of each"
+    yield "message in the captures of the five kinds."
+
+
+def commands():
+    """The first frame of each message of each kind, and the command that it is the frame of."""
+    for kind, (_, _, pieces) in enumerate(CAPTURES, 1):
+        first = {}
+        for _, frame in lines.frames(kind, b"".join(data for data, _, _ in pieces)):
+            first.setdefault(table.decode(kind, frame)[0], frame)
+        for frame in first.values():
+            place = '{"at":0,"len":%d,' % len(frame)
+            yield frame, lines.line(kind, 0, frame).replace(place, '{"kind":%d,' % kind, 1)
 
 
 def files():
@@ -263,6 +281,8 @@ def files():
     capture = b"".join(data for data, _, _ in FAULTS)
     yield "faults.bin", capture
     yield "faults.why", faults.through(1, capture)
+    yield "commands.jsonl", "".join(text + "\n" for _, text in commands()).encode()
+    yield "commands.hex", "".join(frame.hex().upper() + "\n" for frame, _ in commands()).encode()
     yield "README.md", "".join(line + "\n" for line in readme()).encode()
 
 
@@ -286,6 +306,7 @@ def as_said():
         test = paper.why(1, capture, at)[0]
         yield "faults at %d: %s" % (at, what), what.split(":")[0] == (table.decode(1, data)[0] if test == "none" else test)
         at += len(data)
+    yield "commands: a command for each of the 23 messages", len({json.loads(text)["msg"] for _, text in commands()}) == 23
 
 
 def stored(name):

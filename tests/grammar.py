@@ -424,22 +424,22 @@ def timed():
     yield "two names of 4,000 characters", b'{"' + b"a" * 4000 + b'":1,"' + b"a" * 4000 + b'b":1}', True
 
 
-def seconds(command, texts):
-    """How long one process takes for each text, and what it answers; the start is waited for first."""
+def seconds(command, requests):
+    """How long one process takes for each request, and what it answers; the start is waited for first."""
     process = subprocess.Popen([command], stdin=subprocess.PIPE, stdout=subprocess.PIPE)
 
-    def ask(text):
-        process.stdin.write(request("jsontext::accepts", text).encode() + b"\n")
+    def ask(line):
+        process.stdin.write(line.encode() + b"\n")
         process.stdin.flush()
         return process.stdout.readline().decode().strip()
 
-    ask(b"1")
+    ask(request("jsontext::accepts", b"1"))
     taken = []
-    for text in texts:
+    for line in requests:
         each = []
         for _ in range(3):  # the machine may do something else meanwhile
             from_ = time.perf_counter()
-            does = ask(text)
+            does = ask(line)
             each.append(time.perf_counter() - from_)
         taken.append((min(each), does))
     process.stdin.close()
@@ -533,13 +533,29 @@ def own():
         yield "a wrong answer is found, %d" % at, differing(cases, wrong) == {cases[at][0]: [(cases[at][1], wrong[at])]}
 
 
-def main(arguments):
+def wanted(arguments, count, usage):
+    """How many cases are asked for, and from which seeds, which are printed; the script ends if the arguments are others."""
     if len(arguments) > 2 or not all(word.isdigit() for word in arguments):
-        print(__doc__, file=sys.stderr)
-        return 2
-    count = int(arguments[0]) if arguments else 20000
+        print(usage, file=sys.stderr)
+        raise SystemExit(2)
     seeds = [int(word) for word in arguments[1:]] or [1, random.SystemRandom().randrange(1 << 32)]
     print("seeds " + " ".join(map(str, seeds)))
+    return int(arguments[0]) if arguments else count, seeds
+
+
+def counted_up(holds, cases):
+    """Says which tests do not hold, what the cases were, and how many tests hold; the script's status."""
+    for test, held in holds.items():
+        if not held:
+            print("does not hold: " + test)
+    failed = sum(not held for held in holds.values())
+    print(cases)
+    print("%d passed, %d failed" % (len(holds) - failed, failed))
+    return 1 if failed else 0
+
+
+def main(arguments):
+    count, seeds = wanted(arguments, 20000, __doc__)
     cases = [*listed(), *(case for seed in seeds for case in drawn(count // len(seeds), seed))]
     command = os.environ.get("BOLSTERWEFT_CALLS") or str(proved.calls())
     does = answers(command, [request("jsontext::accepts", text) for _, text in cases])
@@ -554,16 +570,11 @@ def main(arguments):
     holds.update(own())
     holds.update(readers(command, cases, seeds))
     slowest = list(timed())
-    for (what, text, is_one), (taken, told) in zip(slowest, seconds(command, [text for _, text, _ in slowest])):
+    requests = [request("jsontext::accepts", text) for _, text, _ in slowest]
+    for (what, text, is_one), (taken, told) in zip(slowest, seconds(command, requests)):
         print("%s, %d bytes: %.1f ms" % (what, len(text), 1000 * taken))
         holds[what] = taken < SOON and told == answer((is_one,)) and accepted(text) == is_one
-    for test, held in holds.items():
-        if not held:
-            print("does not hold: " + test)
-    failed = sum(not held for held in holds.values())
-    print("%d texts, %d of them accepted" % (len(cases), does.count("ok true")))
-    print("%d passed, %d failed" % (len(holds) - failed, failed))
-    return 1 if failed else 0
+    return counted_up(holds, "%d texts, %d of them accepted" % (len(cases), does.count("ok true")))
 
 
 if __name__ == "__main__":

@@ -1,5 +1,5 @@
 #!/usr/bin/env python3
-"""Holds include/bolsterweft.h to the crates `host`, `host_lines`, `host_list`, `host_sheet` and `host_book`, and to docs/API.md.
+"""Holds include/bolsterweft.h to the crates `host`, `host_lines`, `host_list`, `host_sheet`, `host_asked` and `host_book`, and to docs/API.md.
 
 tests/header.py          compares; the last line is `N passed, M failed`
 tests/header.py --wrong  moves, in copies, each member and each type of either side, and more, and shows that each is found
@@ -15,7 +15,7 @@ import sys
 ROOT = pathlib.Path(__file__).resolve().parent.parent
 HEADER = ROOT / "include/bolsterweft.h"
 API = ROOT / "docs/API.md"
-CRATES = ("host", "host_lines", "host_list", "host_sheet", "host_book")
+CRATES = ("host", "host_lines", "host_list", "host_sheet", "host_asked", "host_book")
 SOURCES = sorted(path for crate in CRATES for path in (ROOT / "crates" / crate / "src").glob("**/*.rt"))
 
 # Rattle's type: C's, its size
@@ -179,7 +179,7 @@ def compare(header, sources, api, version, changelog):
     yield "the version in docs/CHANGELOG.md", f"\n## {version.strip()}: " in changelog
     rows = table(api, "refusal")
     wanted = {None if row[0] == "any other" else int(row[0]): row[-1] for row in rows}
-    yield "the sentences of the refusals", len(wanted) == 12 and sentences(header) == wanted
+    yield "the sentences of the refusals", len(wanted) == 14 and sentences(header) == wanted
     names = {row[0]: row[1].strip("`") for row in rows}
     enum = dict(re.findall(r"(BOLSTERWEFT_\w+) = (\d+)", header[header.index("enum bolsterweft_refusal") :]))
     yield "the names of the refusals", all(enum.get(name) == at for at, name in names.items() if at not in ("0", "any other"))

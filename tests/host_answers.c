@@ -245,6 +245,13 @@ static void acknowledge(void) {
         answer_count(bolsterweft_acknowledge(first.at, first.length, room, room_length));
 }
 
+static void encode(void) {
+    read_bytes(&first);
+    lend_room();
+    if (complete())
+        answer_count(bolsterweft_encode(first.at, first.length, room, room_length));
+}
+
 static void write_line(void) {
     uint32_t kind = u32();
     read_bytes(&first);
@@ -449,7 +456,7 @@ static const struct {
     {"line_next", line_next},   {"list", list},           {"text", text},           {"number", number},           {"value", value},
     {"value_read", value_read}, {"fits", fits},           {"panel", panel},         {"climate", climate},         {"book_open", book_open},
     {"book_entry", book_entry}, {"book_line", book_line}, {"book_list", book_list}, {"book_add", book_add},       {"sheet_map", sheet_map},
-    {"sheet_fault", sheet_fault},
+    {"sheet_fault", sheet_fault}, {"encode", encode},
 };
 
 static void run(void) {

@@ -1,5 +1,6 @@
 /* The proved lines, the next line, the listing and the acknowledgement against those in plain C, on the captures of captures_made.h: in
-   rooms too short, just long enough and longer. What is written is compared byte for byte; the bytes before and behind the room, and
+   rooms too short, just long enough and longer. A line in plain C, with the kind in place of `at` and `len`, is a command, whose frame
+   must be the one that the line is of. What is written is compared byte for byte; the bytes before and behind the room, and
    what was lent to be read, are looked at too.
 
    lines SEED: prints the seed, each difference, and `N passed, M failed`: a test is a property of a kind, over all captures. */
@@ -10,10 +11,11 @@
 
 enum { CAPTURES = 1500, LONG_CAPTURES = 12, SHOWN = 96 };
 
-enum property { LINE, NEXT, LISTING, ACKNOWLEDGEMENT, SHORT_ROOM, EXACT_ROOM, KINDS, PLACES, ORDER, NOTHING_ELSE, PROPERTIES };
+enum property { LINE, NEXT, LISTING, ACKNOWLEDGEMENT, COMMAND, SHORT_ROOM, EXACT_ROOM, KINDS, PLACES, ORDER, NOTHING_ELSE, PROPERTIES };
 
 static const char *const properties[PROPERTIES] = {
-    "the line of a frame", "the next line", "the listing", "the acknowledgement", "a room that is too short", "a room that is just long enough",
+    "the line of a frame", "the next line", "the listing", "the acknowledgement", "a line as a command", "a room that is too short",
+    "a room that is just long enough",
     "kinds that are not", "places that are too large", "the order of the refusals", "nothing else is written",
 };
 static const char *const kinds[] = {"", "Nikobus", "Nest command", "Nest response", "Nibe", "Homiq"};
@@ -78,6 +80,15 @@ static struct bolsterweft_count try_acknowledge(enum property p, u8 of, const u8
     return r;
 }
 
+/* The frame f of this command, or a refusal. */
+static void try_encode(u8 of, u32 refusal, const u8 *command, usize n, const u8 *f, usize length, usize m) {
+    u8 *room = lend_room(m);
+    keep_copy(command, n);
+    struct bolsterweft_count r = bolsterweft_encode(command, n, room, m), c = {refusal, refusal ? 0 : length};
+    memcpy(in_c, f, c.length);
+    compare_room(of, COMMAND, same_count(r, c), room, c.length, m, command, n);
+}
+
 /* A place of any size: small, at the edges of 8, 16 and 32 bits, and of all bits. */
 static usize any_place(void) {
     static const usize edges[] = {255, 256, 65535, 65536, 4294967295u, 4294967296u, 0x100000001u, ~(usize)0 - 1, ~(usize)0};
@@ -114,6 +125,24 @@ static void try_answer(u8 kind, const u8 *s, usize n, usize rest) {
     expect(kind, ORDER, try_acknowledge(ORDER, kind, s, n - 1, 0).refusal == 5, s, n);
 }
 
+/* The command of a frame in all rooms; without its end, with another kind, and the line itself, which is no command. */
+static void try_command(u8 kind, const u8 *s, usize n) {
+    static u8 line[BOLSTERWEFT_LINE_ROOM], command[BOLSTERWEFT_LINE_ROOM];
+    usize length = line_in_c(kind, s, n, 0, line, sizeof line).length;
+    usize head = (usize)snprintf((char *)command, 40, "{\"at\":0,\"len\":%zu", n);
+    usize front = (usize)snprintf((char *)command, 40, "{\"kind\":%u", (unsigned)kind);
+    memcpy(command + front, line + head, length - head);
+    try_encode(kind, 12, line, length, s, n, n);
+    length += front - head;
+    try_encode(kind, 0, command, length, s, n, n);
+    try_encode(kind, 0, command, length - 1, s, n, n + any() % 40);
+    try_encode(kind, 4, command, length, s, n, n - 1);
+    try_encode(kind, 4, command, length, s, n, any() % n);
+    try_encode(kind, 11, command, length - 2, s, n, 0);
+    command[front - 1] = (u8)('1' + kind % 5);
+    try_encode(kind, 12, command, length, s, n, 0);
+}
+
 /* All lines of a capture, one call after the other, each also in rooms that just suffice and that do not. */
 static void try_lines(u8 kind, usize n) {
     usize place = 0;
@@ -127,6 +156,7 @@ static void try_lines(u8 kind, usize n) {
         expect(kind, SHORT_ROOM, try_next(NEXT, kind, kind, capture, n, place, any() % c.line_length).refusal == 4, capture, n);
         try_frame(kind, capture + c.start, c.length, n - c.start - c.length);
         try_answer(kind, capture + c.start, c.length, n - c.start - c.length);
+        try_command(kind, capture + c.start, c.length);
         place = c.start + c.length;
     }
     for (int k = 0; k < 4; k++)

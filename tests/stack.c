@@ -8,7 +8,8 @@ enum { STACK = 1 << 16, PAINT = 0xA5 };
 static u8 stack[STACK] __attribute__((aligned(64)));
 static u8 room[BOLSTERWEFT_LIST_ROOM], bytes[BOLSTERWEFT_INPUT_MOST], book[BOLSTERWEFT_BOOK_MOST], map[BOLSTERWEFT_MAP_ROOM];
 static const u8 sheet[] = "0,u8,0\n1,s8,1\n10,u16,2\n40004,s16,3\n65534,u32,0\n65535,s32,1\n";
-static usize length, size, room_length;
+static u8 asked[BOLSTERWEFT_LINE_ROOM];
+static usize length, size, room_length, asked_length;
 static u32 kind;
 static i64 raw;
 static struct piece piece;
@@ -39,6 +40,7 @@ static void search(void) { refusals += bolsterweft_search(kind, bytes, length, 0
 static void why(void) { refusals += bolsterweft_why(kind, bytes, length, 2).test; }
 static void one_frame(void) { refusals += bolsterweft_one_frame(kind, piece.frame, piece.length).refusal; }
 static void acknowledge(void) { refusals += bolsterweft_acknowledge(piece.frame, piece.length, room, room_length).refusal; }
+static void encode(void) { refusals += bolsterweft_encode(asked, asked_length, room, room_length).refusal; }
 static void line(void) { refusals += bolsterweft_line(kind, piece.frame, piece.length, ~(usize)0, room, room_length).refusal; }
 static void line_with(void) { refusals += bolsterweft_line_with(kind, piece.frame, piece.length, ~(usize)0, map, sizeof map, room, room_length).refusal; }
 static void line_next_with(void) { refusals += bolsterweft_line_next_with(kind, bytes, length, 0, map, sizeof map, room, room_length).refusal; }
@@ -70,7 +72,7 @@ static const struct {
     {"line", line},           {"line_next", line_next},   {"list", list},           {"text", text},           {"number", number},
     {"value", value},         {"value_read", value_read}, {"fits", fits},           {"panel", panel},         {"climate", climate},
     {"book_open", book_open}, {"book_entry", book_entry}, {"book_line", book_line}, {"book_list", book_list}, {"book_add", book_add},
-    {"sheet_map", sheet_map}, {"sheet_fault", sheet_fault},
+    {"sheet_map", sheet_map}, {"sheet_fault", sheet_fault}, {"encode", encode},
     {"line_with", line_with}, {"line_next_with", line_next_with}, {"list_with", list_with}, {"book_line_with", book_line_with}, {"book_list_with", book_list_with},
 };
 
@@ -78,7 +80,21 @@ enum { CALLS = sizeof calls / sizeof *calls, TRIALS = 200 };
 
 static usize most[CALLS];
 
-/* A frame of the kind, a capture and an input of such frames, and a book of them. */
+/* A command: the frame's line with the kind in place of `at` and `len`, or objects and lists as deep in one another as they may be. */
+static void make_command(int trial) {
+    usize head = (usize)snprintf((char *)asked, 40, "{\"at\":0,\"len\":%zu", piece.length);
+    usize line = bolsterweft_line(kind, piece.frame, piece.length, 0, room, sizeof room).length;
+    asked_length = (usize)snprintf((char *)asked, 40, "{\"kind\":%u", (unsigned)kind);
+    memcpy(asked + asked_length, room + head, line - head);
+    asked_length += line - head;
+    if (trial % 4)
+        return;
+    asked_length = 0;
+    for (int i = 0; i < 16; i++)
+        asked_length += (usize)snprintf((char *)asked + asked_length, 40, trial % 8 ? "{\"a\":1,\"\\u0062\":" : "[1,");
+}
+
+/* A frame of the kind, a capture and an input of such frames, a book of them, and a command. */
 static void make(int trial) {
     static struct draft draft;
     make_message(&piece, (u8)kind);
@@ -94,6 +110,7 @@ static void make(int trial) {
     size = bind_draft(&draft, book);
     raw = -(i64)(any() >> 33);
     room_length = trial % 3 ? sizeof room : any() % 200;
+    make_command(trial);
 }
 
 int main(void) {

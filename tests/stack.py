@@ -6,8 +6,9 @@ tests/stack.py ARCHIVE          a line for each call: its name, its bytes, retur
 tests/stack.py ARCHIVE --write  puts them into include/bolsterweft.h and docs/API.md, rounded up to a multiple of 64
 
 Each function's instructions are followed along all their branches, with the depth of the stack at each; a call adds what the called
-function takes. A function of the C library counts as a return address and nothing more. What it cannot follow (a call by a register, a
-recursion, another change of the stack pointer) ends it.
+function takes. A function of the C library counts as a return address and nothing more. The function for a JSON value calls itself for the
+values in it, and is followed as often as values may nest. What it cannot follow (a call by a register, another recursion, another change
+of the stack pointer) ends it.
 """
 import pathlib
 import re
@@ -15,7 +16,9 @@ import subprocess
 import sys
 
 ROOT = pathlib.Path(__file__).resolve().parent.parent
-FOREIGN = ("memcpy",)
+FOREIGN = ("memcpy", "memset")
+# values nest 16 deep, and a call for one that is deeper answers at once
+NESTED, NESTED_MOST = "jsontext::value", 17
 LINE = re.compile(r"^\s+([0-9a-f]+):\t\s*(\S+)\s*(.*)$")
 RELOCATION = re.compile(r"^\s+[0-9a-f]+: R_X86_64_(?:PLT32|PC32)\s+(.+?)(?:[-+]0x[0-9a-f]+)?$")
 
@@ -45,20 +48,24 @@ class Stack:
         self.known = {}
         self.open = []
 
-    def of(self, name):
-        """What a function takes, with its return address."""
+    def of(self, name, left=NESTED_MOST):
+        """What a function takes, with its return address, if a value may be nested so many deep in it."""
         name = name.removeprefix(".text.")
         if name in FOREIGN:
             return 8
         if name not in self.code:
             sys.exit(f"stack: there is no {name}")
-        if name in self.open:
+        if name == NESTED:
+            left -= 1
+        if left < 0:
+            return 0
+        if (name, left) in self.open:
             sys.exit(f"stack: a recursion: {self.open}")
-        if name not in self.known:
-            self.open.append(name)
-            self.known[name] = 8 + self.body(name)
+        if (name, left) not in self.known:
+            self.open.append((name, left))
+            self.known[name, left] = 8 + self.body(name, left)
             self.open.pop()
-        return self.known[name]
+        return self.known[name, left]
 
     def foreign(self, name, seen=None):
         """The functions of the C library that a function reaches."""
@@ -70,7 +77,7 @@ class Stack:
                 self.foreign(called, seen)
         return sorted(seen & set(FOREIGN))
 
-    def body(self, name):
+    def body(self, name, left):
         code = self.code[name]
         place = {address: i for i, (address, *_) in enumerate(code)}
         depths, most, todo = {}, 0, [(0, 0, None)]
@@ -85,11 +92,11 @@ class Stack:
             if word.startswith("call"):
                 if not target and "*" in rest:
                     sys.exit(f"stack: {name} calls by a register")
-                most = max(most, depth + self.of(target or name))
+                most = max(most, depth + self.of(target or name, left))
             elif word.startswith("j"):
                 to = re.match(r"^([0-9a-f]+)", rest)
                 if target and word == "jmp" and "*" not in rest:
-                    most = max(most, depth - 8 + self.of(target))
+                    most = max(most, depth - 8 + self.of(target, left))
                 elif "*" in rest:
                     # a table of places in this function: all of it is followed
                     todo += [(k, depth, base) for k in range(len(code)) if k not in depths]

@@ -1,6 +1,7 @@
 //! Requests and answers, as docs/CALLS.md has them: one function of the table after the other.
 
 use crate::acknowledge;
+use crate::asked;
 use crate::book;
 use crate::checks::{self, Check};
 use crate::digits;
@@ -75,6 +76,7 @@ fn called(request: &[u8]) -> Option<Answer> {
         "list" => in_list(function, &mut words),
         "sheet" => in_sheet(function, &mut words),
         "jsontext" => in_jsontext(function, &mut words),
+        "asked" => in_asked(function, &mut words),
         _ => None,
     }?;
     words.end()?;
@@ -691,6 +693,25 @@ fn in_jsontext(function: &str, words: &mut Words) -> Option<Answer> {
     }
 }
 
+fn in_asked(function: &str, words: &mut Words) -> Option<Answer> {
+    let (text, mut room) = (words.bytes()?, words.room()?);
+    match function {
+        "encode" => writes(room, asked::encode(&text)),
+        "read" => {
+            let result = asked::read(&text).and_then(|(message, content)| {
+                let length = room.write(&content)?;
+                let (kind, message) = (message.kind(), message_text(&message));
+                Ok(format!("{kind} {message} {length}"))
+            });
+            Some(Answer {
+                result,
+                room: Some(room),
+            })
+        }
+        _ => None,
+    }
+}
+
 /// A type: width, whether it has a sign, decimals.
 fn typed(result: Result<Type, Refusal>) -> Option<Answer> {
     tries(result.map(|listed| {
@@ -731,6 +752,8 @@ mod tests {
             "jsontext::members::count",
             "jsontext::members::value_of",
             "jsontext::members::characters",
+            "asked::encode",
+            "asked::read",
             "frames::search",
             "frames::why",
             "frames::payload",
@@ -775,6 +798,7 @@ mod tests {
             "0104002345310D0000000001000A000000",
             "010400FFFFFFFF",
             "340AC06902449CDA",
+            "7B226B696E64223A312C226D7367223A227461696C227D",
             "reply 1 2 3",
             "text 1",
             "response 1",

@@ -3,6 +3,7 @@
 
 use super::{float_text, pair_text, says, test_of, tries, writes, Answer};
 use crate::acknowledge;
+use crate::asked;
 use crate::book;
 use crate::frames;
 use crate::lines;
@@ -19,6 +20,7 @@ pub fn called(request: &[u8]) -> Option<Answer> {
     let answer = match name.strip_prefix("bolsterweft_")? {
         "search" | "why" | "one_frame" => in_frames(name, &mut words),
         "line" | "line_next" | "list" | "acknowledge" => in_lines(name, &mut words),
+        "encode" => encode(&mut words),
         function if function.ends_with("_with") => by_map(name, &mut words),
         function if function.starts_with("sheet_") => in_sheet(name, &mut words),
         function if function.starts_with("book_") => in_book(name, &mut words),
@@ -86,6 +88,12 @@ fn in_lines(name: &str, words: &mut Words) -> Option<Answer> {
             writes(words.room()?, answer)
         }
     }
+}
+
+/// The frame of a command as JSON.
+fn encode(words: &mut Words) -> Option<Answer> {
+    let frame = asked::encode(&words.bytes()?);
+    writes(words.room()?, frame)
 }
 
 /// Lines by a register map, which stands before the room; the empty map is no sheet.
@@ -228,6 +236,23 @@ mod tests {
         );
         answers("bolsterweft_climate 32768 0", "refused 5");
         answers("bolsterweft_climate 0 65536", "refused 5");
+        // {"kind":1,"msg":"tail"}, with another kind, and cut
+        answers(
+            "bolsterweft_encode 7B226B696E64223A312C226D7367223A227461696C227D 5",
+            "ok 4 room 2345310D+1",
+        );
+        answers(
+            "bolsterweft_encode 7B226B696E64223A312C226D7367223A227461696C227D 3",
+            "refused 4 room -+3",
+        );
+        answers(
+            "bolsterweft_encode 7B226B696E64223A322C226D7367223A227461696C227D 4",
+            "refused 12 room -+4",
+        );
+        answers(
+            "bolsterweft_encode 7B226B696E64223A312C226D7367223A227461696C22 4",
+            "refused 11 room -+4",
+        );
         answers("bolsterweft_book_open 000006000000", "ok 0");
         answers("bolsterweft_book_entry 000006000000 65536", "refused 3");
         answers("bolsterweft_book_add 00 260 - 0", "refused 8 room -+0");

@@ -2,6 +2,7 @@
 //! docs/CALLS.md. It is meant to be read beside document 01; see README.md.
 
 pub mod acknowledge;
+pub mod asked;
 pub mod book;
 pub mod calls;
 pub mod checks;
@@ -16,6 +17,8 @@ pub mod refusal;
 pub mod sheet;
 pub mod words;
 
+#[cfg(test)]
+mod known_commands;
 #[cfg(test)]
 mod known_points;
 #[cfg(test)]

@@ -1,6 +1,7 @@
-// Answers the records that ask for a function of `messages`, `commands`, `lines`, `book` or `list`, and passes all records on.
+// Answers the records that ask for a function of `messages`, `commands`, `lines`, `book`, `list` or `asked`, and passes all records on.
 // crates/calls_read/src/request.rt says what a record is.
 mod answer;
+mod asked_calls;
 mod book_calls;
 mod line_calls;
 mod message;
@@ -50,10 +51,7 @@ fn answered(record: &mut [u8], room: &mut [u8]) {
     let split = number(record, 10) as usize;
     let end = number(record, 11) as usize;
     let lent = number(record, 12) as usize;
-    if function < 900 {
-        return;
-    }
-    if 1399 < function {
+    if !for_this(function) {
         return;
     }
     if room.len() < lent {
@@ -68,6 +66,15 @@ fn answered(record: &mut [u8], room: &mut [u8]) {
     );
     put(answer::room(r, number(record, 13)), record, 104);
     put_all(r, record);
+}
+
+// Whether the function is of a library that this program has.
+fn for_this(function: u64) -> bool {
+    match function / 100 {
+        9..=13 => true,
+        16 => true,
+        _ => false,
+    }
 }
 
 fn put_all(r: Answer, record: &mut [u8]) {
@@ -98,6 +105,7 @@ fn call(function: u64, values: &[u64; 8], first: &[u8], s: &[u8], room: &mut [u8
     match function / 100 {
         9 => message_calls::call(function, values, first, s, room),
         10 | 11 => line_calls::call(function, values, first, s, room),
+        16 => asked_calls::call(function, s, room),
         _ => book_calls::call(function, values[0], first, s, room),
     }
 }

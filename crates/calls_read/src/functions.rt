@@ -9,14 +9,14 @@ pub(crate) fn read(line: &[u8], words: &mut [u64; 14], store: &mut [u8]) {
     let n = table::until(line, b':');
     let library = table::number(
         &line[0..n],
-        b"digits\nchecks\nputs\njson\nnumbers\nlayouts\nbuilds\nframes\nmessages\ncommands\nlines\nbook\nlist\nsheet\njsontext\n",
+        b"digits\nchecks\nputs\njson\nnumbers\nlayouts\nbuilds\nframes\nmessages\ncommands\nlines\nbook\nlist\nsheet\njsontext\nasked\n",
     );
     match library {
         1..=5 => of_values(line, words, store),
         6..=8 => of_frames(line, words, store),
         9..=11 => of_messages(line, words, store),
         14 => of_sheets(line, words, store),
-        15 => of_texts(line, words, store),
+        15 | 16 => of_texts(line, words, store),
         _ => of_books(line, words, store),
     }
 }
@@ -164,6 +164,8 @@ fn of_texts(line: &[u8], words: &mut [u64; 14], store: &mut [u8]) {
         jsontext::accepts 1501 bytes\n\
         jsontext::members::count 1502 bytes\n\
         jsontext::members::value_of 1503 bytes bytes\n\
-        jsontext::members::characters 1504 bytes room\n";
+        jsontext::members::characters 1504 bytes room\n\
+        asked::encode 1601 bytes room\n\
+        asked::read 1602 bytes room\n";
     request::read(rows, line, words, store)
 }

@@ -13,7 +13,7 @@ pub(crate) fn line(record: &[u8], room: &[u8], out: &mut [u8]) -> usize {
     if form == 0 {
         return puts::bytes(b"request?\n", out, 0);
     }
-    if 94 < form {
+    if 117 < form {
         return puts::bytes(b"request?\n", out, 0);
     }
     let said = say(form, record, room, out);
@@ -28,7 +28,7 @@ struct Spelt {
 }
 
 // Forms 1 to 22 are rows of this table. Of the next 23 each is a message, of the 23 behind them a message and two numbers, and of the 23
-// behind those four numbers and a message. The last three are verdicts.
+// behind those four numbers and a message. Then three are verdicts, and of the last 23 each is a number, a message and a number.
 fn say(form: u64, record: &[u8], room: &[u8], out: &mut [u8]) -> usize {
     let rows = b"\
         refused #;              ok;                     ok #;                   ok # #;                 \
@@ -50,7 +50,10 @@ fn say(form: u64, record: &[u8], room: &[u8], out: &mut [u8]) -> usize {
     if form < 92 {
         return message(form - 68, 10, 0, record, room, out);
     }
-    verdict(form - 91, record, room, out)
+    if form < 95 {
+        return verdict(form - 91, record, room, out);
+    }
+    message(form - 94, 4, 2, record, room, out)
 }
 
 // The test that failed and its values, alone or behind the three places of a frame; a line of a sheet, and the test that failed.
@@ -87,7 +90,7 @@ fn message(
     let said = spell(row(rows, n), record, room, out, name);
     let last = Spelt {
         at: said.at,
-        word: 4,
+        word: first.word,
     };
     spell(part(b" # #", 0, behind), record, room, out, last).at
 }

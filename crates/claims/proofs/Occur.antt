@@ -14,7 +14,7 @@ use lib.ListN.{length, getD, drop, replicate, length-append, length-drop, length
 use mathlib.Core.Bool.{_&&_, _||_}
 use Rattle.digits.specs.Paper.Ascii.{ascii}
 use Rattle.digits.specs.Paper.Decimal.{decimal, decimalIn, enough}
-use Rattle.digits.specs.Paper.Hex.{hexDigit, hexByte, hexWord}
+use Rattle.digits.specs.Paper.Hex.{hexDigit, hexByte, hexWord, hexBytes}
 use Rattle.digits.specs.Paper.LowFirst.{Width, Held}
 use Rattle.digits.proofs.Laws.Decimal.{length-some}
 use Rattle.digits.proofs.Laws.Hex.{digit-upper, byte-parts, word-parts}
@@ -42,7 +42,7 @@ use Rattle.commands.proofs.Known as commands-known
 use Rattle.messages.specs.Paper.Allowed.{StandingCause}
 use Rattle.messages.specs.Paper.Answers.{DecodeCause}
 use Rattle.messages.specs.Paper.Meant.{MeantCause}
-use Rattle.messages.specs.Paper.Message.{Message, end, response, command, row}
+use Rattle.messages.specs.Paper.Message.{Message, tail, link, end, response, command, row}
 use Rattle.messages.specs.Paper.NextId.{NextIdCause}
 use Rattle.messages.specs.Paper.Panel.{PairCause, VoltsCause}
 use Rattle.messages.specs.Paper.Says.{ofResponse}
@@ -78,6 +78,9 @@ use Rattle.claims.specs.Paper.Table.Digits as digits
 use Rattle.claims.specs.Paper.Table.Puts as puts
 use Rattle.claims.specs.Paper.Table.Numbers as numbers
 use Rattle.claims.specs.Paper.Table.Sheet as sheets
+use Rattle.asked.specs.Paper.Answers.{AskedCause, ReadCause, beside}
+use Rattle.asked.proofs.Known as asked-known
+use Rattle.claims.specs.Paper.Table.Asked as askeds
 use Rattle.claims.specs.Paper.Table.Jsontext as texts
 use Rattle.claims.specs.Paper.Table.Builds as builds
 use Rattle.claims.specs.Paper.Table.Frames as frames
@@ -662,6 +665,41 @@ text-characters = (
   ((record { text = ascii "\"\\n\""; room = [] }, text-members.CharactersCause.short text-known.a-string (lit< tt)), tt),
 )
 
+-- ---- asked
+
+-- a name twice; the empty text; a link with the content of a read; no room
+pub asked-read : Occur (askeds.read .Cause) (askeds.read .refusals)
+unfolding beside hexBytes hexByte
+asked-read = (
+  (record { text = text-known.twice; room = [] }, AskedCause.not-json text-known.not-in-the-grammar),
+  (
+    (record { text = []; room = [] }, AskedCause.no-message asked-known.no-command),
+    (
+      (record { text = []; room = [] }, AskedCause.by-message (ReadCause.standing (StandingCause.outside (λ m x l. asked-known.means-nothing m x)))),
+      (
+        (record { text = asked-known.linkText; room = [] }, AskedCause.by-message (ReadCause.standing (StandingCause.taken asked-known.a-link asked-known.its-above))),
+        ((record { text = asked-known.linkText; room = [] }, AskedCause.by-message (ReadCause.short (link (0x12 ∷ 0x07 ∷ 0x47 ∷ [])) asked-known.a-link (lit< tt))), tt),
+      ),
+    ),
+  ),
+)
+
+pub asked-encode : Occur (askeds.encode .Cause) (askeds.encode .refusals)
+unfolding contentOf
+asked-encode = (
+  (record { text = text-known.twice; room = [] }, AskedCause.not-json text-known.not-in-the-grammar),
+  (
+    (record { text = []; room = [] }, AskedCause.no-message asked-known.no-command),
+    (
+      (record { text = []; room = [] }, AskedCause.by-message (MessageCause.outside (λ m x l. asked-known.means-nothing m x))),
+      (
+        (record { text = asked-known.linkText; room = [] }, AskedCause.by-message (MessageCause.taken asked-known.a-link asked-known.its-above)),
+        ((record { text = asked-known.tailText; room = [] }, AskedCause.by-message (MessageCause.short {m = tail} asked-known.a-tail (omega arith))), tt),
+      ),
+    ),
+  ),
+)
+
 -- ---- host
 
 -- a call for C has the causes of what it calls
@@ -754,6 +792,9 @@ host-listing-with =
 
 pub host-acknowledge : Occur (host.acknowledge .Cause) (host.acknowledge .refusals)
 host-acknowledge = as-called commands.acknowledge host.acknowledge (λ a. record { frame = a .frame; room = a .room }) (λ a n c. c) acknowledge
+
+pub host-encode : Occur (host.encode .Cause) (host.encode .refusals)
+host-encode = as-called askeds.encode host.encode (λ a. record { text = a .text; room = a .room }) (λ a n c. c) asked-encode
 
 pub host-sheet-map : Occur (host.sheet-map .Cause) (host.sheet-map .refusals)
 host-sheet-map = as-called sheets.map host.sheet-map (λ a. record { text = a .text; map = a .map }) (λ a n c. c) sheet-map

@@ -129,7 +129,7 @@ one-member =
 
 -- ---- no name twice: `{"a":1,"\u0061":2}` is an object with two members of one name, so it is not in the grammar
 
-abbrev twice : List ℕ
+abbrev pub twice : List ℕ
 twice = ascii "{\"a\":1,\"\\u0061\":2}"
 
 abbrev its-first : Member
@@ -193,7 +193,7 @@ its-object =
       bare = Bares.and (bare-digit 0x31 (omega arith) (omega arith)) (Bares.and (bare-digit 0x32 (omega arith) (omega arith)) Bares.none);
     }
 
-not-in-the-grammar : InGrammar twice → ⊥
+pub not-in-the-grammar : InGrammar twice → ⊥
 unfolding names
 not-in-the-grammar g = same (once-names twice (its-first ∷ its-second ∷ []) g its-object)
   where

@@ -13,6 +13,7 @@ pub mod Characters
 pub mod Cursors
 pub mod Narrow
 pub mod Rules
+pub mod Parts
 pub mod Weaker
 pub mod Members
 pub mod Only

@@ -1,4 +1,4 @@
-mod Laws
+pub mod Laws
 pub mod Theorems
 pub mod Known
 pub mod Unique

@@ -3,11 +3,14 @@
 use mathlib.Core.Logic.{_↔_}
 use mathlib.Core.Path.{_≡_}
 use mathlib.Core.List.{List, _++_}
-use Prim.Native.Nat.{ℕ}
+use Prim.Native.Nat.{ℕ, _≤_}
+use lib.ListN.{length}
+use Rattle.digits.specs.Paper.Bytes.{part}
 use Rattle.jsontext.specs.Paper.Json.{char, string, value, valueWith, JSON-text}
-use Rattle.jsontext.specs.Paper.Members.{IsObject}
+use Rattle.jsontext.specs.Paper.Members.{IsObject, FirstNamed, valueEnds, IsString}
 use Rattle.jsontext.specs.Paper.Names.{Char, spelt, Member, names, Once, objectWith, mostDepth, InGrammar}
 use Rattle.jsontext.proofs.Laws.Objects as objects
+use Rattle.jsontext.proofs.Laws.Parts as parts
 use Rattle.jsontext.proofs.Laws.Rules as rules
 use Rattle.jsontext.proofs.Laws.Spelt as spelling
 use Rattle.jsontext.proofs.Laws.Units as units
@@ -51,3 +54,12 @@ one-object s ms ns x y = objects.one-object x y
 -- IN A TEXT OF THE GRAMMAR NO NAME STANDS TWICE, of those that a reader of its members finds
 pub once-names : (s : List ℕ) (ms : List Member) → InGrammar s → IsObject s ms → Once (names ms)
 once-names s ms g x = objects.once-names g x
+
+-- THE VALUE OF A MEMBER IS THE PART OF THE TEXT BETWEEN ITS PLACES, which are in order and within the text
+pub value-part : {s n : List ℕ} {ms : List Member} {m : Member} → IsObject s ms → FirstNamed n ms m
+    → (valueEnds s m .from ≤ valueEnds s m .to) × (valueEnds s m .to ≤ length s) × (part (valueEnds s m .from) (valueEnds s m .to) s ≡ m .value)
+value-part x f = let v = parts.value-part x f in (v .order, v .inside, v .is)
+
+-- A STRING HAS NO MORE CHARACTERS THAN BYTES
+pub string-length : (s cs : List ℕ) → IsString s cs → length cs ≤ length s
+string-length s cs x = parts.string-length x

@@ -54,7 +54,7 @@ count text r q a b = let e = one-answer one a b in many-answer r q (e .0) (e .1)
 
 -- ---- members::value_of
 
-one-first : {name : List ℕ} {ms : List Member} {m l : Member} → FirstNamed name ms m → FirstNamed name ms l → m ≡ l
+pub one-first : {name : List ℕ} {ms : List Member} {m l : Member} → FirstNamed name ms m → FirstNamed name ms l → m ≡ l
 one-first (FirstNamed.here e) (FirstNamed.here f) = refl
 one-first (FirstNamed.here e) (FirstNamed.further g y) = absurd (g e)
 one-first (FirstNamed.further g x) (FirstNamed.here f) = absurd (g f)

@@ -1,4 +1,4 @@
--- The public functions of `host`, `host_lines`, `host_list`, `host_sheet` and `host_book`: each keeps its claim.
+-- The public functions of `host`, `host_lines`, `host_list`, `host_sheet`, `host_asked` and `host_book`: each keeps its claim.
 -- Assumes nothing.
 use mathlib.Core.List.{List, [], _∷_}
 use mathlib.Core.Path.{refl}
@@ -17,13 +17,15 @@ use Rattle.host.proofs as host
 use Rattle.host_lines.proofs as host-lines
 use Rattle.host_list.proofs as host-list
 use Rattle.host_sheet.proofs as host-sheet
+use Rattle.host_asked.proofs as host-asked
 use Rattle.host_book.proofs as host-book
 use Rattle.host.proofs.Unique as unique
 use Rattle.host_lines.proofs.Unique as lines-unique
 use Rattle.host_list.proofs.Unique as list-unique
 use Rattle.host_sheet.proofs.Unique as sheet-unique
+use Rattle.host_asked.proofs.Unique as asked-unique
 use Rattle.host_book.proofs.Unique as book-unique
-use Rattle.claims.specs.Paper.Claim.{OneOf}
+use Rattle.claims.specs.Paper.Claim.{OneOf, here, there}
 use Rattle.claims.specs.Paper.Row.{Row, Proper, Every, none, and, promise}
 use Rattle.claims.specs.Paper.Function.{function-of}
 use Rattle.claims.specs.Paper.Table.Host as claims
@@ -37,6 +39,7 @@ use Rattle.claims.proofs.Table.List as list
 use Rattle.claims.proofs.Table.Numbers.{text-stated, byte-values-write-stated, byte-values-read-stated, out-of-range}
 use Rattle.claims.proofs.Table.Sheet.{map-stated}
 use Rattle.claims.proofs.Occur as inputs
+use Rattle.claims.proofs.Table.Asked as askeds
 
 climate-stated : {t h : ℤ} {no : ℕ} → ClimateCause t h no → OneOf no (5 ∷ [])
 climate-stated (ClimateCause.not-signed f) = OneOf.here
@@ -505,6 +508,29 @@ acknowledge-proper =
           (unique.right-written acknowledgement-one r q (unfronted x) (unfronted y));
     }
 
+abbrev pub encode : Row
+encode =
+    record {
+      function = function-of host-asked.bolsterweft_encode.Key.name host-asked.bolsterweft_encode.Kinds.ps host-asked.bolsterweft_encode.Kinds.r
+          host-asked.bolsterweft_encode.Symbol.routine;
+      claim = λ κs. claims.encode;
+      args = λ κs a. record { text = a .0 .now; room = a .1 .0 .now };
+      later = λ κs s. s .1 .0 .now;
+    }
+
+pub encode-proper : Proper encode
+encode-proper =
+    record {
+      named = λ κs. refl;
+      keeps = keeps-as (encode .function) host-asked.bolsterweft_encode.Reads.Post (promise encode)
+          (λ κs a r ws p. fronted p)
+          (λ w. host-asked.bolsterweft_encode.Met.met (w .𝓤) (w .H) (w .𝓜) (w .𝓖) (w .𝓡));
+      stated = λ κs a no c. askeds.encode-stated c;
+      occurs = λ κs. inputs.host-encode;
+      one = λ κs a r q ws vs x y. placed (λ (l : List ℕ). (tt, (l, tt)))
+          (asked-unique.encoded r q (unfronted x) (unfronted y));
+    }
+
 abbrev pub sheet-map : Row
 sheet-map =
     record {
@@ -729,6 +755,7 @@ rows =
     ∷ listing
     ∷ listing-with
     ∷ acknowledge
+    ∷ encode
     ∷ sheet-map
     ∷ sheet-fault
     ∷ book-open
@@ -764,6 +791,7 @@ rows-proper =
     (and listing-proper
     (and listing-with-proper
     (and acknowledge-proper
+    (and encode-proper
     (and sheet-map-proper
     (and sheet-fault-proper
     (and book-open-proper
@@ -772,4 +800,4 @@ rows-proper =
     (and book-line-with-proper
     (and book-list-proper
     (and book-list-with-proper
-    (and book-add-proper none))))))))))))))))))))))))))))))
+    (and book-add-proper none)))))))))))))))))))))))))))))))

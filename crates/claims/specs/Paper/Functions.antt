@@ -134,6 +134,9 @@ functions =
     ∷ ("lines::measure", 2 ∷ 3 ∷ 1 ∷ [])
     ∷ ("lines::of", 5 ∷ 4 ∷ [])
     ∷ ("lines::put_content", 5 ∷ [])
+    -- asked
+    ∷ ("asked::read", 11 ∷ 12 ∷ 5 ∷ 6 ∷ 4 ∷ [])
+    ∷ ("asked::encode", 11 ∷ 12 ∷ 5 ∷ 6 ∷ 4 ∷ [])
     -- book
     ∷ ("book::open", 8 ∷ [])
     ∷ ("book::entry", 8 ∷ 3 ∷ [])
@@ -149,7 +152,7 @@ functions =
     ∷ ("list::write", 4 ∷ [])
     ∷ ("list::write_mapped", 4 ∷ [])
     ∷ ("list::write_with", 4 ∷ [])
-    -- host, host_lines, host_list, host_sheet, host_book
+    -- host, host_lines, host_list, host_sheet, host_asked, host_book
     ∷ ("host::answers::refusal_number", [])
     ∷ ("host::answers::counted", [])
     ∷ ("host::answers::kind_byte", [])
@@ -172,6 +175,7 @@ functions =
     ∷ ("host_list::bolsterweft_list", 4 ∷ [])
     ∷ ("host_list::bolsterweft_list_with", 4 ∷ [])
     ∷ ("host_lines::bolsterweft_acknowledge", 5 ∷ 4 ∷ [])
+    ∷ ("host_asked::bolsterweft_encode", 11 ∷ 12 ∷ 5 ∷ 6 ∷ 4 ∷ [])
     ∷ ("host_sheet::bolsterweft_sheet_map", 10 ∷ 4 ∷ [])
     ∷ ("host_sheet::bolsterweft_sheet_fault", [])
     ∷ ("host_book::bolsterweft_book_open", 8 ∷ [])

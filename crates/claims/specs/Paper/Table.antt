@@ -20,6 +20,7 @@ pub mod Book
 pub mod Builds
 pub mod Checks
 pub mod Commands
+pub mod Asked
 pub mod Digits
 pub mod Frames
 pub mod Host

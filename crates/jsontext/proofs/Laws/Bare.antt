@@ -114,7 +114,7 @@ many-opt f s t (more x r) = inl (ended-opt (f _ _ x) (many-opt f _ _ r))
 digits-ended : Within (DIGIT ⨾ many DIGIT) Ended
 digits-ended = then-opt (range-ended 0x30 0x39 (omega arith)) (many-opt (range-ended 0x30 0x39 (omega arith)))
 
-number-ended : Within number Ended
+pub number-ended : Within number Ended
 number-ended =
     then-ended (opt-front (byte-front 0x2D))
     (then-opt (both-in (byte-ended 0x30 (omega arith)) (then-opt (range-ended 0x31 0x39 (omega arith)) (many-opt (range-ended 0x30 0x39 (omega arith)))))
@@ -155,12 +155,12 @@ led-ended n {v} f b u t =
     (λ c e x. number-ended (c ∷ u) t (number-from (c ∷ u) t (rw (e n v u t) at x))) b
 
 -- a value begins and ends with bytes that are no blanks
-record Shown (s t : List ℕ) : Type 0 where
-  b : ℕ
-  u : List ℕ
-  first : s ≡ b ∷ u
-  visible : 0x20 < b
-  ended : Ended s t
+pub record Shown (s t : List ℕ) : Type 0 where
+  pub b : ℕ
+  pub u : List ℕ
+  pub first : s ≡ b ∷ u
+  pub visible : 0x20 < b
+  pub ended : Ended s t
 
 shown : (n : Bool) {v : Rule} {s t : List ℕ} → Within v Front → Lead (leads n v) s t → Shown s t
 shown n {v} {t = t} f (lead {b = b} {u = u} e x) =
@@ -198,7 +198,7 @@ bare-front : (w : List ℕ) (x : ℕ) (c : List ℕ) {b : ℕ} {u : List ℕ} �
 bare-front [] x c e h t y = visible x (omega (arith, head-of e)) (blanks .first x [] t y)
 bare-front (z ∷ w) x c e h t y = visible z (omega (arith, head-of e)) (blanks .first z (w ++ (x ∷ [])) t y)
 
-shown-bare : {a c : List ℕ} → Shown a c → Bare (take (length a - length c) a)
+pub shown-bare : {a c : List ℕ} → Shown a c → Bare (take (length a - length c) a)
 shown-bare {a} {c} k =
     let w : List ℕ = k .ended .before in
     let x : ℕ = k .ended .last in

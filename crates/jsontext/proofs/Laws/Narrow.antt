@@ -175,7 +175,7 @@ module _ {s : List ℕ} where
 -- ---- how many units there are
 
 -- what both sides of a choice are
-either : (P : List ℕ → Type 0) (b : Bool) {x y : List ℕ} → P x → P y → P (cond b x y)
+pub either : (P : List ℕ → Type 0) (b : Bool) {x y : List ℕ} → P x → P y → P (cond b x y)
 either P true h k = h
 either P false h k = k
 

@@ -159,7 +159,7 @@ text-front w s t e = (w, e)
 pub ws-front : Within ws Front
 ws-front = many-front (both-in (byte-front 0x20) (both-in (byte-front 0x09) (both-in (byte-front 0x0A) (byte-front 0x0D))))
 
-mark-front : (b : ℕ) → Within (ws ⨾ byte b ⨾ ws) Front
+pub mark-front : (b : ℕ) → Within (ws ⨾ byte b ⨾ ws) Front
 mark-front b = then-front ws-front (then-front (byte-front b) ws-front)
 
 digits-front : Within (DIGIT ⨾ many DIGIT) Front
@@ -172,7 +172,7 @@ number-front =
     (opt-front (then-front (both-in (byte-front 0x65) (byte-front 0x45))
     (then-front (opt-front (both-in (byte-front 0x2D) (byte-front 0x2B))) digits-front)))))
 
-spelt-front : {us s t : List ℕ} → spelt us s t → Front s t
+pub spelt-front : {us s t : List ℕ} → spelt us s t → Front s t
 spelt-front (quoted {x = x} c e) = fronts (0x22 ∷ [], e) (fronts (x, refl) (0x22 ∷ [], refl))
 
 pub string-front : Within string Front
@@ -182,7 +182,7 @@ array-front : {v : Rule} → Within v Front → Within (array v) Front
 array-front f =
     then-front (mark-front 0x5B) (then-front (opt-front (then-front f (many-front (then-front (mark-front 0x2C) f)))) (mark-front 0x5D))
 
-member-front : {v : Rule} {m : Member} {s t : List ℕ} → member v m s t → Front s t
+pub member-front : {v : Rule} {m : Member} {s t : List ℕ} → member v m s t → Front s t
 member-front {m = m} (is n c x e k) = fronts (spelt-front n) (fronts (mark-front 0x3A _ _ c) (m .value, e))
 
 further-front : {v : Rule} {ms : List Member} {s t : List ℕ} → further v ms s t → Front s t

@@ -21,6 +21,7 @@ pub fn compare(sides: &Sides, seed: u64, count: usize) -> Totals {
     let mut all = tests_of(&functions::all(), seed, count);
     all.extend(tests_of(&functions::by_sheet(), seed, count / 2));
     all.extend(tests_of(&functions::on_texts(), seed, 3 * count / 8));
+    all.extend(tests_of(&functions::on_commands(), seed, count / 4));
     all.push(unknown(seed));
     all.extend(functions::all_fixed().into_iter().map(fixed));
     all.push(of_requests(
@@ -36,6 +37,7 @@ pub fn compare(sides: &Sides, seed: u64, count: usize) -> Totals {
 pub fn compare_from_c(sides: &Sides, seed: u64, count: usize) -> Totals {
     let mut all = tests_of(&functions::from_c(), seed, count);
     all.extend(tests_of(&functions::from_c_by_map(), seed, count / 4));
+    all.extend(tests_of(&functions::from_c_on_commands(), seed, count / 4));
     all.push(unknown(seed));
     all.extend(functions::fixed_from_c().into_iter().map(fixed));
     tests::run(sides, seed, &all)

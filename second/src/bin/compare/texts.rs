@@ -75,7 +75,7 @@ fn damaged(random: &mut Random) -> Vec<u8> {
     text
 }
 
-fn damage(text: &mut Vec<u8>, random: &mut Random) {
+pub fn damage(text: &mut Vec<u8>, random: &mut Random) {
     if text.is_empty() {
         return;
     }
@@ -96,7 +96,7 @@ fn damage(text: &mut Vec<u8>, random: &mut Random) {
     }
 }
 
-fn blanks(random: &mut Random) -> Vec<u8> {
+pub fn blanks(random: &mut Random) -> Vec<u8> {
     let count = if random.one_in(3) {
         random.from_to(1, 3)
     } else {
@@ -146,11 +146,11 @@ fn plain(random: &mut Random) -> Vec<u8> {
     }
 }
 
-fn array(values: &[Vec<u8>], random: &mut Random) -> Vec<u8> {
+pub fn array(values: &[Vec<u8>], random: &mut Random) -> Vec<u8> {
     enclosed(b'[', values, b']', random)
 }
 
-fn object(members: &[Vec<u8>], random: &mut Random) -> Vec<u8> {
+pub fn object(members: &[Vec<u8>], random: &mut Random) -> Vec<u8> {
     enclosed(b'{', members, b'}', random)
 }
 
@@ -168,7 +168,7 @@ fn enclosed(open: u8, parts: &[Vec<u8>], close: u8, random: &mut Random) -> Vec<
     text
 }
 
-fn member(name: &[u8], value: &[u8], random: &mut Random) -> Vec<u8> {
+pub fn member(name: &[u8], value: &[u8], random: &mut Random) -> Vec<u8> {
     [name, &between_blanks(b':', random), value].concat()
 }
 
@@ -494,7 +494,7 @@ pub fn long(sort: usize, length: usize, random: &mut Random) -> Vec<u8> {
 }
 
 /// Blanks around a text, until it has this length.
-fn lengthen(text: &mut Vec<u8>, length: usize, random: &mut Random) {
+pub fn lengthen(text: &mut Vec<u8>, length: usize, random: &mut Random) {
     while text.len() < length {
         let blank = random.pick(BLANKS);
         if random.one_in(2) && length - text.len() < 50 {

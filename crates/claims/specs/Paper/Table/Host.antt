@@ -1,4 +1,5 @@
--- The public functions of `host`, `host_lines`, `host_list`, `host_sheet` and `host_book`, which a program in C calls.
+-- The public functions of `host`, `host_lines`, `host_list`, `host_sheet`, `host_asked` and `host_book`, which a
+-- program in C calls.
 -- Assumes nothing.
 use mathlib.Core.Bool.{not}
 use mathlib.Core.List.{List, [], _∷_}
@@ -19,6 +20,9 @@ use Rattle.frames.specs.Paper.Search.{Leftmost, SearchCause, zeroHit}
 use Rattle.frames.specs.Paper.OneFrame.{OneFrame, OneFrameCause}
 use Rattle.frames.specs.Paper.Why.{WhyCause}
 use Rattle.commands.specs.Paper.Acknowledge.{AcknowledgeCause, AcknowledgementOf}
+use Rattle.commands.specs.Paper.Answers.{MessageCause, MeantBytes}
+use Rattle.asked.specs.Paper.Answers.{AskedCause}
+use Rattle.asked.specs.Paper.Means.{Means}
 use Rattle.lines.specs.Paper.Answers.{LineCause, LineOf, NextCause, NextLine, zeroPlaced}
 use Rattle.book.specs.Paper.Answers.{OpenCause, Counts, EntryCause, EntryOf, zeroLocation, EntryLineCause, EntryLine}
 use Rattle.book.specs.Paper.Answers.{ListCause, BookLines, AddCause, Adds}
@@ -436,6 +440,21 @@ acknowledge =
       refusals = 5 ∷ 4 ∷ [];
       Cause = λ a. AcknowledgeCause (a .frame) (length (a .room));
       form = counts (λ a. a .room) (λ a. AcknowledgementOf (a .frame));
+    }
+
+-- Writes the frame of the message that a text of JSON means from the front of the room.
+pub record EncodeArgs : Type 0 where
+  pub text : List ℕ
+  pub room : List ℕ
+
+abbrev pub encode : Claim Count
+encode =
+    record {
+      name = "host_asked::bolsterweft_encode";
+      Args = EncodeArgs;
+      refusals = 11 ∷ 12 ∷ 5 ∷ 6 ∷ 4 ∷ [];
+      Cause = λ a. AskedCause (a .text) (MessageCause (Means (a .text)) (length (a .room)));
+      form = counts (λ a. a .room) (λ a. MeantBytes (Means (a .text)));
     }
 
 -- Reads a sheet into a map, one byte a register.

@@ -1,5 +1,6 @@
 //! Every function of docs/CALLS.md: what its requests are made of, and which sorts of answer must come.
 
+mod asked;
 mod framed;
 mod ids;
 mod in_c;
@@ -73,6 +74,11 @@ pub fn on_texts() -> Vec<Function> {
     spelt::texts()
 }
 
+/// The functions on commands as JSON.
+pub fn on_commands() -> Vec<Function> {
+    asked::commands()
+}
+
 /// Requests that are listed, not drawn, and the first words of each sort of answer, as in `Function`.
 pub struct Fixed {
     pub test: String,
@@ -87,6 +93,30 @@ pub fn all_fixed() -> Vec<Fixed> {
         .chain(ids::each())
         .chain(values::each_pair())
         .chain(spelt::each())
+        .chain(asked::each())
+        .collect()
+}
+
+/// A test of these arguments. Each sort of answer must come.
+fn of_each(name: &str, what: &str, answers: &[&str], arguments: Vec<String>) -> Fixed {
+    Fixed {
+        test: format!("{name}, {what}"),
+        answers: answers.iter().map(ToString::to_string).collect(),
+        requests: arguments
+            .iter()
+            .map(|arguments| format!("{name} {arguments}"))
+            .collect(),
+    }
+}
+
+/// Each text, and each of these words behind it.
+fn with(texts: Vec<Vec<u8>>, behind: &[&str]) -> Vec<String> {
+    let alone = texts.iter().map(|text| hex(text));
+    if behind.is_empty() {
+        return alone.collect();
+    }
+    alone
+        .flat_map(|text| behind.iter().map(move |word| format!("{text} {word}")))
         .collect()
 }
 
@@ -98,6 +128,11 @@ pub fn from_c() -> Vec<Function> {
 /// The calls for C by a register map.
 pub fn from_c_by_map() -> Vec<Function> {
     in_c::by_map()
+}
+
+/// The call for C on commands as JSON.
+pub fn from_c_on_commands() -> Vec<Function> {
+    asked::from_c()
 }
 
 pub fn fixed_from_c() -> Vec<Fixed> {

@@ -1,6 +1,6 @@
 //! Texts of JSON (02, K4): drawn, and listed where there are few enough.
 
-use super::{function, words, Fixed, Function, ROOM};
+use super::{function, of_each, with, words, Fixed, Function, ROOM};
 use crate::arguments::hex;
 use crate::random::Random;
 use crate::texts::{self, DEEPEST, MOST_BYTES};
@@ -95,29 +95,6 @@ pub fn each() -> Vec<Fixed> {
         of_each(CHARACTERS, "each unit", &WRITTEN, units()),
         of_each(CHARACTERS, "each length", &WRITTEN, long_strings()),
     ]
-}
-
-/// Each sort of answer must come.
-fn of_each(name: &str, what: &str, answers: &[&str], arguments: Vec<String>) -> Fixed {
-    Fixed {
-        test: format!("{name}, {what}"),
-        answers: answers.iter().map(ToString::to_string).collect(),
-        requests: arguments
-            .iter()
-            .map(|arguments| format!("{name} {arguments}"))
-            .collect(),
-    }
-}
-
-/// Each text, and each of these words behind it.
-fn with(texts: Vec<Vec<u8>>, behind: &[&str]) -> Vec<String> {
-    let alone = texts.iter().map(|text| hex(text));
-    if behind.is_empty() {
-        return alone.collect();
-    }
-    alone
-        .flat_map(|text| behind.iter().map(move |word| format!("{text} {word}")))
-        .collect()
 }
 
 /// Each byte with bytes behind it, in a string and as a value.

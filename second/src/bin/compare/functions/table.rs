@@ -148,7 +148,7 @@ pub fn standing() -> Vec<Function> {
 }
 
 /// A test of its own for the row.
-fn of_row(row: &Row, mut function: Function) -> Function {
+pub fn of_row(row: &Row, mut function: Function) -> Function {
     function.test += &format!(", {}", row.name);
     function
 }

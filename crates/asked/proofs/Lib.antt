@@ -1,0 +1,4 @@
+pub mod Laws
+pub mod Theorems
+pub mod Known
+pub mod Unique

@@ -1,0 +1,4 @@
+pub mod Field
+pub mod Shapes
+pub mod Means
+pub mod Answers

@@ -1,0 +1,4 @@
+pub mod Got
+pub mod Rows
+pub mod Draft
+pub mod Homiq
