@@ -14,7 +14,7 @@ use Rattle.digits.specs.Paper.LowFirst.{low_byte_first}
 use Rattle.digits.proofs.Laws.Bytes.{bytes-nil, bytes-cons}
 use Rattle.checks.specs.Paper.Bits.{bits, of_lows, of_bits, bits_of_bytes}
 use Rattle.checks.specs.Paper.Check.{poly_bits, feed}
-use Rattle.json.specs.Paper.Json as json
+use Rattle.json_values.specs.Paper.Json as json
 use Rattle.jsontext.specs.Paper.Names.{utf8, utf16, Unescaped, Short, Hex, Char, Chars, Other, Once, most_depth, InGrammar}
 use Rattle.jsontext.proofs.Known as texts
 use Rattle.layouts.specs.Paper.Chars.{all, one_of}

@@ -65,7 +65,7 @@ fn wire(text: &[u8], content: &mut [u8; strings::MOST]) -> BytesRead
 }
 
 // A field that was read and put, with its `;`: the place behind that.
-#[derive(Drop)]
+#[derive(Clone, Copy)]
 pub struct FieldPut {
     pub state: u8,
     pub next: usize,
@@ -94,7 +94,7 @@ fn put_end(id: u64, letter: u8, content: &mut [u8], at: usize) -> usize
 }
 
 // A letter that was read.
-#[derive(Drop)]
+#[derive(Clone, Copy)]
 pub struct Letter {
     pub state: u8,
     pub letter: u8,

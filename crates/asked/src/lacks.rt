@@ -15,7 +15,7 @@ use jsontext::members::{Many, Value};
 use puts::Written;
 
 // The first thing that a text lacks. Where `there` is true, a member with the name stands there, and its value is not as it is to be.
-#[derive(Drop)]
+#[derive(Clone, Copy)]
 pub enum Lack {
     // It is not JSON, or over a limit.
     Text,

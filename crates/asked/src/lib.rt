@@ -1,4 +1,6 @@
 // Commands as JSON: a text becomes its message, and its message's frame.
+#![tactic(auto)]
+
 mod homiq;
 pub mod lacks;
 mod nest;
@@ -27,7 +29,7 @@ use messages::{Message, Standing};
 use puts::Written;
 
 // What a text asks for: the kind, the message, and how long what stands beside it is.
-#[derive(Drop)]
+#[derive(Clone, Copy)]
 pub enum Asked {
     Is {
         kind: u8,
@@ -38,7 +40,7 @@ pub enum Asked {
 }
 
 // What was read of a text: a message, with so many bytes beside it; or, unless the state is 0, the refusal's number.
-#[derive(Drop)]
+#[derive(Clone, Copy)]
 pub struct Draft {
     pub state: u8,
     pub message: Message,
@@ -46,7 +48,7 @@ pub struct Draft {
 }
 
 // A draft of the whole text, with its row.
-#[derive(Drop)]
+#[derive(Clone, Copy)]
 pub struct Drafted {
     pub row: u8,
     pub draft: Draft,

@@ -64,7 +64,7 @@ fn put(text: &[u8], digits: &mut [u8; strings::MOST]) -> Draft
 }
 
 // A register with a value that was read.
-#[derive(Drop)]
+#[derive(Clone, Copy)]
 pub struct Register {
     pub state: u8,
     pub valued: Valued,

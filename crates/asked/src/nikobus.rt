@@ -121,7 +121,7 @@ fn link(text: &[u8], digits: &mut [u8; strings::MOST], content: &mut [u8; string
 }
 
 // An address that was read.
-#[derive(Drop)]
+#[derive(Clone, Copy)]
 pub struct AddressRead {
     pub state: u8,
     pub address: u16,
@@ -147,7 +147,7 @@ fn high_first(high: u8, low: u8) -> u16
 }
 
 // Six bytes that were read.
-#[derive(Drop)]
+#[derive(Clone, Copy)]
 pub struct SixRead {
     pub state: u8,
     pub six: Six,

@@ -16,7 +16,7 @@ use jsontext::members;
 use puts::Written;
 
 // The count of bytes that were put into a room; 0 unless the state is 0.
-#[derive(Drop)]
+#[derive(Clone, Copy)]
 pub struct BytesRead {
     pub state: u8,
     pub len: usize,

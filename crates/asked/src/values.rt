@@ -17,7 +17,7 @@ pub(crate) const LARGE: u8 = 5;
 pub(crate) const NONE: u8 = 12;
 
 // Whether it is true; false unless the state is 0.
-#[derive(Drop)]
+#[derive(Clone, Copy)]
 pub struct TruthRead {
     pub state: u8,
     pub is: bool,

@@ -11,7 +11,7 @@ use numbers::text;
 use numbers::text::Reading;
 
 // A number that was read; 0 unless the state is 0.
-#[derive(Drop)]
+#[derive(Clone, Copy)]
 pub struct WholeRead {
     pub state: u8,
     pub value: i64,

@@ -28,7 +28,7 @@ pub(crate) const ENDING: usize = 6;
 pub(crate) const ADDED: usize = 7;
 
 // What stands before an entry's frame says: the entry's kind, and the places in the book where the frame begins and ends.
-#[derive(Drop)]
+#[derive(Clone, Copy)]
 pub(crate) struct Head {
     pub(crate) kind: u8,
     pub(crate) from: usize,

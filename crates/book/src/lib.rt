@@ -1,5 +1,7 @@
 // The capture book: frames kept in one string of bytes, each entry with its kind, and a trailer that says where they stand. Its lines go
 // by the installer's register sheet if there is one: a `map` is what `sheet::map` writes, and the empty map is no sheet.
+#![tactic(auto)]
+
 mod adding;
 mod contents;
 mod layout;
@@ -17,14 +19,14 @@ use digits::refusal::Refusal;
 use puts::Written;
 
 // What opening answers: how many entries a book has.
-#[derive(Drop)]
+#[derive(Clone, Copy)]
 pub enum Opened {
     Count(usize),
     Refused(Refusal),
 }
 
 // What is reported of an entry: its kind, its offset, and the places in the book where its frame begins and ends.
-#[derive(Drop)]
+#[derive(Clone, Copy)]
 pub enum Located {
     Is {
         kind: u8,

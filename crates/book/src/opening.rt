@@ -12,7 +12,7 @@ use frames::FramePayload;
 
 // What stands at a place of a book: an entry, with the places where its frame begins and ends in the book, and its payload in the frame;
 // or none.
-#[derive(Drop)]
+#[derive(Clone, Copy)]
 pub(crate) enum Slot {
     Taken {
         kind: u8,

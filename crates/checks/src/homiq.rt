@@ -8,7 +8,7 @@ use super::bitwise::low8;
 use super::rule::{BitOrder, Rule};
 
 // The state of the CRC, over the six fields joined without separators.
-#[derive(Drop)]
+#[derive(Clone, Copy)]
 pub struct Crc {
     pub value: u8,
 }

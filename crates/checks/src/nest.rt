@@ -8,7 +8,7 @@ use super::bitwise::high16;
 use super::rule::{BitOrder, Rule};
 
 // The state of the CRC, over id, length and payload.
-#[derive(Drop)]
+#[derive(Clone, Copy)]
 pub struct Crc {
     pub value: u16,
 }

@@ -7,7 +7,7 @@ ghost use Rattle.checks.specs.Paper.Rules.{check_of};
 use super::rule::{BitOrder, Rule};
 
 // The state of the XOR, over the length and the data; the start mark and the command are not covered.
-#[derive(Drop)]
+#[derive(Clone, Copy)]
 pub struct Xor {
     pub value: u8,
 }

@@ -8,7 +8,7 @@ use super::bitwise::{high8, high16};
 use super::rule::{BitOrder, Rule};
 
 // The state of CRC16, over the payload's bytes.
-#[derive(Drop)]
+#[derive(Clone, Copy)]
 pub struct Crc16 {
     pub value: u16,
 }
@@ -68,7 +68,7 @@ impl Crc16 {
 }
 
 // The state of CRC8, over the characters from `$` to the end of the CRC16.
-#[derive(Drop)]
+#[derive(Clone, Copy)]
 pub struct Crc8 {
     pub value: u8,
 }

@@ -7,7 +7,7 @@ use mathlib.Core.Path.{◌≡◌, refl, sym, ◌∙◌, subst}
 use Prim.Native.Nat.{ℕ, ◌≤◌}
 use native.Mathlib.Omega.{arith}
 use lib.ListN.{length, take}
-use prog.Routine.{Name}
+use mir.Syntax.{Symbol as Name}
 use Rattle.digits.proofs.Laws.Refusals.{one-refusal, some_number, cause-at, cause-of, keep, answered}
 use Rattle.digits.specs.Paper.Refusals.{refusal_number, refusal_order}
 use Rattle.digits.specs.declared.refusal.Refusal.{Refusal}

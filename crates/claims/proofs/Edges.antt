@@ -30,7 +30,7 @@ use Rattle.checks.specs.Paper.Check.{poly_bits, feed}
 use Rattle.numbers.specs.Paper.Raw.{Between, most_decimals}
 use Rattle.numbers.specs.Paper.Text.{InLimits}
 use Rattle.numbers.specs.Paper.Single.{from_first_one, significant_bits, fits_single}
-use Rattle.json.specs.Paper.Json.{escaped}
+use Rattle.json_values.specs.Paper.Json.{escaped}
 use Rattle.layouts.specs.Paper.Chars.{one_of, all, is_hex}
 use Rattle.layouts.specs.Paper.Homiq as homiqs
 use Rattle.layouts.specs.Paper.Made.{Wire, nest_of, homiq_of}

@@ -54,7 +54,7 @@ use Rattle.messages.specs.declared.nest.Response.TheVariants as responses
 use Rattle.messages.specs.declared.nibe.Nibe.TheVariants.{Put}
 use Rattle.messages.proofs.Known as messages-known
 use Rattle.commands.specs.Paper.Answers.{EncodeCause, MessageCause}
-use Rattle.json.specs.Paper.Json.{object}
+use Rattle.json_values.specs.Paper.Json.{object}
 use Rattle.lines.specs.Paper.WithSheet.{line_with}
 use Rattle.lines.specs.Paper.Answers.{LineOf, LineCause, LineByTextCause, SaidCause, NextCause}
 use Rattle.lines.proofs.Theorems.{has-line, has-line-said}

@@ -1,4 +1,6 @@
 // Commands back to bytes: messages encoded into frames, and frames acknowledged.
+#![tactic(auto)]
+
 mod homiq;
 mod nest;
 mod nibe;

@@ -7,14 +7,14 @@ ghost use Rattle.digits.specs.Work.Decimal.{guess};
 use super::slices;
 
 // The digits of a number: they are the characters from `from` on, and the characters before are 0.
-#[derive(Drop)]
+#[derive(Clone, Copy)]
 pub struct Decimal {
     pub chars: [u8; 20],
     pub from: usize,
 }
 
 // What decimal digits are read as: a number of 32 bits, or `NoNumber` if no such number is written so.
-#[derive(Drop)]
+#[derive(Clone, Copy)]
 pub enum Natural {
     Is(u32),
     NoNumber,

@@ -4,14 +4,14 @@ ghost use Rattle.digits.specs.Paper.Hex.{hex_digit, hex_byte, hex_word};
 ghost use Rattle.digits.specs.Paper.Answers.{ReadsDigit, ReadsByte, ReadsWord};
 
 // What two hex digits are read as: a byte, or `NoDigit` if one of them is no digit.
-#[derive(Drop)]
+#[derive(Clone, Copy)]
 pub enum Byte {
     Is(u8),
     NoDigit,
 }
 
 // What four hex digits are read as: a number of 16 bits, or `NoDigit`.
-#[derive(Drop)]
+#[derive(Clone, Copy)]
 pub enum Word {
     Is(u16),
     NoDigit,

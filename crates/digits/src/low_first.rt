@@ -5,7 +5,7 @@ ghost use Rattle.digits.specs.Paper.Answers.{ReadsNumber};
 ghost use Rattle.digits.specs.Paper.LowFirst.{low_value};
 
 // What bytes are read as: a number, or `Width` if there are not 1, 2 or 4 of them.
-#[derive(Drop)]
+#[derive(Clone, Copy)]
 pub enum Number {
     Is(u32),
     Width,

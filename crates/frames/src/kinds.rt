@@ -9,7 +9,7 @@ use layouts::nest::Direction;
 use layouts::{AtHead, homiq, nest, nibe, nikobus};
 
 // A bus and a direction.
-#[derive(Drop)]
+#[derive(Clone, Copy)]
 pub enum Kind {
     Nikobus,
     NestCommand,
@@ -19,7 +19,7 @@ pub enum Kind {
 }
 
 // What a number is resolved to: a kind, or that there is none of that number.
-#[derive(Drop)]
+#[derive(Clone, Copy)]
 pub enum Resolved {
     Is(Kind),
     Unknown,

@@ -1,4 +1,6 @@
 // Frames of the five kinds in a buffer: the search, and the parts that it hands back.
+#![tactic(auto)]
+
 pub mod kinds;
 mod seek;
 
@@ -15,7 +17,7 @@ use kinds::{Kind, Resolved};
 use layouts::{AtHead, Test};
 
 // What a search finds: the frame's start and length, and the places where its payload begins and ends.
-#[derive(Drop)]
+#[derive(Clone, Copy)]
 pub enum Found {
     At {
         start: usize,
@@ -27,14 +29,14 @@ pub enum Found {
 }
 
 // Whether bytes are one frame: the places where its payload begins and ends.
-#[derive(Drop)]
+#[derive(Clone, Copy)]
 pub enum FramePayload {
     Is { from: usize, to: usize },
     Refused(Refusal),
 }
 
 // Why no frame stands at a place: the test that failed first, and the values of a failed check; `None` and zeros if one stands there.
-#[derive(Drop)]
+#[derive(Clone, Copy)]
 pub enum Verdict {
     Is {
         test: Test,

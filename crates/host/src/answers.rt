@@ -14,7 +14,7 @@ const BEYOND_A_BYTE: u32 = 256;
 
 // A frame that is found in a buffer, and its payload: where each begins, and how long it is.
 #[repr(C)]
-#[derive(Drop)]
+#[derive(Clone, Copy)]
 pub struct Found {
     pub refusal: u32,
     pub start: usize,
@@ -25,7 +25,7 @@ pub struct Found {
 
 // Where the payload of a frame begins, and how long it is.
 #[repr(C)]
-#[derive(Drop)]
+#[derive(Clone, Copy)]
 pub struct Payload {
     pub refusal: u32,
     pub payload_start: usize,
@@ -34,7 +34,7 @@ pub struct Payload {
 
 // The test that a frame at a place failed first, by its number, and the values of a failed check.
 #[repr(C)]
-#[derive(Drop)]
+#[derive(Clone, Copy)]
 pub struct Verdict {
     pub refusal: u32,
     pub test: u32,
@@ -44,7 +44,7 @@ pub struct Verdict {
 
 // How many bytes were written.
 #[repr(C)]
-#[derive(Drop)]
+#[derive(Clone, Copy)]
 pub struct Count {
     pub refusal: u32,
     pub length: usize,
@@ -52,7 +52,7 @@ pub struct Count {
 
 // A raw number and its decimals.
 #[repr(C)]
-#[derive(Drop)]
+#[derive(Clone, Copy)]
 pub struct Reading {
     pub refusal: u32,
     pub decimals: u32,
@@ -61,7 +61,7 @@ pub struct Reading {
 
 // A raw number.
 #[repr(C)]
-#[derive(Drop)]
+#[derive(Clone, Copy)]
 pub struct Raw {
     pub refusal: u32,
     pub raw: i64,
@@ -69,7 +69,7 @@ pub struct Raw {
 
 // Whether a single float holds a number: 1 or 0.
 #[repr(C)]
-#[derive(Drop)]
+#[derive(Clone, Copy)]
 pub struct Fit {
     pub refusal: u32,
     pub fits: u32,
@@ -77,7 +77,7 @@ pub struct Fit {
 
 // What the panel is shown: of size 4 it is `single`, of size 8 `wide`, and the other is 0.
 #[repr(C)]
-#[derive(Drop)]
+#[derive(Clone, Copy)]
 pub struct PanelValue {
     pub refusal: u32,
     pub size: u32,
@@ -87,7 +87,7 @@ pub struct PanelValue {
 
 // What the panel is shown of a climate message.
 #[repr(C)]
-#[derive(Drop)]
+#[derive(Clone, Copy)]
 pub struct Climate {
     pub refusal: u32,
     pub temperature: f32,

@@ -4,6 +4,8 @@
 //
 // Lines, the listing, the register sheet, commands as JSON and the book are in crates of their own, `host_lines`, `host_list`, `host_sheet`,
 // `host_asked` and `host_book`, and so in objects of their own. A program links what it calls, and the compiler makes each as quick as if it were alone.
+#![tactic(auto)]
+
 pub mod answers;
 pub mod frame_calls;
 pub mod number_calls;

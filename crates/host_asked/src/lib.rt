@@ -1,4 +1,6 @@
 // What a program in C calls for a command that is a text of JSON: the frame of the message that the text means.
+#![tactic(auto)]
+
 ghost use Rattle.std.specs.Prelude.{length};
 ghost use Rattle.puts.specs.Paper.Right.{WroteRight};
 ghost use Rattle.commands.specs.Paper.Answers.{MessageCause, MeantBytes};

@@ -1,4 +1,6 @@
 // What a program in C calls for the capture book: its entries, their lines, and a book with an entry more.
+#![tactic(auto)]
+
 ghost use Rattle.std.proofs.Math.Option.{none};
 ghost use Rattle.std.specs.Prelude.{length};
 ghost use Rattle.digits.specs.Paper.Refusals.{Answers};
@@ -13,7 +15,7 @@ use host::answers::Count;
 
 // How many entries a book has.
 #[repr(C)]
-#[derive(Drop)]
+#[derive(Clone, Copy)]
 pub struct Entries {
     pub refusal: u32,
     pub count: usize,
@@ -21,7 +23,7 @@ pub struct Entries {
 
 // An entry of a book: its kind and offset, where its frame begins, and how long the frame is.
 #[repr(C)]
-#[derive(Drop)]
+#[derive(Clone, Copy)]
 pub struct Entry {
     pub refusal: u32,
     pub kind: u32,

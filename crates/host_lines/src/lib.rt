@@ -1,4 +1,6 @@
 // What a program in C calls for lines of JSON, of a frame and of the next frame of a capture, and for the acknowledgement of a frame.
+#![tactic(auto)]
+
 ghost use Rattle.std.specs.Prelude.{List, length};
 ghost use Rattle.std.proofs.Math.Option.{none};
 ghost use Rattle.digits.specs.Paper.Refusals.{Answers};
@@ -13,7 +15,7 @@ use host::answers::Count;
 
 // A frame of a capture whose line was written, and how long that line is.
 #[repr(C)]
-#[derive(Drop)]
+#[derive(Clone, Copy)]
 pub struct Listed {
     pub refusal: u32,
     pub start: usize,

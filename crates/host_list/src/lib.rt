@@ -1,4 +1,6 @@
 // What a program in C calls for the listing of a whole capture. The call `_with` takes a register map; the empty map is no sheet.
+#![tactic(auto)]
+
 ghost use Rattle.list.specs.Paper.Answers.{WroteListing};
 ghost use Rattle.list.specs.Paper.Listing.{NoSheet, OfMap};
 

@@ -1,5 +1,7 @@
 // What a program in C calls for the installer's register sheet: its map, what is wrong with it, and lines by a map. The empty map is no
 // sheet.
+#![tactic(auto)]
+
 ghost use Rattle.std.specs.Prelude.{◌≡◌, length};
 ghost use Rattle.puts.specs.Paper.Right.{WroteRight};
 ghost use Rattle.sheet.specs.Paper.Answers.{MapCause, IsMap, test_number};
@@ -15,7 +17,7 @@ use sheet::faults::Test;
 
 // The first line of a sheet that is wrong, counted from 1, and the number of the first test that it fails; zeros if none is wrong.
 #[repr(C)]
-#[derive(Drop)]
+#[derive(Clone, Copy)]
 pub struct Fault {
     pub refusal: u32,
     pub test: u32,

@@ -7,7 +7,6 @@ use Prim.Native.Nat.{ℕ, ◌≤◌}
 use native.Mathlib.Omega.{arith}
 use lib.ListN.{length}
 use Rattle.digits.specs.Paper.Ascii.{ascii}
-use Rattle.digits.specs.Paper.Part.{Ends}
 use Rattle.digits.proofs.Laws.Bytes.{bytes-nil, bytes-cons}
 use Rattle.jsontext.specs.Paper.Abnf.{Rule, done, more}
 use Rattle.jsontext.specs.Paper.Json.{blank, ws, begin-array, end-array, number, value, value_with}

@@ -9,7 +9,7 @@ ghost use Rattle.jsontext.specs.Work.Units.{name_in};
 use crate::units::{Cursor, Unit};
 
 // What comparing one unit of a string with a byte of a name shows: both go on, or whether they are the same.
-#[derive(Drop)]
+#[derive(Clone, Copy)]
 pub enum Named {
     On(Cursor),
     Told(bool),

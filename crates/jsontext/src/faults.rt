@@ -8,7 +8,7 @@ ghost use Rattle.jsontext.specs.Work.Faults.{StopsFrom, Stands};
 
 // What must stand at a place: a value; a value that is nested less deep; a name; a name that its object does not have yet; a colon; a comma or
 // the closing bracket; nothing more.
-#[derive(Drop)]
+#[derive(Clone, Copy)]
 pub enum Lack {
     Value,
     Depth,
@@ -20,7 +20,7 @@ pub enum Lack {
 }
 
 // None, for a text that is accepted; a text over the limit; or a place, counted from 0, and what must stand there.
-#[derive(Drop)]
+#[derive(Clone, Copy)]
 pub enum Fault {
     None,
     Long,

@@ -1,4 +1,6 @@
 // The grammar of RFC 8259: which texts are JSON.
+#![tactic(auto)]
+
 mod characters;
 pub mod faults;
 pub mod members;

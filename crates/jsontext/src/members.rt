@@ -8,14 +8,14 @@ use digits::refusal::Refusal;
 use puts::Written;
 
 // How many members an object has.
-#[derive(Drop)]
+#[derive(Clone, Copy)]
 pub enum Many {
     Is(usize),
     Refused(Refusal),
 }
 
 // Where the value of a member begins and ends.
-#[derive(Drop)]
+#[derive(Clone, Copy)]
 pub enum Value {
     At { from: usize, to: usize },
     Refused(Refusal),

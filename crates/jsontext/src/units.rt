@@ -6,21 +6,21 @@ ghost use Rattle.jsontext.specs.Work.Names.{Steps, Compares};
 ghost use Rattle.jsontext.specs.Work.Units.{hex_value, short_value, size_of, escape_of, code_of, two_of, three_of, four_of, units, name_in};
 
 // A place in a string. A character of four bytes has two units: `low` is the second of them until it is taken, and else 0.
-#[derive(Drop)]
+#[derive(Clone, Copy)]
 pub struct Cursor {
     pub at: usize,
     pub low: u32,
 }
 
 // The next unit of a string, and the cursor behind it.
-#[derive(Drop)]
+#[derive(Clone, Copy)]
 pub enum Unit {
     Is { unit: u32, next: Cursor },
     End,
 }
 
 // What comparing one unit of two strings shows: both go on, or whether they are the same.
-#[derive(Drop)]
+#[derive(Clone, Copy)]
 pub enum Met {
     Both { x: Cursor, y: Cursor },
     Told(bool),

@@ -179,7 +179,7 @@ fn is_character(c: u8) -> bool
 }
 
 // A number that has been read: where it ends, 0 for none, and what it is. Its digits are read once, for both.
-#[derive(Drop)]
+#[derive(Clone, Copy)]
 struct Numeral {
     end: usize,
     value: u16,

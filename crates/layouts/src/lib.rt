@@ -1,4 +1,6 @@
 // The layouts of the buses' frames: what stands at the head of a slice.
+#![tactic(auto)]
+
 pub mod homiq;
 pub mod nest;
 pub mod nibe;
@@ -9,7 +11,7 @@ ghost use Rattle.std.specs.Prelude.{◌≡◌};
 ghost use Rattle.layouts.specs.Work.Answered.{without, differing, standing};
 
 // The tests of a frame, in their order. A frame fails at the first that does not hold; `None` means that it passes them all.
-#[derive(Drop)]
+#[derive(Clone, Copy)]
 pub enum Test {
     None,
     Start,
@@ -20,7 +22,7 @@ pub enum Test {
 }
 
 // A check's two values: the one that stands in the frame, and the one that is worked out.
-#[derive(Drop)]
+#[derive(Clone, Copy)]
 pub struct Compared {
     pub found: u16,
     pub expected: u16,
@@ -28,7 +30,7 @@ pub struct Compared {
 
 // What stands at the head of a slice: the test that it failed, with the values of a failed check, else zeros; and of a frame how long it
 // is, and where in it its payload begins and ends, else zeros.
-#[derive(Drop)]
+#[derive(Clone, Copy)]
 pub struct AtHead {
     pub failed: Test,
     pub found: u16,

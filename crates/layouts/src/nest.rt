@@ -9,7 +9,7 @@ use super::{AtHead, Compared, Test, differs, nothing, stands, words};
 use checks::nest::Crc;
 
 // Commands go to the backplate, responses come from it.
-#[derive(Drop)]
+#[derive(Clone, Copy)]
 pub enum Direction {
     Command,
     Response,

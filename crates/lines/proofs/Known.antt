@@ -5,7 +5,7 @@ use mathlib.Core.Path.{◌≡◌, refl}
 use Rattle.digits.specs.Paper.Ascii.{ascii}
 use Rattle.digits.specs.Paper.Decimal.{decimal, decimal_in, enough}
 use Rattle.digits.specs.Paper.Hex.{hex_digit, hex_byte, hex_bytes}
-use Rattle.json.specs.Paper.Json.{escaped, each_escaped, object, further}
+use Rattle.json_values.specs.Paper.Json.{escaped, each_escaped, object, further}
 use Rattle.messages.specs.Paper.Message.{read, command, text}
 use Rattle.lines.specs.Paper.Line.{members, line}
 

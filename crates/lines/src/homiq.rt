@@ -1,8 +1,8 @@
 // Homiq: a line from the message's name to its last member.
 ghost use Rattle.std.specs.Prelude.{◌≡◌, [], ◌∷◌, ◌++◌, length};
 ghost use Rattle.digits.specs.Paper.Ascii.{ascii};
-ghost use Rattle.json.specs.Paper.Json as paper;
-ghost use Rattle.json.specs.Paper.Json.{◌∶◌};
+ghost use Rattle.json_values.specs.Paper.Json as paper;
+ghost use Rattle.json_values.specs.Paper.Json.{◌∶◌};
 ghost use Rattle.messages.specs.Paper.Homiq.{up_to, past, field_at};
 ghost use Rattle.puts.specs.Paper.Put.{Put};
 ghost use Rattle.lines.specs.Work.Put.{commaed, homiq_name, field_members};
@@ -38,9 +38,9 @@ fn id_and_type(fields: &[u8], room: &mut [u8], at: usize) -> usize
     let a = puts::bytes(b",\"id\":", room, at);
     let b = puts::bytes(id, room, a);
     let kind = homiq::field(behind(fields, id.len()), 0);
-    // not by `members::chars`: with `json::chars` called from here too, the compiler does not inline it there, but inlines `members::chars`
+    // not by `members::chars`: with `json_values::chars` called from here too, the compiler does not inline it there, but inlines `members::chars`
     let c = puts::bytes(b",\"type\":", room, b);
-    json::chars(kind, room, c)
+    json_values::chars(kind, room, c)
 }
 
 // What stands behind the first field, which has n characters, and its `;`. So each field is looked for once.

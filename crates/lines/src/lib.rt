@@ -1,5 +1,7 @@
 // A frame's message as a line of JSON, by the installer's register sheet if there is one: a `map` is what `sheet::map` writes, and the
 // empty map is no sheet.
+#![tactic(auto)]
+
 mod homiq;
 mod members;
 mod nest;
@@ -28,14 +30,14 @@ const MOST_A_BYTE: usize = 8;
 const MOST_BY_A_SHEET: usize = 26;
 
 // Where the line of a content ends: the place in the room behind it.
-#[derive(Drop)]
+#[derive(Clone, Copy)]
 pub enum Ended {
     At(usize),
     Refused(Refusal),
 }
 
 // What stands next in a capture: a frame's start and length, and the place in the room behind its line.
-#[derive(Drop)]
+#[derive(Clone, Copy)]
 pub enum Listed {
     At {
         start: usize,
@@ -46,7 +48,7 @@ pub enum Listed {
 }
 
 // What stands next in a capture: a frame's start and length, and the size of its line.
-#[derive(Drop)]
+#[derive(Clone, Copy)]
 pub enum Measured {
     At {
         start: usize,
@@ -57,7 +59,7 @@ pub enum Measured {
 }
 
 // What comes of trying to put the next line: where it ends; or the start of its frame, if it might not fit and is not put.
-#[derive(Drop)]
+#[derive(Clone, Copy)]
 pub(crate) enum Tried {
     At {
         start: usize,

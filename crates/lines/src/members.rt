@@ -1,10 +1,10 @@
 // The members of a line: each behind its label, which is a `,`, the name in quotes and a `:`.
 ghost use Rattle.std.specs.Prelude.{◌++◌, pos};
 ghost use Rattle.puts.specs.Paper.Put.{Put};
-ghost use Rattle.json.specs.Paper.Json as paper;
-ghost use Rattle.json.specs.Paper.Decimals.{decimals_of};
+ghost use Rattle.json_values.specs.Paper.Json as paper;
+ghost use Rattle.json_values.specs.Paper.Decimals.{decimals_of};
 
-use json::Decimals;
+use json_values::Decimals;
 
 pub(crate) fn number(label: &[u8], n: u32, room: &mut [u8], at: usize) -> usize
     ensures { Put room.old room.new at result (label.now ++ paper.number n) }
@@ -17,14 +17,14 @@ pub(crate) fn hex(label: &[u8], s: &[u8], room: &mut [u8], at: usize) -> usize
     ensures { Put room.old room.new at result (label.now ++ paper.hex s.now) }
 {
     let next = puts::bytes(label, room, at);
-    json::hex(s, room, next)
+    json_values::hex(s, room, next)
 }
 
 pub(crate) fn chars(label: &[u8], s: &[u8], room: &mut [u8], at: usize) -> usize
     ensures { Put room.old room.new at result (label.now ++ paper.chars s.now) }
 {
     let next = puts::bytes(label, room, at);
-    json::chars(s, room, next)
+    json_values::chars(s, room, next)
 }
 
 pub(crate) fn reading(
@@ -37,5 +37,5 @@ pub(crate) fn reading(
     ensures { Put room.old room.new at result (label.now ++ paper.reading (pos raw) (decimals_of decimals)) }
 {
     let next = puts::bytes(label, room, at);
-    json::unsigned(raw, decimals, room, next)
+    json_values::unsigned(raw, decimals, room, next)
 }

@@ -1,13 +1,13 @@
 // Nest: a line from the message's name to its last member.
 ghost use Rattle.std.specs.Prelude.{◌++◌};
 ghost use Rattle.digits.specs.Paper.Ascii.{ascii};
-ghost use Rattle.json.specs.Paper.Json as paper;
+ghost use Rattle.json_values.specs.Paper.Json as paper;
 ghost use Rattle.messages.specs.Paper.Message.{command, climate, text, response};
 ghost use Rattle.puts.specs.Paper.Put.{Put};
 ghost use Rattle.lines.specs.Work.Put.{named, state_members, response_name_and_members};
 
 use super::members;
-use json::Decimals;
+use json_values::Decimals;
 use messages::nest;
 use messages::nest::{Response, Volts};
 
@@ -43,7 +43,7 @@ fn climate(temperature: i16, humidity: u16, room: &mut [u8], at: usize) -> usize
     ensures { Put room.old room.new at result (named (climate temperature humidity)) }
 {
     let a = puts::bytes(b"climate\",\"temp\":", room, at);
-    let b = json::signed(temperature as i32, Decimals::Two, room, a);
+    let b = json_values::signed(temperature as i32, Decimals::Two, room, a);
     members::reading(b",\"hum\":", humidity as u32, Decimals::One, room, b)
 }
 

@@ -7,7 +7,7 @@ ghost use Rattle.lines.specs.Work.Put.{commaed, named_with};
 
 use super::{members, values};
 use digits::low_first;
-use json::Decimals;
+use json_values::Decimals;
 use messages::nibe::{Nibe, Valued};
 use sheet::Typed;
 
@@ -33,7 +33,7 @@ pub(crate) fn name_and_members(
         }
         Nibe::Done { ok } => {
             let a = puts::bytes(b"done\",\"ok\":", room, at);
-            json::truth(ok, room, a)
+            json_values::truth(ok, room, a)
         }
         Nibe::Other { command } => {
             let a = members::number(b"nibe\",\"cmd\":", command as u32, room, at);
@@ -58,10 +58,10 @@ fn reading(valued: Valued, map: &[u8], room: &mut [u8], at: usize) -> usize
     ensures { Put room.old room.new at result (value_reading (lookup_in map.now valued.register) valued.width valued.value) }
 {
     let Typed::Is(width, signed, decimals) = sheet::type_in(map, valued.register) else {
-        return json::unsigned(valued.value, Decimals::Zero, room, at);
+        return json_values::unsigned(valued.value, Decimals::Zero, room, at);
     };
     if width != valued.width as usize {
-        return json::unsigned(valued.value, Decimals::Zero, room, at);
+        return json_values::unsigned(valued.value, Decimals::Zero, room, at);
     }
     let four = low_first::four(valued.value);
     values::typed(&four[0..width], signed, decimals, room, at)

@@ -1,7 +1,7 @@
 // Nikobus: a line from the message's name to its last member.
 ghost use Rattle.std.specs.Prelude.{[], ◌∷◌, ◌++◌};
 ghost use Rattle.digits.specs.Paper.Ascii.{ascii};
-ghost use Rattle.json.specs.Paper.Json as paper;
+ghost use Rattle.json_values.specs.Paper.Json as paper;
 ghost use Rattle.messages.specs.Paper.Message.{read, set, answer, press};
 ghost use Rattle.messages.specs.Paper.Says.{six};
 ghost use Rattle.puts.specs.Paper.Put.{Put};

@@ -30,7 +30,7 @@ use Rattle.frames.specs.declared.Found.TheVariants.{At, Refused}
 use Rattle.frames.proofs.Theorems.{an-answer}
 use Rattle.messages.specs.Paper.Message.{command}
 use Rattle.messages.proofs.Known as messages
-use Rattle.json.specs.Paper.Json.{further, object}
+use Rattle.json_values.specs.Paper.Json.{further, object}
 use Rattle.lines.specs.Paper.Answers.{LineOf}
 use Rattle.lines.specs.Paper.Line as lines
 use Rattle.lines.specs.Paper.WithSheet as with

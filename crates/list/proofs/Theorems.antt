@@ -11,7 +11,7 @@ use Rattle.puts.specs.Paper.Wrote.{Wrote, wrote, refused, RoomCause, short, writ
 use Rattle.puts.specs.declared.Written.{Written}
 use Rattle.puts.proofs.Laws.Right.{written-right, rest-kept, as-right}
 use Rattle.puts.proofs.Laws.Wrote.{has_room}
-use Rattle.frames.specs.Paper.Runs.{Run, InOrder, next}
+use Rattle.frames.specs.Paper.Runs.{Run, InOrder, nothing, next}
 use Rattle.frames.specs.Paper.Search.{Hit, frame_part}
 use Rattle.frames.proofs.Laws.Places.{size-at}
 use Rattle.frames.proofs.Theorems.{in_order}
@@ -51,6 +51,7 @@ pub its-length : {k place : ℕ} {s : List ℕ} {hits : List Hit} {v : Hit} → 
 its-length {k} {s = s} {v = v} r m = of (in_order r) m
   where
     of : {place : ℕ} {hits : List Hit} → InOrder k s place hits → Memᴰ v hits → length (frame_part s v) ≡ v.len
+    of nothing m = elim m [ ]
     of (next {v = u} b q later) (Memᴰ.head e) = subst (λ (x : Hit). length (frame_part s x) ≡ x.len) (sym e) (size-at q)
     of (next b q later) (Memᴰ.tail n) = of later n
 

@@ -1,5 +1,7 @@
 // The whole listing of a capture, by the installer's register sheet if there is one: a `map` is what `sheet::map` writes, and the empty map
 // is no sheet.
+#![tactic(auto)]
+
 ghost use Rattle.std.specs.Prelude.{◌≡◌, ◌+◌, min, length};
 ghost use Rattle.digits.specs.Paper.Read.{Decides};
 ghost use Rattle.puts.specs.Paper.Put.{Put, largest_place};

@@ -21,7 +21,7 @@ use layouts::homiq;
 const REST: u8 = 4;
 
 // Beside each stands CMD to TYPE.
-#[derive(Drop)]
+#[derive(Clone, Copy)]
 pub enum Homiq {
     Output,
     Input,
@@ -31,7 +31,7 @@ pub enum Homiq {
 }
 
 // What follows an ID: one as well, or a refusal if it is none.
-#[derive(Drop)]
+#[derive(Clone, Copy)]
 pub enum NextId {
     Is(u16),
     Refused(Refusal),

@@ -1,4 +1,6 @@
 // Messages of frames: the table of document 01, read.
+#![tactic(auto)]
+
 pub mod homiq;
 mod limits;
 pub mod nest;
@@ -22,7 +24,7 @@ use nikobus::Nikobus;
 
 // A message. Its bytes of free length stand beside it, as its frame's payload has them: a link's digits, Nest's payload, Nibe's
 // data, Homiq's CMD to TYPE. A message without such bytes takes nothing from there, whatever stands there.
-#[derive(Drop)]
+#[derive(Clone, Copy)]
 pub enum Message {
     Nikobus(Nikobus),
     Command { id: u16 },
@@ -32,7 +34,7 @@ pub enum Message {
 }
 
 // What a frame is decoded to: its message, and the places where its payload begins and ends.
-#[derive(Drop)]
+#[derive(Clone, Copy)]
 pub enum Decoded {
     Is {
         message: Message,
@@ -44,7 +46,7 @@ pub enum Decoded {
 
 // What a search finds, decoded: the frame's start and length, the places in the buffer where its payload begins and ends, and its
 // message.
-#[derive(Drop)]
+#[derive(Clone, Copy)]
 pub enum FoundMessage {
     At {
         start: usize,
@@ -58,7 +60,7 @@ pub enum FoundMessage {
 
 // What a frame says, its content, is a tag and a payload: the digits of a link or a press, Nest's payload, Nibe's data, Homiq's CMD to
 // TYPE. A tail takes nothing from the payload.
-#[derive(Drop)]
+#[derive(Clone, Copy)]
 pub enum Tag {
     Link,
     Press,
@@ -70,14 +72,14 @@ pub enum Tag {
 }
 
 // What a content means: its message.
-#[derive(Drop)]
+#[derive(Clone, Copy)]
 pub enum Meant {
     Is(Message),
     Refused(Refusal),
 }
 
 // How a message stands, with what is beside it: it is one of the table, or why it is not.
-#[derive(Drop)]
+#[derive(Clone, Copy)]
 pub enum Standing {
     Good,
     Refused(Refusal),

@@ -18,7 +18,7 @@ use numbers::panel;
 use numbers::panel::Climate;
 
 // Beside a state, a text and a response stands the payload.
-#[derive(Drop)]
+#[derive(Clone, Copy)]
 pub enum Response {
     Climate { temperature: i16, humidity: u16 },
     State,
@@ -29,14 +29,14 @@ pub enum Response {
 }
 
 // What the panel is shown of a response: a climate's counts.
-#[derive(Drop)]
+#[derive(Clone, Copy)]
 pub enum Pair {
     Is(Climate),
     Refused(Refusal),
 }
 
 // A state's voltages: Vin in hundredths, Vop and Vbat as they stand in the payload.
-#[derive(Drop)]
+#[derive(Clone, Copy)]
 pub enum Volts {
     Are { vin: u16, vop: u16, vbat: u16 },
     Refused(Refusal),

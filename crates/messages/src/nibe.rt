@@ -20,7 +20,7 @@ use layouts::nibe;
 const MOST: usize = 255;
 
 // A register, and a value of `width` bytes.
-#[derive(Drop)]
+#[derive(Clone, Copy)]
 pub struct Valued {
     pub register: u16,
     pub width: u8,
@@ -28,7 +28,7 @@ pub struct Valued {
 }
 
 // Beside `Other` stand its data.
-#[derive(Drop)]
+#[derive(Clone, Copy)]
 pub enum Nibe {
     Ask { register: u16 },
     Reply(Valued),

@@ -19,7 +19,7 @@ use digits::refusal::Refusal;
 use layouts::nikobus;
 
 // Six bytes: the values of a module's outputs, or a press's digits.
-#[derive(Drop)]
+#[derive(Clone, Copy)]
 pub struct Six {
     pub a: u8,
     pub b: u8,
@@ -30,7 +30,7 @@ pub struct Six {
 }
 
 // A module's address is the number that its two bytes are, low byte first. Beside a link stand its digits.
-#[derive(Drop)]
+#[derive(Clone, Copy)]
 pub enum Nikobus {
     Read { group: u8, address: u16 },
     Set { group: u8, address: u16, out: Six },

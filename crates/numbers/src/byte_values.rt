@@ -15,7 +15,7 @@ use digits::refusal::Refusal;
 use puts::Written;
 
 // What bytes are read as.
-#[derive(Drop)]
+#[derive(Clone, Copy)]
 pub enum Value {
     Is(i64),
     Refused(Refusal),

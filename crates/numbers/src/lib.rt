@@ -1,4 +1,6 @@
 // Raw numbers: their decimal text, their bytes, and what the wall panel is shown, each exactly.
+#![tactic(auto)]
+
 pub mod byte_values;
 pub mod panel;
 mod raw;

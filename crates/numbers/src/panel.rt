@@ -8,21 +8,21 @@ use super::{raw, single};
 use digits::refusal::Refusal;
 
 // A raw number, as a single float if it fits and as a double otherwise.
-#[derive(Drop)]
+#[derive(Clone, Copy)]
 pub enum Value {
     Single(f32),
     Double(f64),
 }
 
 // What the panel is shown of a number.
-#[derive(Drop)]
+#[derive(Clone, Copy)]
 pub enum Shown {
     Is(Value),
     Refused(Refusal),
 }
 
 // A climate message's counts.
-#[derive(Drop)]
+#[derive(Clone, Copy)]
 pub struct Climate {
     pub temperature: f32,
     pub humidity: f32,

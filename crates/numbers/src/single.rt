@@ -8,7 +8,7 @@ use super::raw;
 use digits::refusal::Refusal;
 
 // Whether a single float holds a number.
-#[derive(Drop)]
+#[derive(Clone, Copy)]
 pub enum Fit {
     Is(bool),
     Refused(Refusal),

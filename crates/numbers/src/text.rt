@@ -14,14 +14,14 @@ use digits::{decimal, slices};
 use puts::Written;
 
 // What a text is read as: a number and its decimals.
-#[derive(Drop)]
+#[derive(Clone, Copy)]
 pub enum Reading {
     Is(i64, u32),
     Refused(Refusal),
 }
 
 // A text at the front of twelve characters.
-#[derive(Drop)]
+#[derive(Clone, Copy)]
 struct Text {
     chars: [u8; 12],
     len: usize,

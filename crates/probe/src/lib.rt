@@ -1,6 +1,8 @@
 // The checks, hex digits into a room, and the test of a JSON text, by C's calling convention, for the tests and benchmarks that are written
 // in C. Not part of the product. A check's promise is an equation, so that two answers which keep it are the same (`equation` of `digits`);
 // that of `probe_hex` is that of `puts::hex`, and that of `probe_jsontext` that of `jsontext::accepts`.
+#![tactic(auto)]
+
 ghost use Rattle.std.specs.Prelude.{◌≡◌};
 ghost use Rattle.digits.specs.Paper.Hex.{hex_bytes};
 ghost use Rattle.digits.specs.Paper.Read.{Decides};

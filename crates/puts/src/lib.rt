@@ -1,5 +1,7 @@
 // Writers into a lent room: each puts its bytes at a place of the room, as far as the room goes, and answers the place behind them. So no
 // writer asks anything of the room, and a writer measures its text if it is lent a room that is too short.
+#![tactic(auto)]
+
 ghost use Rattle.std.specs.Prelude.{◌≡◌, cond, [], ◌∷◌, leb, ◌+◌, ◌*◌, ◌%◌, ◌≤◌, length};
 ghost use Rattle.std.proofs.lemmas.List.Edits.{sets};
 ghost use Rattle.digits.specs.Paper.Decimal.{decimal_digit, decimal};
@@ -11,7 +13,7 @@ use digits::refusal::Refusal;
 use digits::{decimal, hex};
 
 // What a call answers that writes into a lent room: how many bytes it wrote, or why it wrote none.
-#[derive(Drop)]
+#[derive(Clone, Copy)]
 pub enum Written {
     Bytes(usize),
     Refused(Refusal),

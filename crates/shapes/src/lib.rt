@@ -1,4 +1,6 @@
 // The shapes of commands: what the members of a row of document 01's table are called, and what their values are to be.
+#![tactic(auto)]
+
 mod names;
 mod sorts;
 
@@ -11,7 +13,7 @@ use puts::Written;
 
 // What a member's value is to be: a whole number; so many bytes in hex; so many hex digits; bytes in hex; a string; true or false; a reading
 // with so many decimals. `Nothing` of a member that no row has.
-#[derive(Drop)]
+#[derive(Clone, Copy)]
 pub enum Sort {
     Nothing,
     Number,

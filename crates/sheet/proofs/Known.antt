@@ -19,7 +19,6 @@ use Rattle.sheet.specs.Paper.Split.{Pair, data_of, Listed, Splits, pair_bytes, P
 use Rattle.sheet.specs.Paper.Split as split
 use Rattle.sheet.specs.Paper.Split.{Unsolicited}
 use Rattle.sheet.specs.Paper.Fault.{count, no-last-LF}
-use Rattle.sheet.proofs.Laws.Commands.{no_other}
 use Rattle.sheet.proofs.Laws.FirstPair.{tens-length}
 use Rattle.sheet.proofs.Laws.Pairs.{uncons, no_bytes}
 use Rattle.sheet.proofs.Laws.Scans.{begins, passes-each, of-sheet}

@@ -1,12 +1,11 @@
 -- What the definitions come to, for a reader.
 -- Assumes nothing.
 use mathlib.Core.Path.{◌≡◌, refl, sym, ap, ◌∙◌, subst}
-use mathlib.Core.Bool.{Bool, true}
-use mathlib.Core.List.{List, [], ◌∷◌, ◌++◌}
-use Prim.Native.Nat.{ℕ, zero, suc, ◌+◌, ◌*◌, ◌%◌, ◌≤◌, ◌<◌}
+use mathlib.Core.List.{List, ◌∷◌}
+use Prim.Native.Nat.{ℕ, zero, suc, ◌*◌, ◌≤◌}
 use native.Mathlib.Omega.{arith}
 use lib.ListN.{length, take, length-append}
-use Rattle.digits.specs.Paper.Refusals.{refusal_order, First, clear, here, after}
+use Rattle.digits.specs.Paper.Refusals.{refusal_order, First, after}
 use Rattle.digits.proofs.Laws.Refusals.{cause-at}
 use Rattle.numbers.proofs.Laws.Values.{size, held_in, in_held}
 use Rattle.puts.specs.Paper.Right.{WroteRight}

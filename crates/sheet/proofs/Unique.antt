@@ -3,7 +3,6 @@
 use mathlib.Core.Path.{◌≡◌, refl, sym, ap, ap₂, ◌∙◌, subst}
 use mathlib.Core.Bool.{Bool}
 use mathlib.Core.List.{List, [], ◌∷◌}
-use mathlib.Core.Option.{some}
 use Prim.Native.Nat.{ℕ}
 use lib.ListN.{length, get_or}
 use Rattle.digits.specs.declared.refusal.Refusal.{Refusal}
@@ -12,8 +11,8 @@ use Rattle.digits.proofs.Unique.{test}
 use Rattle.digits.specs.Paper.Read.{Decides}
 use Rattle.puts.specs.declared.Written.{Written}
 use Rattle.puts.proofs.Laws.Right.{one-wrote}
-use Rattle.sheet.specs.Paper.Sheet.{RegisterType, Row, Sheet, Lookup, find}
-use Rattle.sheet.specs.Paper.Map.{map_of, lookup_in}
+use Rattle.sheet.specs.Paper.Sheet.{RegisterType, Row, Lookup, find}
+use Rattle.sheet.specs.Paper.Map.{map_of}
 use Rattle.sheet.specs.Paper.Split.{Unsolicited, Pair, Splits, data_of, pair_bytes}
 use Rattle.sheet.specs.Paper.Answers.{rows_refusal, rows_count, HasRows, Opens, typed_refusal, typed_value, TypesIn, HasType, Types, IsMap, Maps, IsSplit, SplitsInto, IsJoin, Joins, SomeSplit, test_number, Faults}
 use Rattle.sheet.specs.declared.Rows.{Rows}

@@ -8,7 +8,7 @@ use super::faults::Test;
 use digits::slices;
 
 // What a text comes to: the first line that is wrong and the test that it fails, or zeros and how many rows it has.
-#[derive(Drop)]
+#[derive(Clone, Copy)]
 pub(crate) struct Scanned {
     pub line: usize,
     pub test: u8,
@@ -16,7 +16,7 @@ pub(crate) struct Scanned {
 }
 
 // The first line of a text: the test that it fails; or 0, its register, its type's byte in a map, and its length with its LF.
-#[derive(Drop)]
+#[derive(Clone, Copy)]
 pub(crate) struct Line {
     pub test: u8,
     pub register: u32,

@@ -55,11 +55,13 @@ module _ {s : List ℕ} {m : Named Sort} {ms : List (Named Sort)} where
   no-first : ((g : Field) → IsOf m.value g → Has Spells s (record { name = m.name; value = g }) → ⊥)
       → (gs : List Field) → AreOf (m ∷ ms) gs → HasEach Spells s (named (m ∷ ms) gs) → ⊥
   unfolding named
+  no-first n [] a _ = elim a [ ]
   no-first n (g ∷ gs) (means.and a k) (paper.and x v) = n g a x
 
   no-rest : ((gs : List Field) → AreOf ms gs → HasEach Spells s (named ms gs) → ⊥)
       → (gs : List Field) → AreOf (m ∷ ms) gs → HasEach Spells s (named (m ∷ ms) gs) → ⊥
   unfolding named
+  no-rest n [] a _ = elim a [ ]
   no-rest n (g ∷ gs) (means.and a k) (paper.and x v) = n gs k v
 
 settle : {s : List ℕ} {i : Slot} {is : List Slot} {f : Field} {fs : List Field} {a b : ℕ} → ReadsIn s i f a → Settled s is fs b

@@ -15,7 +15,7 @@ use Rattle.digits.specs.Paper.Read.{Decides}
 use Rattle.digits.proofs.Laws.Tests.{told, untold}
 use Rattle.layouts.specs.Paper.Chars.{all, one_of, is_hex}
 use Rattle.lines.specs.Paper.Line.{high_byte_first}
-use Rattle.shapes.specs.Paper.Fields.{Field, plain, hex, chars}
+use Rattle.shapes.specs.Paper.Fields.{Field, plain, reading, whole, hex, chars, truth}
 use Rattle.asked.specs.Paper.Field.{Spells, as_plain, as-hex}
 use Rattle.shapes.specs.Paper.Shapes.{Sort, IsOf, some_bytes, some-digits, a-content, a-string, bytes, digits, content, string}
 use Rattle.asked.specs.Work.Got as got
@@ -53,6 +53,10 @@ module _ {v : List ℕ} {wide narrow : Sort} {n : ℕ} (widen : (g : Field) → 
 -- ---- bytes
 
 bytes-content : {n : ℕ} (g : Field) → IsOf (bytes n) g → IsOf content g × (length (list_in g) ≡ n)
+bytes-content (plain (whole _)) a = elim a [ ]
+bytes-content (plain (chars _)) a = elim a [ ]
+bytes-content (plain (truth _)) a = elim a [ ]
+bytes-content (reading _ _) a = elim a [ ]
 bytes-content (plain (hex p)) (some_bytes e) = (a-content, e)
 
 pub some-content : {v later g : List ℕ} {n len st q : ℕ} → Reads v content (up_to n) (plain (hex (take len later))) st × ((len ≤ n) × (length later ≡ n))
@@ -78,6 +82,10 @@ high-first (x ∷ y ∷ z ∷ s) a h e b = absurd (omega arith)
 -- ---- digits
 
 digits-string : {n : ℕ} (g : Field) → IsOf (digits n) g → IsOf string g × (length (list_in g) ≡ n)
+digits-string (plain (whole _)) a = elim a [ ]
+digits-string (plain (hex _)) a = elim a [ ]
+digits-string (plain (truth _)) a = elim a [ ]
+digits-string (reading _ _) a = elim a [ ]
 digits-string (plain (chars p)) (some-digits e t) = (a-string, e)
 
 module _ {v : List ℕ} (later : List ℕ) {n len st : ℕ} (read : Reads v string (up_to n) (plain (chars (take len later))) st × ((len ≤ n) × (length later ≡ n)))
@@ -95,6 +103,10 @@ module _ {v : List ℕ} (later : List ℕ) {n len st : ℕ} (read : Reads v stri
   no-digits {g} y e = let (r, (l, k)) = read in rw e (got.Reads.none (unread digits-string r (λ z h j s. no h j s)))
     where
       no : (h : Field) → IsOf (digits n) h → plain (chars (take len later)) ≡ h → ⊥
+      no (plain (whole _)) a s = elim a [ ]
+      no (plain (hex _)) a s = elim a [ ]
+      no (plain (truth _)) a s = elim a [ ]
+      no (reading _ _) a s = elim a [ ]
       no (plain (chars d)) (some-digits m t) s =
           let p : take len later ≡ d = cc in
           let w : length (take len later) ≡ len = length-take-le len later (omega (arith, read.1.0, read.1.1)) in

@@ -16,7 +16,7 @@ use Rattle.digits.specs.Paper.Hex.{hex_bytes}
 use Rattle.numbers.proofs.Laws.Reader.{text-inj}
 use Rattle.numbers.proofs.Laws.Text.{length-text}
 use Rattle.numbers.specs.Paper.Text.{text, below_zero}
-use Rattle.json.specs.Paper.Json as json
+use Rattle.json_values.specs.Paper.Json as json
 use Rattle.jsontext.proofs.Theorems.{one_name, one-object}
 use Rattle.jsontext.proofs.Unique.{one-first}
 use Rattle.jsontext.specs.Paper.Abnf.{done, more}

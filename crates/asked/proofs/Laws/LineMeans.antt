@@ -25,7 +25,7 @@ use Rattle.numbers.proofs.Theorems.ByteValues.{value-raw}
 use Rattle.numbers.specs.Paper.Raw.{most_decimals}
 use Rattle.messages.specs.Paper.Message.{Message, read, set, answer, press, tail, link, command, climate, state, break, end, text, response, ask, reply, put, done, nibe, output, input, shutter, beat, homiq, row, name}
 use Rattle.messages.specs.Paper.Table.{SixBytes, BytesBetween, Limits, Good, v_in, v_op, v_bat}
-use Rattle.json.specs.Paper.Json as json
+use Rattle.json_values.specs.Paper.Json as json
 use Rattle.jsontext.specs.Paper.Names.{most_depth}
 use Rattle.lines.specs.Paper.Line as lines
 use Rattle.lines.specs.Paper.Line.{high_byte_first, members}

@@ -115,3 +115,10 @@ within-limits o (got.outside f) = o
 pub without : {v : List ℕ} {sort : Sort} {least most value : ℤ} {f : Field} {state n : ℕ} → Between least most (pos 0) → (state ≡ n) × (value ≡ pos 0)
     → Reads v sort (between least most) f n → Reads v sort (between least most) f state × Between least most value
 without o (e, g) r = (rw e r, rw g o)
+
+pub without-reads : {v : List ℕ} {sort : Sort} {least most value : ℤ} {f : Field} {state n : ℕ} → (state ≡ n) × (value ≡ pos 0)
+    → Reads v sort (between least most) f n → Reads v sort (between least most) f state
+without-reads (e, g) r = rw e r
+
+pub without-between : {least most value : ℤ} {state n : ℕ} → Between least most (pos 0) → (state ≡ n) × (value ≡ pos 0) → Between least most value
+without-between o (e, g) = rw g o

@@ -10,8 +10,8 @@ use lib.Dec.{T, T_not}
 use lib.ListN.{length}
 use lib.Seq.{take_all}
 use Rattle.digits.proofs.Laws.Tests.{T_and}
-use Rattle.json.proofs.Laws.Sizes.{total, length-object}
-use Rattle.json.specs.Paper.Json as json
+use Rattle.json_values.proofs.Laws.Sizes.{total, length-object}
+use Rattle.json_values.specs.Paper.Json as json
 use Rattle.layouts.specs.Paper.Chars.{all}
 use Rattle.jsontext.proofs.Laws.Bare.{Shown, shown-bare}
 use Rattle.jsontext.proofs.Laws.Rules.{members-in}

@@ -11,7 +11,7 @@ use Rattle.digits.specs.Paper.Part.{Ends}
 use Rattle.digits.specs.Paper.Refusals.{First, after, refusal_order}
 use Rattle.digits.specs.declared.refusal.Refusal.{Refusal}
 use Rattle.digits.proofs.Laws.Refusals.{cause-at, cause-of, answered, some_number}
-use Rattle.json.specs.Paper.Json as json
+use Rattle.json_values.specs.Paper.Json as json
 use Rattle.jsontext.specs.Paper.Members.{ValueCause, no_value, value_ends, ValueOf, FindsValue}
 use Rattle.jsontext.specs.declared.members.Value.{Value}
 use Rattle.jsontext.specs.declared.members.Value.TheVariants.{At, Refused}

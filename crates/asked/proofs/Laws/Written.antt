@@ -25,8 +25,8 @@ use Rattle.layouts.specs.Paper.Chars.{all, is_hex}
 use Rattle.layouts.specs.Work.Homiq.{is_figure}
 use Rattle.numbers.proofs.Laws.Text.{one-and-fraction}
 use Rattle.numbers.specs.Paper.Text.{below_zero, sign, last_digits, fraction, text_of, text}
-use Rattle.json.proofs.Laws.Spelt as json
-use Rattle.json.specs.Paper.Json.{escaped, each_escaped, quoted}
+use Rattle.json_values.proofs.Laws.Spelt as json
+use Rattle.json_values.specs.Paper.Json.{escaped, each_escaped, quoted}
 use Rattle.jsontext.proofs.Laws.Chars.{less, equal}
 use Rattle.jsontext.proofs.Laws.Spelt.{bytes-1}
 use Rattle.jsontext.specs.Paper.Abnf.{many, done, more}

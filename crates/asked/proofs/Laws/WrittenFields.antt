@@ -19,8 +19,8 @@ use Rattle.numbers.proofs.Laws.Text.{text-short}
 use Rattle.numbers.specs.Paper.Raw.{most_decimals}
 use Rattle.numbers.specs.Paper.Single.{fits_single}
 use Rattle.numbers.specs.Paper.Text.{below_zero, text}
-use Rattle.json.proofs.Laws.Sizes.{length-quoted, length-hex, length-chars, length-truth, length-reading}
-use Rattle.json.specs.Paper.Json as json
+use Rattle.json_values.proofs.Laws.Sizes.{length-quoted, length-hex, length-chars, length-truth, length-reading}
+use Rattle.json_values.specs.Paper.Json as json
 use Rattle.jsontext.proofs.Laws.Bare.{Shown, number-first, number-ended}
 use Rattle.jsontext.proofs.Laws.Spelt.{spelt-string}
 use Rattle.jsontext.specs.Paper.Json.{number, string, value_with}

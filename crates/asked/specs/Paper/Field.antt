@@ -8,7 +8,7 @@ use Rattle.digits.specs.Paper.Hex.{hex_bytes}
 use Rattle.numbers.specs.Paper.Raw.{Raw}
 use Rattle.numbers.specs.Paper.Single.{fits_single}
 use Rattle.numbers.specs.Paper.Text.{text}
-use Rattle.json.specs.Paper.Json as json
+use Rattle.json_values.specs.Paper.Json as json
 use Rattle.jsontext.specs.Paper.Members.{IsObject, FirstNamed, CountOf, IsString}
 use Rattle.jsontext.specs.Paper.Names.{Member, InGrammar}
 use Rattle.shapes.specs.Paper.Fields.{Named, ◌∶◌, Plain, whole, hex, chars, truth, Field, plain, reading}

@@ -3,7 +3,7 @@
 use Rattle.std.specs.Prelude.{List, ◌∷◌, ℕ}
 use Rattle.digits.specs.Paper.Ascii.{ascii}
 use Rattle.messages.specs.Paper.Message.{Message, row, name}
-use Rattle.json.specs.Paper.Json.{◌∶◌, object, number, quoted}
+use Rattle.json_values.specs.Paper.Json.{◌∶◌, object, number, quoted}
 use Rattle.lines.specs.Paper.Line.{members}
 use Rattle.shapes.specs.Paper.Shapes.{shape_at}
 

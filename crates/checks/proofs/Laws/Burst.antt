@@ -130,6 +130,7 @@ last_set_all [] = true
 last_set_all (c ∷ l) = last_set (poly_bits c) && last_set_all l
 
 last-set-of : (c : Check) (l : List Check) → Memᴰ c l → last_set_all l ≡ true → last_set (poly_bits c) ≡ true
+last-set-of c [] m h = elim m [ ]
 last-set-of c (d ∷ l) (Memᴰ.head e) h = rw e ((and-eq-true_iff (last_set (poly_bits d)) (last_set_all l)).0 h).0
 last-set-of c (d ∷ l) (Memᴰ.tail m) h = last-set-of c l m ((and-eq-true_iff (last_set (poly_bits d)) (last_set_all l)).0 h).1
 

@@ -71,8 +71,11 @@ module _ {A : Type 0} {zeros : A} {Limits : A → Type 0} {write : A → List �
       first : {n : ℕ} → First Cause (refusal ∷ []) n → First Cause refusal_order n
       first {n} f = pass-over (eqb refusal) other refusal_order (subst (λ (l : List ℕ). First Cause l n) (sym one) f)
 
+      none-reads : {k : ℕ} → Cause k → (v : A) → Limits v → write v ≡ s → ⊥
+      none-reads (unread f) = f
+
       is_read : {v : A} → Limits v → write v ≡ s → Cause refusal → ⊥
-      is_read {v} l e (unread f) = f v l e
+      is_read {v} l e u = none-reads u v l e
 
       go : {n : ℕ} {v : A} → Reads zeros Limits write refusal s n v → Read zeros Limits write refusal s n v
       go (is l e) = answers (first (after (is_read l e) clear)) (l, e)

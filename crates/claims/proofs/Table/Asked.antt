@@ -42,7 +42,7 @@ encode-stated c = asked-stated (λ no x. of-message x) c
 abbrev pub read : Row
 read =
     record {
-      function = function_of asked.read.Key.name asked.read.Kinds.ps asked.read.Kinds.r asked.read.Symbol.routine;
+      function = function_of asked.read.Symbol.symbol asked.read.Kinds.ps asked.read.Kinds.r asked.read.Symbol.code;
       claim = λ κs. claims.read;
       args = λ κs a. record { text = a.0.now; room = a.1.0.now };
       later = λ κs s. s.1.0.now;
@@ -61,7 +61,7 @@ read-proper =
 abbrev pub encode : Row
 encode =
     record {
-      function = function_of asked.encode.Key.name asked.encode.Kinds.ps asked.encode.Kinds.r asked.encode.Symbol.routine;
+      function = function_of asked.encode.Symbol.symbol asked.encode.Kinds.ps asked.encode.Kinds.r asked.encode.Symbol.code;
       claim = λ κs. claims.encode;
       args = λ κs a. record { text = a.0.now; room = a.1.0.now };
       later = λ κs s. s.1.0.now;
@@ -81,7 +81,7 @@ encode-proper =
 abbrev pub first : Row
 first =
     record {
-      function = function_of asked.lacks.first.Key.name asked.lacks.first.Kinds.ps asked.lacks.first.Kinds.r asked.lacks.first.Symbol.routine;
+      function = function_of asked.lacks.first.Symbol.symbol asked.lacks.first.Kinds.ps asked.lacks.first.Kinds.r asked.lacks.first.Symbol.code;
       claim = λ κs. claims.first;
       args = λ κs a. record { text = a.0.now };
       later = λ κs s. [];

@@ -27,7 +27,7 @@ opening-stated (OpenCause.no-book f) = here
 abbrev pub opening : Row
 opening =
     record {
-      function = function_of book.open.Key.name book.open.Kinds.ps book.open.Kinds.r book.open.Symbol.routine;
+      function = function_of book.open.Symbol.symbol book.open.Kinds.ps book.open.Kinds.r book.open.Symbol.code;
       claim = λ κs. claims.opening;
       args = λ κs a. record { book = a.0.now };
       later = λ κs s. [];
@@ -46,7 +46,7 @@ opening-proper =
 abbrev pub entry : Row
 entry =
     record {
-      function = function_of book.entry.Key.name book.entry.Kinds.ps book.entry.Kinds.r book.entry.Symbol.routine;
+      function = function_of book.entry.Symbol.symbol book.entry.Kinds.ps book.entry.Kinds.r book.entry.Symbol.code;
       claim = λ κs. claims.entry;
       args = λ κs a. record { book = a.0.now; number = a.1.0 };
       later = λ κs s. [];
@@ -65,7 +65,7 @@ entry-proper =
 abbrev pub frame : Row
 frame =
     record {
-      function = function_of book.frame.Key.name book.frame.Kinds.ps book.frame.Kinds.r book.frame.Symbol.routine;
+      function = function_of book.frame.Symbol.symbol book.frame.Kinds.ps book.frame.Kinds.r book.frame.Symbol.code;
       claim = λ κs. claims.frame;
       args = λ κs a. record { book = a.0; number = a.1.0 };
       later = λ κs s. [];
@@ -89,7 +89,7 @@ line-stated (EntryLineCause.short l h) = there (there here)
 abbrev pub line : Row
 line =
     record {
-      function = function_of book.line.Key.name book.line.Kinds.ps book.line.Kinds.r book.line.Symbol.routine;
+      function = function_of book.line.Symbol.symbol book.line.Kinds.ps book.line.Kinds.r book.line.Symbol.code;
       claim = λ κs. claims.line;
       args = λ κs a. record { book = a.0.now; number = a.1.0; room = a.1.1.0.now };
       later = λ κs s. s.1.1.0.now;
@@ -110,7 +110,7 @@ line-proper =
 abbrev pub line-mapped : Row
 line-mapped =
     record {
-      function = function_of book.line_mapped.Key.name book.line_mapped.Kinds.ps book.line_mapped.Kinds.r book.line_mapped.Symbol.routine;
+      function = function_of book.line_mapped.Symbol.symbol book.line_mapped.Kinds.ps book.line_mapped.Kinds.r book.line_mapped.Symbol.code;
       claim = λ κs. claims.line-mapped;
       args = λ κs a. record { book = a.0.now; number = a.1.0; map = a.1.1.0.now; room = a.1.1.1.0.now };
       later = λ κs s. s.1.1.1.0.now;
@@ -137,7 +137,7 @@ line-with-stated (EntryLineByTextCause.short l h) = there (there (there here))
 abbrev pub line-with : Row
 line-with =
     record {
-      function = function_of book.line_with.Key.name book.line_with.Kinds.ps book.line_with.Kinds.r book.line_with.Symbol.routine;
+      function = function_of book.line_with.Symbol.symbol book.line_with.Kinds.ps book.line_with.Kinds.r book.line_with.Symbol.code;
       claim = λ κs. claims.line-with;
       args = λ κs a. record { book = a.0.now; number = a.1.0; text = a.1.1.0.now; room = a.1.1.1.0.now };
       later = λ κs s. s.1.1.1.0.now;
@@ -162,7 +162,7 @@ list-stated (ListCause.short l h) = there here
 abbrev pub list : Row
 list =
     record {
-      function = function_of book.list.Key.name book.list.Kinds.ps book.list.Kinds.r book.list.Symbol.routine;
+      function = function_of book.list.Symbol.symbol book.list.Kinds.ps book.list.Kinds.r book.list.Symbol.code;
       claim = λ κs. claims.list;
       args = λ κs a. record { book = a.0.now; room = a.1.0.now };
       later = λ κs s. s.1.0.now;
@@ -182,7 +182,7 @@ list-proper =
 abbrev pub list-mapped : Row
 list-mapped =
     record {
-      function = function_of book.list_mapped.Key.name book.list_mapped.Kinds.ps book.list_mapped.Kinds.r book.list_mapped.Symbol.routine;
+      function = function_of book.list_mapped.Symbol.symbol book.list_mapped.Kinds.ps book.list_mapped.Kinds.r book.list_mapped.Symbol.code;
       claim = λ κs. claims.list-mapped;
       args = λ κs a. record { book = a.0.now; map = a.1.0.now; room = a.1.1.0.now };
       later = λ κs s. s.1.1.0.now;
@@ -208,7 +208,7 @@ list-with-stated (ListByTextCause.short l h) = there (there here)
 abbrev pub list-with : Row
 list-with =
     record {
-      function = function_of book.list_with.Key.name book.list_with.Kinds.ps book.list_with.Kinds.r book.list_with.Symbol.routine;
+      function = function_of book.list_with.Symbol.symbol book.list_with.Kinds.ps book.list_with.Kinds.r book.list_with.Symbol.code;
       claim = λ κs. claims.list-with;
       args = λ κs a. record { book = a.0.now; text = a.1.0.now; room = a.1.1.0.now };
       later = λ κs s. s.1.1.0.now;
@@ -237,7 +237,7 @@ add-stated (AddCause.short a h) = there (there (there here))
 abbrev pub add : Row
 add =
     record {
-      function = function_of book.add.Key.name book.add.Kinds.ps book.add.Kinds.r book.add.Symbol.routine;
+      function = function_of book.add.Symbol.symbol book.add.Kinds.ps book.add.Kinds.r book.add.Symbol.code;
       claim = λ κs. claims.add;
       args = λ κs a. record { book = a.0.now; kind = a.1.0; frame = a.1.1.0.now; room = a.1.1.1.0.now };
       later = λ κs s. s.1.1.1.0.now;

@@ -35,8 +35,8 @@ homiq-stated (HomiqCause.short p h) = there here
 abbrev pub homiq-frame : Row
 homiq-frame =
     record {
-      function = function_of builds.homiq.frame.Key.name builds.homiq.frame.Kinds.ps builds.homiq.frame.Kinds.r
-          builds.homiq.frame.Symbol.routine;
+      function = function_of builds.homiq.frame.Symbol.symbol builds.homiq.frame.Kinds.ps builds.homiq.frame.Kinds.r
+          builds.homiq.frame.Symbol.code;
       claim = λ κs. claims.homiq-frame;
       args = λ κs a. record { payload = a.0.now; room = a.1.0.now };
       later = λ κs s. s.1.0.now;
@@ -57,8 +57,8 @@ homiq-frame-proper =
 abbrev pub nest-frame : Row
 nest-frame =
     record {
-      function = function_of builds.nest.frame.Key.name builds.nest.frame.Kinds.ps builds.nest.frame.Kinds.r
-          builds.nest.frame.Symbol.routine;
+      function = function_of builds.nest.frame.Symbol.symbol builds.nest.frame.Kinds.ps builds.nest.frame.Kinds.r
+          builds.nest.frame.Symbol.code;
       claim = λ κs. claims.nest-frame;
       args = λ κs a. record { direction = a.0; id = a.1.0; payload = a.1.1.0.now; room = a.1.1.1.0.now };
       later = λ κs s. s.1.1.1.0.now;
@@ -79,8 +79,8 @@ nest-frame-proper =
 abbrev pub nibe-frame : Row
 nibe-frame =
     record {
-      function = function_of builds.nibe.frame.Key.name builds.nibe.frame.Kinds.ps builds.nibe.frame.Kinds.r
-          builds.nibe.frame.Symbol.routine;
+      function = function_of builds.nibe.frame.Symbol.symbol builds.nibe.frame.Kinds.ps builds.nibe.frame.Kinds.r
+          builds.nibe.frame.Symbol.code;
       claim = λ κs. claims.nibe-frame;
       args = λ κs a. record { command = a.0; content = a.1.0.now; room = a.1.1.0.now };
       later = λ κs s. s.1.1.0.now;
@@ -101,8 +101,8 @@ nibe-frame-proper =
 abbrev pub nikobus-link : Row
 nikobus-link =
     record {
-      function = function_of builds.nikobus.link.Key.name builds.nikobus.link.Kinds.ps builds.nikobus.link.Kinds.r
-          builds.nikobus.link.Symbol.routine;
+      function = function_of builds.nikobus.link.Symbol.symbol builds.nikobus.link.Kinds.ps builds.nikobus.link.Kinds.r
+          builds.nikobus.link.Symbol.code;
       claim = λ κs. claims.nikobus-link;
       args = λ κs a. record { payload = a.0.now; room = a.1.0.now };
       later = λ κs s. s.1.0.now;
@@ -123,8 +123,8 @@ nikobus-link-proper =
 abbrev pub nikobus-press : Row
 nikobus-press =
     record {
-      function = function_of builds.nikobus.press.Key.name builds.nikobus.press.Kinds.ps builds.nikobus.press.Kinds.r
-          builds.nikobus.press.Symbol.routine;
+      function = function_of builds.nikobus.press.Symbol.symbol builds.nikobus.press.Kinds.ps builds.nikobus.press.Kinds.r
+          builds.nikobus.press.Symbol.code;
       claim = λ κs. claims.nikobus-press;
       args = λ κs a. record { digits = a.0.now; room = a.1.0.now };
       later = λ κs s. s.1.0.now;
@@ -150,8 +150,8 @@ tail-stated (BuildCause.short h) = here
 abbrev pub nikobus-tail : Row
 nikobus-tail =
     record {
-      function = function_of builds.nikobus.tail.Key.name builds.nikobus.tail.Kinds.ps builds.nikobus.tail.Kinds.r
-          builds.nikobus.tail.Symbol.routine;
+      function = function_of builds.nikobus.tail.Symbol.symbol builds.nikobus.tail.Kinds.ps builds.nikobus.tail.Kinds.r
+          builds.nikobus.tail.Symbol.code;
       claim = λ κs. claims.nikobus-tail;
       args = λ κs a. record { room = a.0.now };
       later = λ κs s. s.0.now;

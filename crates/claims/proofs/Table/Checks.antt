@@ -12,8 +12,8 @@ use Rattle.claims.specs.Paper.Table.Checks as claims
 abbrev pub homiq-rule : Row
 homiq-rule =
     record {
-      function = function_of checks.homiq.Crc.rule.Key.name checks.homiq.Crc.rule.Kinds.ps checks.homiq.Crc.rule.Kinds.r
-          checks.homiq.Crc.rule.Symbol.routine;
+      function = function_of checks.homiq.Crc.rule.Symbol.symbol checks.homiq.Crc.rule.Kinds.ps checks.homiq.Crc.rule.Kinds.r
+          checks.homiq.Crc.rule.Symbol.code;
       claim = λ κs. claims.homiq-rule;
       args = λ κs a. tt;
       later = λ κs s. [];
@@ -32,8 +32,8 @@ homiq-rule-proper =
 abbrev pub homiq-new : Row
 homiq-new =
     record {
-      function = function_of checks.homiq.Crc.new.Key.name checks.homiq.Crc.new.Kinds.ps checks.homiq.Crc.new.Kinds.r
-          checks.homiq.Crc.new.Symbol.routine;
+      function = function_of checks.homiq.Crc.new.Symbol.symbol checks.homiq.Crc.new.Kinds.ps checks.homiq.Crc.new.Kinds.r
+          checks.homiq.Crc.new.Symbol.code;
       claim = λ κs. claims.homiq-new;
       args = λ κs a. tt;
       later = λ κs s. [];
@@ -52,8 +52,8 @@ homiq-new-proper =
 abbrev pub homiq-byte : Row
 homiq-byte =
     record {
-      function = function_of checks.homiq.Crc.byte.Key.name checks.homiq.Crc.byte.Kinds.ps checks.homiq.Crc.byte.Kinds.r
-          checks.homiq.Crc.byte.Symbol.routine;
+      function = function_of checks.homiq.Crc.byte.Symbol.symbol checks.homiq.Crc.byte.Kinds.ps checks.homiq.Crc.byte.Kinds.r
+          checks.homiq.Crc.byte.Symbol.code;
       claim = λ κs. claims.homiq-byte;
       args = λ κs a. record { self = a.0; b = a.1.0 };
       later = λ κs s. [];
@@ -72,8 +72,8 @@ homiq-byte-proper =
 abbrev pub homiq-bytes : Row
 homiq-bytes =
     record {
-      function = function_of checks.homiq.Crc.bytes.Key.name checks.homiq.Crc.bytes.Kinds.ps checks.homiq.Crc.bytes.Kinds.r
-          checks.homiq.Crc.bytes.Symbol.routine;
+      function = function_of checks.homiq.Crc.bytes.Symbol.symbol checks.homiq.Crc.bytes.Kinds.ps checks.homiq.Crc.bytes.Kinds.r
+          checks.homiq.Crc.bytes.Symbol.code;
       claim = λ κs. claims.homiq-bytes;
       args = λ κs a. record { self = a.0; s = a.1.0.now };
       later = λ κs s. [];
@@ -92,8 +92,8 @@ homiq-bytes-proper =
 abbrev pub homiq-of : Row
 homiq-of =
     record {
-      function = function_of checks.homiq.Crc.of.Key.name checks.homiq.Crc.of.Kinds.ps checks.homiq.Crc.of.Kinds.r
-          checks.homiq.Crc.of.Symbol.routine;
+      function = function_of checks.homiq.Crc.of.Symbol.symbol checks.homiq.Crc.of.Kinds.ps checks.homiq.Crc.of.Kinds.r
+          checks.homiq.Crc.of.Symbol.code;
       claim = λ κs. claims.homiq-of;
       args = λ κs a. record { s = a.0.now };
       later = λ κs s. [];
@@ -112,8 +112,8 @@ homiq-of-proper =
 abbrev pub nest-rule : Row
 nest-rule =
     record {
-      function = function_of checks.nest.Crc.rule.Key.name checks.nest.Crc.rule.Kinds.ps checks.nest.Crc.rule.Kinds.r
-          checks.nest.Crc.rule.Symbol.routine;
+      function = function_of checks.nest.Crc.rule.Symbol.symbol checks.nest.Crc.rule.Kinds.ps checks.nest.Crc.rule.Kinds.r
+          checks.nest.Crc.rule.Symbol.code;
       claim = λ κs. claims.nest-rule;
       args = λ κs a. tt;
       later = λ κs s. [];
@@ -132,8 +132,8 @@ nest-rule-proper =
 abbrev pub nest-new : Row
 nest-new =
     record {
-      function = function_of checks.nest.Crc.new.Key.name checks.nest.Crc.new.Kinds.ps checks.nest.Crc.new.Kinds.r
-          checks.nest.Crc.new.Symbol.routine;
+      function = function_of checks.nest.Crc.new.Symbol.symbol checks.nest.Crc.new.Kinds.ps checks.nest.Crc.new.Kinds.r
+          checks.nest.Crc.new.Symbol.code;
       claim = λ κs. claims.nest-new;
       args = λ κs a. tt;
       later = λ κs s. [];
@@ -152,8 +152,8 @@ nest-new-proper =
 abbrev pub nest-byte : Row
 nest-byte =
     record {
-      function = function_of checks.nest.Crc.byte.Key.name checks.nest.Crc.byte.Kinds.ps checks.nest.Crc.byte.Kinds.r
-          checks.nest.Crc.byte.Symbol.routine;
+      function = function_of checks.nest.Crc.byte.Symbol.symbol checks.nest.Crc.byte.Kinds.ps checks.nest.Crc.byte.Kinds.r
+          checks.nest.Crc.byte.Symbol.code;
       claim = λ κs. claims.nest-byte;
       args = λ κs a. record { self = a.0; b = a.1.0 };
       later = λ κs s. [];
@@ -172,8 +172,8 @@ nest-byte-proper =
 abbrev pub nest-bytes : Row
 nest-bytes =
     record {
-      function = function_of checks.nest.Crc.bytes.Key.name checks.nest.Crc.bytes.Kinds.ps checks.nest.Crc.bytes.Kinds.r
-          checks.nest.Crc.bytes.Symbol.routine;
+      function = function_of checks.nest.Crc.bytes.Symbol.symbol checks.nest.Crc.bytes.Kinds.ps checks.nest.Crc.bytes.Kinds.r
+          checks.nest.Crc.bytes.Symbol.code;
       claim = λ κs. claims.nest-bytes;
       args = λ κs a. record { self = a.0; s = a.1.0.now };
       later = λ κs s. [];
@@ -192,8 +192,8 @@ nest-bytes-proper =
 abbrev pub nest-of : Row
 nest-of =
     record {
-      function = function_of checks.nest.Crc.of.Key.name checks.nest.Crc.of.Kinds.ps checks.nest.Crc.of.Kinds.r
-          checks.nest.Crc.of.Symbol.routine;
+      function = function_of checks.nest.Crc.of.Symbol.symbol checks.nest.Crc.of.Kinds.ps checks.nest.Crc.of.Kinds.r
+          checks.nest.Crc.of.Symbol.code;
       claim = λ κs. claims.nest-of;
       args = λ κs a. record { s = a.0.now };
       later = λ κs s. [];
@@ -212,8 +212,8 @@ nest-of-proper =
 abbrev pub nibe-rule : Row
 nibe-rule =
     record {
-      function = function_of checks.nibe.Xor.rule.Key.name checks.nibe.Xor.rule.Kinds.ps checks.nibe.Xor.rule.Kinds.r
-          checks.nibe.Xor.rule.Symbol.routine;
+      function = function_of checks.nibe.Xor.rule.Symbol.symbol checks.nibe.Xor.rule.Kinds.ps checks.nibe.Xor.rule.Kinds.r
+          checks.nibe.Xor.rule.Symbol.code;
       claim = λ κs. claims.nibe-rule;
       args = λ κs a. tt;
       later = λ κs s. [];
@@ -232,8 +232,8 @@ nibe-rule-proper =
 abbrev pub nibe-new : Row
 nibe-new =
     record {
-      function = function_of checks.nibe.Xor.new.Key.name checks.nibe.Xor.new.Kinds.ps checks.nibe.Xor.new.Kinds.r
-          checks.nibe.Xor.new.Symbol.routine;
+      function = function_of checks.nibe.Xor.new.Symbol.symbol checks.nibe.Xor.new.Kinds.ps checks.nibe.Xor.new.Kinds.r
+          checks.nibe.Xor.new.Symbol.code;
       claim = λ κs. claims.nibe-new;
       args = λ κs a. tt;
       later = λ κs s. [];
@@ -252,8 +252,8 @@ nibe-new-proper =
 abbrev pub nibe-byte : Row
 nibe-byte =
     record {
-      function = function_of checks.nibe.Xor.byte.Key.name checks.nibe.Xor.byte.Kinds.ps checks.nibe.Xor.byte.Kinds.r
-          checks.nibe.Xor.byte.Symbol.routine;
+      function = function_of checks.nibe.Xor.byte.Symbol.symbol checks.nibe.Xor.byte.Kinds.ps checks.nibe.Xor.byte.Kinds.r
+          checks.nibe.Xor.byte.Symbol.code;
       claim = λ κs. claims.nibe-byte;
       args = λ κs a. record { self = a.0; b = a.1.0 };
       later = λ κs s. [];
@@ -272,8 +272,8 @@ nibe-byte-proper =
 abbrev pub nibe-bytes : Row
 nibe-bytes =
     record {
-      function = function_of checks.nibe.Xor.bytes.Key.name checks.nibe.Xor.bytes.Kinds.ps checks.nibe.Xor.bytes.Kinds.r
-          checks.nibe.Xor.bytes.Symbol.routine;
+      function = function_of checks.nibe.Xor.bytes.Symbol.symbol checks.nibe.Xor.bytes.Kinds.ps checks.nibe.Xor.bytes.Kinds.r
+          checks.nibe.Xor.bytes.Symbol.code;
       claim = λ κs. claims.nibe-bytes;
       args = λ κs a. record { self = a.0; s = a.1.0.now };
       later = λ κs s. [];
@@ -292,8 +292,8 @@ nibe-bytes-proper =
 abbrev pub nibe-of : Row
 nibe-of =
     record {
-      function = function_of checks.nibe.Xor.of.Key.name checks.nibe.Xor.of.Kinds.ps checks.nibe.Xor.of.Kinds.r
-          checks.nibe.Xor.of.Symbol.routine;
+      function = function_of checks.nibe.Xor.of.Symbol.symbol checks.nibe.Xor.of.Kinds.ps checks.nibe.Xor.of.Kinds.r
+          checks.nibe.Xor.of.Symbol.code;
       claim = λ κs. claims.nibe-of;
       args = λ κs a. record { s = a.0.now };
       later = λ κs s. [];
@@ -312,8 +312,8 @@ nibe-of-proper =
 abbrev pub nikobus16-rule : Row
 nikobus16-rule =
     record {
-      function = function_of checks.nikobus.Crc16.rule.Key.name checks.nikobus.Crc16.rule.Kinds.ps
-          checks.nikobus.Crc16.rule.Kinds.r checks.nikobus.Crc16.rule.Symbol.routine;
+      function = function_of checks.nikobus.Crc16.rule.Symbol.symbol checks.nikobus.Crc16.rule.Kinds.ps
+          checks.nikobus.Crc16.rule.Kinds.r checks.nikobus.Crc16.rule.Symbol.code;
       claim = λ κs. claims.nikobus16-rule;
       args = λ κs a. tt;
       later = λ κs s. [];
@@ -332,8 +332,8 @@ nikobus16-rule-proper =
 abbrev pub nikobus16-new : Row
 nikobus16-new =
     record {
-      function = function_of checks.nikobus.Crc16.new.Key.name checks.nikobus.Crc16.new.Kinds.ps
-          checks.nikobus.Crc16.new.Kinds.r checks.nikobus.Crc16.new.Symbol.routine;
+      function = function_of checks.nikobus.Crc16.new.Symbol.symbol checks.nikobus.Crc16.new.Kinds.ps
+          checks.nikobus.Crc16.new.Kinds.r checks.nikobus.Crc16.new.Symbol.code;
       claim = λ κs. claims.nikobus16-new;
       args = λ κs a. tt;
       later = λ κs s. [];
@@ -352,8 +352,8 @@ nikobus16-new-proper =
 abbrev pub nikobus16-byte : Row
 nikobus16-byte =
     record {
-      function = function_of checks.nikobus.Crc16.byte.Key.name checks.nikobus.Crc16.byte.Kinds.ps
-          checks.nikobus.Crc16.byte.Kinds.r checks.nikobus.Crc16.byte.Symbol.routine;
+      function = function_of checks.nikobus.Crc16.byte.Symbol.symbol checks.nikobus.Crc16.byte.Kinds.ps
+          checks.nikobus.Crc16.byte.Kinds.r checks.nikobus.Crc16.byte.Symbol.code;
       claim = λ κs. claims.nikobus16-byte;
       args = λ κs a. record { self = a.0; b = a.1.0 };
       later = λ κs s. [];
@@ -372,8 +372,8 @@ nikobus16-byte-proper =
 abbrev pub nikobus16-bytes : Row
 nikobus16-bytes =
     record {
-      function = function_of checks.nikobus.Crc16.bytes.Key.name checks.nikobus.Crc16.bytes.Kinds.ps
-          checks.nikobus.Crc16.bytes.Kinds.r checks.nikobus.Crc16.bytes.Symbol.routine;
+      function = function_of checks.nikobus.Crc16.bytes.Symbol.symbol checks.nikobus.Crc16.bytes.Kinds.ps
+          checks.nikobus.Crc16.bytes.Kinds.r checks.nikobus.Crc16.bytes.Symbol.code;
       claim = λ κs. claims.nikobus16-bytes;
       args = λ κs a. record { self = a.0; s = a.1.0.now };
       later = λ κs s. [];
@@ -392,8 +392,8 @@ nikobus16-bytes-proper =
 abbrev pub nikobus16-of : Row
 nikobus16-of =
     record {
-      function = function_of checks.nikobus.Crc16.of.Key.name checks.nikobus.Crc16.of.Kinds.ps checks.nikobus.Crc16.of.Kinds.r
-          checks.nikobus.Crc16.of.Symbol.routine;
+      function = function_of checks.nikobus.Crc16.of.Symbol.symbol checks.nikobus.Crc16.of.Kinds.ps checks.nikobus.Crc16.of.Kinds.r
+          checks.nikobus.Crc16.of.Symbol.code;
       claim = λ κs. claims.nikobus16-of;
       args = λ κs a. record { s = a.0.now };
       later = λ κs s. [];
@@ -412,8 +412,8 @@ nikobus16-of-proper =
 abbrev pub nikobus8-rule : Row
 nikobus8-rule =
     record {
-      function = function_of checks.nikobus.Crc8.rule.Key.name checks.nikobus.Crc8.rule.Kinds.ps
-          checks.nikobus.Crc8.rule.Kinds.r checks.nikobus.Crc8.rule.Symbol.routine;
+      function = function_of checks.nikobus.Crc8.rule.Symbol.symbol checks.nikobus.Crc8.rule.Kinds.ps
+          checks.nikobus.Crc8.rule.Kinds.r checks.nikobus.Crc8.rule.Symbol.code;
       claim = λ κs. claims.nikobus8-rule;
       args = λ κs a. tt;
       later = λ κs s. [];
@@ -432,8 +432,8 @@ nikobus8-rule-proper =
 abbrev pub nikobus8-new : Row
 nikobus8-new =
     record {
-      function = function_of checks.nikobus.Crc8.new.Key.name checks.nikobus.Crc8.new.Kinds.ps checks.nikobus.Crc8.new.Kinds.r
-          checks.nikobus.Crc8.new.Symbol.routine;
+      function = function_of checks.nikobus.Crc8.new.Symbol.symbol checks.nikobus.Crc8.new.Kinds.ps checks.nikobus.Crc8.new.Kinds.r
+          checks.nikobus.Crc8.new.Symbol.code;
       claim = λ κs. claims.nikobus8-new;
       args = λ κs a. tt;
       later = λ κs s. [];
@@ -452,8 +452,8 @@ nikobus8-new-proper =
 abbrev pub nikobus8-byte : Row
 nikobus8-byte =
     record {
-      function = function_of checks.nikobus.Crc8.byte.Key.name checks.nikobus.Crc8.byte.Kinds.ps
-          checks.nikobus.Crc8.byte.Kinds.r checks.nikobus.Crc8.byte.Symbol.routine;
+      function = function_of checks.nikobus.Crc8.byte.Symbol.symbol checks.nikobus.Crc8.byte.Kinds.ps
+          checks.nikobus.Crc8.byte.Kinds.r checks.nikobus.Crc8.byte.Symbol.code;
       claim = λ κs. claims.nikobus8-byte;
       args = λ κs a. record { self = a.0; b = a.1.0 };
       later = λ κs s. [];
@@ -472,8 +472,8 @@ nikobus8-byte-proper =
 abbrev pub nikobus8-bytes : Row
 nikobus8-bytes =
     record {
-      function = function_of checks.nikobus.Crc8.bytes.Key.name checks.nikobus.Crc8.bytes.Kinds.ps
-          checks.nikobus.Crc8.bytes.Kinds.r checks.nikobus.Crc8.bytes.Symbol.routine;
+      function = function_of checks.nikobus.Crc8.bytes.Symbol.symbol checks.nikobus.Crc8.bytes.Kinds.ps
+          checks.nikobus.Crc8.bytes.Kinds.r checks.nikobus.Crc8.bytes.Symbol.code;
       claim = λ κs. claims.nikobus8-bytes;
       args = λ κs a. record { self = a.0; s = a.1.0.now };
       later = λ κs s. [];
@@ -492,8 +492,8 @@ nikobus8-bytes-proper =
 abbrev pub nikobus8-of : Row
 nikobus8-of =
     record {
-      function = function_of checks.nikobus.Crc8.of.Key.name checks.nikobus.Crc8.of.Kinds.ps checks.nikobus.Crc8.of.Kinds.r
-          checks.nikobus.Crc8.of.Symbol.routine;
+      function = function_of checks.nikobus.Crc8.of.Symbol.symbol checks.nikobus.Crc8.of.Kinds.ps checks.nikobus.Crc8.of.Kinds.r
+          checks.nikobus.Crc8.of.Symbol.code;
       claim = λ κs. claims.nikobus8-of;
       args = λ κs a. record { s = a.0.now };
       later = λ κs s. [];

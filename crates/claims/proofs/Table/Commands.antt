@@ -31,8 +31,8 @@ encode-stated (EncodeCause.by-message c) = of-message c
 abbrev pub encode : Row
 encode =
     record {
-      function = function_of commands.encode.Key.name commands.encode.Kinds.ps commands.encode.Kinds.r
-          commands.encode.Symbol.routine;
+      function = function_of commands.encode.Symbol.symbol commands.encode.Kinds.ps commands.encode.Kinds.r
+          commands.encode.Symbol.code;
       claim = λ κs. claims.encode;
       args = λ κs a. record { kind = a.0; message = a.1.0; content = a.1.1.0.now; room = a.1.1.1.0.now };
       later = λ κs s. s.1.1.1.0.now;
@@ -58,8 +58,8 @@ acknowledge-stated (AcknowledgeCause.short w h) = there here
 abbrev pub acknowledge : Row
 acknowledge =
     record {
-      function = function_of commands.acknowledge.Key.name commands.acknowledge.Kinds.ps commands.acknowledge.Kinds.r
-          commands.acknowledge.Symbol.routine;
+      function = function_of commands.acknowledge.Symbol.symbol commands.acknowledge.Kinds.ps commands.acknowledge.Kinds.r
+          commands.acknowledge.Symbol.code;
       claim = λ κs. claims.acknowledge;
       args = λ κs a. record { frame = a.0.now; room = a.1.0.now };
       later = λ κs s. s.1.0.now;

@@ -16,8 +16,8 @@ use Rattle.claims.proofs.Occur as inputs
 abbrev pub decimal-digits : Row
 decimal-digits =
     record {
-      function = function_of digits.decimal.digits.Key.name digits.decimal.digits.Kinds.ps digits.decimal.digits.Kinds.r
-          digits.decimal.digits.Symbol.routine;
+      function = function_of digits.decimal.digits.Symbol.symbol digits.decimal.digits.Kinds.ps digits.decimal.digits.Kinds.r
+          digits.decimal.digits.Symbol.code;
       claim = λ κs. claims.decimal-digits;
       args = λ κs a. record { n = a.0 };
       later = λ κs s. [];
@@ -36,8 +36,8 @@ decimal-digits-proper =
 abbrev pub decimal-number-of : Row
 decimal-number-of =
     record {
-      function = function_of digits.decimal.number_of.Key.name digits.decimal.number_of.Kinds.ps
-          digits.decimal.number_of.Kinds.r digits.decimal.number_of.Symbol.routine;
+      function = function_of digits.decimal.number_of.Symbol.symbol digits.decimal.number_of.Kinds.ps
+          digits.decimal.number_of.Kinds.r digits.decimal.number_of.Symbol.code;
       claim = λ κs. claims.decimal-number-of;
       args = λ κs a. record { s = a.0.now };
       later = λ κs s. [];
@@ -58,8 +58,8 @@ decimal-number-of-proper =
 abbrev pub hex-digit : Row
 hex-digit =
     record {
-      function = function_of digits.hex.digit.Key.name digits.hex.digit.Kinds.ps digits.hex.digit.Kinds.r
-          digits.hex.digit.Symbol.routine;
+      function = function_of digits.hex.digit.Symbol.symbol digits.hex.digit.Kinds.ps digits.hex.digit.Kinds.r
+          digits.hex.digit.Symbol.code;
       claim = λ κs. claims.hex-digit;
       args = λ κs a. record { v = a.0 };
       later = λ κs s. [];
@@ -78,8 +78,8 @@ hex-digit-proper =
 abbrev pub hex-value : Row
 hex-value =
     record {
-      function = function_of digits.hex.value.Key.name digits.hex.value.Kinds.ps digits.hex.value.Kinds.r
-          digits.hex.value.Symbol.routine;
+      function = function_of digits.hex.value.Symbol.symbol digits.hex.value.Kinds.ps digits.hex.value.Kinds.r
+          digits.hex.value.Symbol.code;
       claim = λ κs. claims.hex-value;
       args = λ κs a. record { c = a.0 };
       later = λ κs s. [];
@@ -100,8 +100,8 @@ hex-value-proper =
 abbrev pub hex-two-digits : Row
 hex-two-digits =
     record {
-      function = function_of digits.hex.two_digits.Key.name digits.hex.two_digits.Kinds.ps digits.hex.two_digits.Kinds.r
-          digits.hex.two_digits.Symbol.routine;
+      function = function_of digits.hex.two_digits.Symbol.symbol digits.hex.two_digits.Kinds.ps digits.hex.two_digits.Kinds.r
+          digits.hex.two_digits.Symbol.code;
       claim = λ κs. claims.hex-two-digits;
       args = λ κs a. record { b = a.0 };
       later = λ κs s. [];
@@ -120,8 +120,8 @@ hex-two-digits-proper =
 abbrev pub hex-byte-of : Row
 hex-byte-of =
     record {
-      function = function_of digits.hex.byte_of.Key.name digits.hex.byte_of.Kinds.ps digits.hex.byte_of.Kinds.r
-          digits.hex.byte_of.Symbol.routine;
+      function = function_of digits.hex.byte_of.Symbol.symbol digits.hex.byte_of.Kinds.ps digits.hex.byte_of.Kinds.r
+          digits.hex.byte_of.Symbol.code;
       claim = λ κs. claims.hex-byte-of;
       args = λ κs a. record { high = a.0; low = a.1.0 };
       later = λ κs s. [];
@@ -142,8 +142,8 @@ hex-byte-of-proper =
 abbrev pub hex-four-digits : Row
 hex-four-digits =
     record {
-      function = function_of digits.hex.four_digits.Key.name digits.hex.four_digits.Kinds.ps digits.hex.four_digits.Kinds.r
-          digits.hex.four_digits.Symbol.routine;
+      function = function_of digits.hex.four_digits.Symbol.symbol digits.hex.four_digits.Kinds.ps digits.hex.four_digits.Kinds.r
+          digits.hex.four_digits.Symbol.code;
       claim = λ κs. claims.hex-four-digits;
       args = λ κs a. record { n = a.0 };
       later = λ κs s. [];
@@ -162,8 +162,8 @@ hex-four-digits-proper =
 abbrev pub hex-word-of : Row
 hex-word-of =
     record {
-      function = function_of digits.hex.word_of.Key.name digits.hex.word_of.Kinds.ps digits.hex.word_of.Kinds.r
-          digits.hex.word_of.Symbol.routine;
+      function = function_of digits.hex.word_of.Symbol.symbol digits.hex.word_of.Kinds.ps digits.hex.word_of.Kinds.r
+          digits.hex.word_of.Symbol.code;
       claim = λ κs. claims.hex-word-of;
       args = λ κs a. record { d = a.0 };
       later = λ κs s. [];
@@ -184,8 +184,8 @@ hex-word-of-proper =
 abbrev pub low-first-one : Row
 low-first-one =
     record {
-      function = function_of digits.low_first.one.Key.name digits.low_first.one.Kinds.ps digits.low_first.one.Kinds.r
-          digits.low_first.one.Symbol.routine;
+      function = function_of digits.low_first.one.Symbol.symbol digits.low_first.one.Kinds.ps digits.low_first.one.Kinds.r
+          digits.low_first.one.Symbol.code;
       claim = λ κs. claims.low-first-one;
       args = λ κs a. record { n = a.0 };
       later = λ κs s. [];
@@ -204,8 +204,8 @@ low-first-one-proper =
 abbrev pub low-first-two : Row
 low-first-two =
     record {
-      function = function_of digits.low_first.two.Key.name digits.low_first.two.Kinds.ps digits.low_first.two.Kinds.r
-          digits.low_first.two.Symbol.routine;
+      function = function_of digits.low_first.two.Symbol.symbol digits.low_first.two.Kinds.ps digits.low_first.two.Kinds.r
+          digits.low_first.two.Symbol.code;
       claim = λ κs. claims.low-first-two;
       args = λ κs a. record { n = a.0 };
       later = λ κs s. [];
@@ -224,8 +224,8 @@ low-first-two-proper =
 abbrev pub low-first-four : Row
 low-first-four =
     record {
-      function = function_of digits.low_first.four.Key.name digits.low_first.four.Kinds.ps digits.low_first.four.Kinds.r
-          digits.low_first.four.Symbol.routine;
+      function = function_of digits.low_first.four.Symbol.symbol digits.low_first.four.Kinds.ps digits.low_first.four.Kinds.r
+          digits.low_first.four.Symbol.code;
       claim = λ κs. claims.low-first-four;
       args = λ κs a. record { n = a.0 };
       later = λ κs s. [];
@@ -244,8 +244,8 @@ low-first-four-proper =
 abbrev pub low-first-eight : Row
 low-first-eight =
     record {
-      function = function_of digits.low_first.eight.Key.name digits.low_first.eight.Kinds.ps digits.low_first.eight.Kinds.r
-          digits.low_first.eight.Symbol.routine;
+      function = function_of digits.low_first.eight.Symbol.symbol digits.low_first.eight.Kinds.ps digits.low_first.eight.Kinds.r
+          digits.low_first.eight.Symbol.code;
       claim = λ κs. claims.low-first-eight;
       args = λ κs a. record { v = a.0 };
       later = λ κs s. [];
@@ -264,8 +264,8 @@ low-first-eight-proper =
 abbrev pub low-first-number-of : Row
 low-first-number-of =
     record {
-      function = function_of digits.low_first.number_of.Key.name digits.low_first.number_of.Kinds.ps
-          digits.low_first.number_of.Kinds.r digits.low_first.number_of.Symbol.routine;
+      function = function_of digits.low_first.number_of.Symbol.symbol digits.low_first.number_of.Kinds.ps
+          digits.low_first.number_of.Kinds.r digits.low_first.number_of.Symbol.code;
       claim = λ κs. claims.low-first-number-of;
       args = λ κs a. record { s = a.0.now };
       later = λ κs s. [];
@@ -286,8 +286,8 @@ low-first-number-of-proper =
 abbrev pub refusal-number : Row
 refusal-number =
     record {
-      function = function_of digits.refusal.number.Key.name digits.refusal.number.Kinds.ps digits.refusal.number.Kinds.r
-          digits.refusal.number.Symbol.routine;
+      function = function_of digits.refusal.number.Symbol.symbol digits.refusal.number.Kinds.ps digits.refusal.number.Kinds.r
+          digits.refusal.number.Symbol.code;
       claim = λ κs. claims.refusal-number;
       args = λ κs a. record { why = a.0 };
       later = λ κs s. [];
@@ -306,8 +306,8 @@ refusal-number-proper =
 abbrev pub slices-same : Row
 slices-same =
     record {
-      function = function_of digits.slices.same.Key.name digits.slices.same.Kinds.ps digits.slices.same.Kinds.r
-          digits.slices.same.Symbol.routine;
+      function = function_of digits.slices.same.Symbol.symbol digits.slices.same.Kinds.ps digits.slices.same.Kinds.r
+          digits.slices.same.Symbol.code;
       claim = λ κs. claims.slices-same;
       args = λ κs a. record { a = a.0.now; b = a.1.0.now };
       later = λ κs s. [];

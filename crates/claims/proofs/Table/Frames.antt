@@ -28,7 +28,7 @@ whole-stated (OneFrameCause.no-frame f) = there here
 abbrev pub search : Row
 search =
     record {
-      function = function_of frames.search.Key.name frames.search.Kinds.ps frames.search.Kinds.r frames.search.Symbol.routine;
+      function = function_of frames.search.Symbol.symbol frames.search.Kinds.ps frames.search.Kinds.r frames.search.Symbol.code;
       claim = λ κs. claims.search;
       args = λ κs a. record { kind = a.0; buffer = a.1.0.now; place = a.1.1.0 };
       later = λ κs s. [];
@@ -47,7 +47,7 @@ search-proper =
 abbrev pub frame : Row
 frame =
     record {
-      function = function_of frames.frame.Key.name frames.frame.Kinds.ps frames.frame.Kinds.r frames.frame.Symbol.routine;
+      function = function_of frames.frame.Symbol.symbol frames.frame.Kinds.ps frames.frame.Kinds.r frames.frame.Symbol.code;
       claim = λ κs. claims.frame;
       args = λ κs a. record { kind = a.0; buffer = a.1.0; place = a.1.1.0 };
       later = λ κs s. [];
@@ -66,7 +66,7 @@ frame-proper =
 abbrev pub payload : Row
 payload =
     record {
-      function = function_of frames.payload.Key.name frames.payload.Kinds.ps frames.payload.Kinds.r frames.payload.Symbol.routine;
+      function = function_of frames.payload.Symbol.symbol frames.payload.Kinds.ps frames.payload.Kinds.r frames.payload.Symbol.code;
       claim = λ κs. claims.payload;
       args = λ κs a. record { kind = a.0; buffer = a.1.0; place = a.1.1.0 };
       later = λ κs s. [];
@@ -85,8 +85,8 @@ payload-proper =
 abbrev pub one-frame : Row
 one-frame =
     record {
-      function = function_of frames.one_frame.Key.name frames.one_frame.Kinds.ps frames.one_frame.Kinds.r
-          frames.one_frame.Symbol.routine;
+      function = function_of frames.one_frame.Symbol.symbol frames.one_frame.Kinds.ps frames.one_frame.Kinds.r
+          frames.one_frame.Symbol.code;
       claim = λ κs. claims.one-frame;
       args = λ κs a. record { kind = a.0; s = a.1.0.now };
       later = λ κs s. [];
@@ -109,7 +109,7 @@ why-stated (WhyCause.no_place h) = there here
 abbrev pub why : Row
 why =
     record {
-      function = function_of frames.why.Key.name frames.why.Kinds.ps frames.why.Kinds.r frames.why.Symbol.routine;
+      function = function_of frames.why.Symbol.symbol frames.why.Kinds.ps frames.why.Kinds.r frames.why.Symbol.code;
       claim = λ κs. claims.why;
       args = λ κs a. record { kind = a.0; buffer = a.1.0.now; place = a.1.1.0 };
       later = λ κs s. [];
@@ -131,8 +131,8 @@ kinds-of-stated (KindCause.no_kind e) = here
 abbrev pub kinds-of : Row
 kinds-of =
     record {
-      function = function_of frames.kinds.of.Key.name frames.kinds.of.Kinds.ps frames.kinds.of.Kinds.r
-          frames.kinds.of.Symbol.routine;
+      function = function_of frames.kinds.of.Symbol.symbol frames.kinds.of.Kinds.ps frames.kinds.of.Kinds.r
+          frames.kinds.of.Symbol.code;
       claim = λ κs. claims.kinds-of;
       args = λ κs a. record { number = a.0 };
       later = λ κs s. [];
@@ -151,8 +151,8 @@ kinds-of-proper =
 abbrev pub kinds-number : Row
 kinds-number =
     record {
-      function = function_of frames.kinds.number.Key.name frames.kinds.number.Kinds.ps frames.kinds.number.Kinds.r
-          frames.kinds.number.Symbol.routine;
+      function = function_of frames.kinds.number.Symbol.symbol frames.kinds.number.Kinds.ps frames.kinds.number.Kinds.r
+          frames.kinds.number.Symbol.code;
       claim = λ κs. claims.kinds-number;
       args = λ κs a. record { kind = a.0 };
       later = λ κs s. [];
@@ -171,8 +171,8 @@ kinds-number-proper =
 abbrev pub kinds-known : Row
 kinds-known =
     record {
-      function = function_of frames.kinds.known.Key.name frames.kinds.known.Kinds.ps frames.kinds.known.Kinds.r
-          frames.kinds.known.Symbol.routine;
+      function = function_of frames.kinds.known.Symbol.symbol frames.kinds.known.Kinds.ps frames.kinds.known.Kinds.r
+          frames.kinds.known.Symbol.code;
       claim = λ κs. claims.kinds-known;
       args = λ κs a. record { number = a.0 };
       later = λ κs s. [];

@@ -48,7 +48,7 @@ climate-stated (ClimateCause.not-unsigned f) = OneOf.here
 abbrev pub refusal-number : Row
 refusal-number =
     record {
-      function = function_of host.answers.refusal_number.Key.name host.answers.refusal_number.Kinds.ps host.answers.refusal_number.Kinds.r host.answers.refusal_number.Symbol.routine;
+      function = function_of host.answers.refusal_number.Symbol.symbol host.answers.refusal_number.Kinds.ps host.answers.refusal_number.Kinds.r host.answers.refusal_number.Symbol.code;
       claim = λ κs. claims.refusal-number;
       args = λ κs a. record { why = a.0 };
       later = λ κs s. [];
@@ -67,7 +67,7 @@ refusal-number-proper =
 abbrev pub counted : Row
 counted =
     record {
-      function = function_of host.answers.counted.Key.name host.answers.counted.Kinds.ps host.answers.counted.Kinds.r host.answers.counted.Symbol.routine;
+      function = function_of host.answers.counted.Symbol.symbol host.answers.counted.Kinds.ps host.answers.counted.Kinds.r host.answers.counted.Symbol.code;
       claim = λ κs. claims.counted;
       args = λ κs a. record { w = a.0 };
       later = λ κs s. [];
@@ -86,7 +86,7 @@ counted-proper =
 abbrev pub kind-byte : Row
 kind-byte =
     record {
-      function = function_of host.answers.kind_byte.Key.name host.answers.kind_byte.Kinds.ps host.answers.kind_byte.Kinds.r host.answers.kind_byte.Symbol.routine;
+      function = function_of host.answers.kind_byte.Symbol.symbol host.answers.kind_byte.Kinds.ps host.answers.kind_byte.Kinds.r host.answers.kind_byte.Symbol.code;
       claim = λ κs. claims.kind-byte;
       args = λ κs a. record { kind = a.0 };
       later = λ κs s. [];
@@ -105,8 +105,8 @@ kind-byte-proper =
 abbrev pub version : Row
 version =
     record {
-      function = function_of host.bolsterweft_version.Key.name host.bolsterweft_version.Kinds.ps host.bolsterweft_version.Kinds.r
-          host.bolsterweft_version.Symbol.routine;
+      function = function_of host.bolsterweft_version.Symbol.symbol host.bolsterweft_version.Kinds.ps host.bolsterweft_version.Kinds.r
+          host.bolsterweft_version.Symbol.code;
       claim = λ κs. claims.version;
       args = λ κs a. tt;
       later = λ κs s. [];
@@ -125,8 +125,8 @@ version-proper =
 abbrev pub search : Row
 search =
     record {
-      function = function_of host.frame_calls.bolsterweft_search.Key.name host.frame_calls.bolsterweft_search.Kinds.ps host.frame_calls.bolsterweft_search.Kinds.r
-          host.frame_calls.bolsterweft_search.Symbol.routine;
+      function = function_of host.frame_calls.bolsterweft_search.Symbol.symbol host.frame_calls.bolsterweft_search.Kinds.ps host.frame_calls.bolsterweft_search.Kinds.r
+          host.frame_calls.bolsterweft_search.Symbol.code;
       claim = λ κs. claims.search;
       args = λ κs a. record { kind = a.0; buffer = a.1.0.now; place = a.1.1.0 };
       later = λ κs s. [];
@@ -145,8 +145,8 @@ search-proper =
 abbrev pub one-frame : Row
 one-frame =
     record {
-      function = function_of host.frame_calls.bolsterweft_one_frame.Key.name host.frame_calls.bolsterweft_one_frame.Kinds.ps host.frame_calls.bolsterweft_one_frame.Kinds.r
-          host.frame_calls.bolsterweft_one_frame.Symbol.routine;
+      function = function_of host.frame_calls.bolsterweft_one_frame.Symbol.symbol host.frame_calls.bolsterweft_one_frame.Kinds.ps host.frame_calls.bolsterweft_one_frame.Kinds.r
+          host.frame_calls.bolsterweft_one_frame.Symbol.code;
       claim = λ κs. claims.one-frame;
       args = λ κs a. record { kind = a.0; frame = a.1.0.now };
       later = λ κs s. [];
@@ -165,8 +165,8 @@ one-frame-proper =
 abbrev pub why : Row
 why =
     record {
-      function = function_of host.frame_calls.bolsterweft_why.Key.name host.frame_calls.bolsterweft_why.Kinds.ps host.frame_calls.bolsterweft_why.Kinds.r
-          host.frame_calls.bolsterweft_why.Symbol.routine;
+      function = function_of host.frame_calls.bolsterweft_why.Symbol.symbol host.frame_calls.bolsterweft_why.Kinds.ps host.frame_calls.bolsterweft_why.Kinds.r
+          host.frame_calls.bolsterweft_why.Symbol.code;
       claim = λ κs. claims.why;
       args = λ κs a. record { kind = a.0; buffer = a.1.0.now; place = a.1.1.0 };
       later = λ κs s. [];
@@ -185,8 +185,8 @@ why-proper =
 abbrev pub text-of : Row
 text-of =
     record {
-      function = function_of host.number_calls.bolsterweft_text.Key.name host.number_calls.bolsterweft_text.Kinds.ps host.number_calls.bolsterweft_text.Kinds.r
-          host.number_calls.bolsterweft_text.Symbol.routine;
+      function = function_of host.number_calls.bolsterweft_text.Symbol.symbol host.number_calls.bolsterweft_text.Kinds.ps host.number_calls.bolsterweft_text.Kinds.r
+          host.number_calls.bolsterweft_text.Symbol.code;
       claim = λ κs. claims.text-of;
       args = λ κs a. record { raw = a.0; decimals = a.1.0; room = a.1.1.0.now };
       later = λ κs s. s.1.1.0.now;
@@ -208,8 +208,8 @@ text-of-proper =
 abbrev pub number_of : Row
 number_of =
     record {
-      function = function_of host.number_calls.bolsterweft_number.Key.name host.number_calls.bolsterweft_number.Kinds.ps host.number_calls.bolsterweft_number.Kinds.r
-          host.number_calls.bolsterweft_number.Symbol.routine;
+      function = function_of host.number_calls.bolsterweft_number.Symbol.symbol host.number_calls.bolsterweft_number.Kinds.ps host.number_calls.bolsterweft_number.Kinds.r
+          host.number_calls.bolsterweft_number.Symbol.code;
       claim = λ κs. claims.number_of;
       args = λ κs a. record { text = a.0.now };
       later = λ κs s. [];
@@ -230,8 +230,8 @@ number-of-proper =
 abbrev pub value : Row
 value =
     record {
-      function = function_of host.number_calls.bolsterweft_value.Key.name host.number_calls.bolsterweft_value.Kinds.ps host.number_calls.bolsterweft_value.Kinds.r
-          host.number_calls.bolsterweft_value.Symbol.routine;
+      function = function_of host.number_calls.bolsterweft_value.Symbol.symbol host.number_calls.bolsterweft_value.Kinds.ps host.number_calls.bolsterweft_value.Kinds.r
+          host.number_calls.bolsterweft_value.Symbol.code;
       claim = λ κs. claims.value;
       args = λ κs a. record { raw = a.0; width = a.1.0; is_signed = a.1.1.0; room = a.1.1.1.0.now };
       later = λ κs s. s.1.1.1.0.now;
@@ -253,8 +253,8 @@ value-proper =
 abbrev pub value_read : Row
 value_read =
     record {
-      function = function_of host.number_calls.bolsterweft_value_read.Key.name host.number_calls.bolsterweft_value_read.Kinds.ps host.number_calls.bolsterweft_value_read.Kinds.r
-          host.number_calls.bolsterweft_value_read.Symbol.routine;
+      function = function_of host.number_calls.bolsterweft_value_read.Symbol.symbol host.number_calls.bolsterweft_value_read.Kinds.ps host.number_calls.bolsterweft_value_read.Kinds.r
+          host.number_calls.bolsterweft_value_read.Symbol.code;
       claim = λ κs. claims.value_read;
       args = λ κs a. record { bytes = a.0.now; width = a.1.0; is_signed = a.1.1.0 };
       later = λ κs s. [];
@@ -273,8 +273,8 @@ value-read-proper =
 abbrev pub fits : Row
 fits =
     record {
-      function = function_of host.number_calls.bolsterweft_fits.Key.name host.number_calls.bolsterweft_fits.Kinds.ps host.number_calls.bolsterweft_fits.Kinds.r
-          host.number_calls.bolsterweft_fits.Symbol.routine;
+      function = function_of host.number_calls.bolsterweft_fits.Symbol.symbol host.number_calls.bolsterweft_fits.Kinds.ps host.number_calls.bolsterweft_fits.Kinds.r
+          host.number_calls.bolsterweft_fits.Symbol.code;
       claim = λ κs. claims.fits;
       args = λ κs a. record { raw = a.0 };
       later = λ κs s. [];
@@ -293,8 +293,8 @@ fits-proper =
 abbrev pub panel : Row
 panel =
     record {
-      function = function_of host.number_calls.bolsterweft_panel.Key.name host.number_calls.bolsterweft_panel.Kinds.ps host.number_calls.bolsterweft_panel.Kinds.r
-          host.number_calls.bolsterweft_panel.Symbol.routine;
+      function = function_of host.number_calls.bolsterweft_panel.Symbol.symbol host.number_calls.bolsterweft_panel.Kinds.ps host.number_calls.bolsterweft_panel.Kinds.r
+          host.number_calls.bolsterweft_panel.Symbol.code;
       claim = λ κs. claims.panel;
       args = λ κs a. record { raw = a.0 };
       later = λ κs s. [];
@@ -313,8 +313,8 @@ panel-proper =
 abbrev pub climate : Row
 climate =
     record {
-      function = function_of host.number_calls.bolsterweft_climate.Key.name host.number_calls.bolsterweft_climate.Kinds.ps host.number_calls.bolsterweft_climate.Kinds.r
-          host.number_calls.bolsterweft_climate.Symbol.routine;
+      function = function_of host.number_calls.bolsterweft_climate.Symbol.symbol host.number_calls.bolsterweft_climate.Kinds.ps host.number_calls.bolsterweft_climate.Kinds.r
+          host.number_calls.bolsterweft_climate.Symbol.code;
       claim = λ κs. claims.climate;
       args = λ κs a. record { temperature = a.0; humidity = a.1.0 };
       later = λ κs s. [];
@@ -333,8 +333,8 @@ climate-proper =
 abbrev pub line : Row
 line =
     record {
-      function = function_of host-lines.bolsterweft_line.Key.name host-lines.bolsterweft_line.Kinds.ps host-lines.bolsterweft_line.Kinds.r
-          host-lines.bolsterweft_line.Symbol.routine;
+      function = function_of host-lines.bolsterweft_line.Symbol.symbol host-lines.bolsterweft_line.Kinds.ps host-lines.bolsterweft_line.Kinds.r
+          host-lines.bolsterweft_line.Symbol.code;
       claim = λ κs. claims.line;
       args = λ κs a. record { kind = a.0; frame = a.1.0.now; at = a.1.1.0; room = a.1.1.1.0.now };
       later = λ κs s. s.1.1.1.0.now;
@@ -356,8 +356,8 @@ line-proper =
 abbrev pub line-with : Row
 line-with =
     record {
-      function = function_of host-sheet.bolsterweft_line_with.Key.name host-sheet.bolsterweft_line_with.Kinds.ps host-sheet.bolsterweft_line_with.Kinds.r
-          host-sheet.bolsterweft_line_with.Symbol.routine;
+      function = function_of host-sheet.bolsterweft_line_with.Symbol.symbol host-sheet.bolsterweft_line_with.Kinds.ps host-sheet.bolsterweft_line_with.Kinds.r
+          host-sheet.bolsterweft_line_with.Symbol.code;
       claim = λ κs. claims.line-with;
       args = λ κs a. record { kind = a.0; frame = a.1.0.now; at = a.1.1.0; map = a.1.1.1.0.now; room = a.1.1.1.1.0.now };
       later = λ κs s. s.1.1.1.1.0.now;
@@ -379,8 +379,8 @@ line-with-proper =
 abbrev pub line-next : Row
 line-next =
     record {
-      function = function_of host-lines.bolsterweft_line_next.Key.name host-lines.bolsterweft_line_next.Kinds.ps host-lines.bolsterweft_line_next.Kinds.r
-          host-lines.bolsterweft_line_next.Symbol.routine;
+      function = function_of host-lines.bolsterweft_line_next.Symbol.symbol host-lines.bolsterweft_line_next.Kinds.ps host-lines.bolsterweft_line_next.Kinds.r
+          host-lines.bolsterweft_line_next.Symbol.code;
       claim = λ κs. claims.line-next;
       args = λ κs a. record { kind = a.0; capture = a.1.0.now; place = a.1.1.0; room = a.1.1.1.0.now };
       later = λ κs s. s.1.1.1.0.now;
@@ -400,8 +400,8 @@ line-next-proper =
 abbrev pub line-next-with : Row
 line-next-with =
     record {
-      function = function_of host-sheet.bolsterweft_line_next_with.Key.name host-sheet.bolsterweft_line_next_with.Kinds.ps host-sheet.bolsterweft_line_next_with.Kinds.r
-          host-sheet.bolsterweft_line_next_with.Symbol.routine;
+      function = function_of host-sheet.bolsterweft_line_next_with.Symbol.symbol host-sheet.bolsterweft_line_next_with.Kinds.ps host-sheet.bolsterweft_line_next_with.Kinds.r
+          host-sheet.bolsterweft_line_next_with.Symbol.code;
       claim = λ κs. claims.line-next-with;
       args = λ κs a. record { kind = a.0; capture = a.1.0.now; place = a.1.1.0; map = a.1.1.1.0.now; room = a.1.1.1.1.0.now };
       later = λ κs s. s.1.1.1.1.0.now;
@@ -421,8 +421,8 @@ line-next-with-proper =
 abbrev pub next-mapped : Row
 next-mapped =
     record {
-      function = function_of host-lines.next_mapped.Key.name host-lines.next_mapped.Kinds.ps host-lines.next_mapped.Kinds.r
-          host-lines.next_mapped.Symbol.routine;
+      function = function_of host-lines.next_mapped.Symbol.symbol host-lines.next_mapped.Kinds.ps host-lines.next_mapped.Kinds.r
+          host-lines.next_mapped.Symbol.code;
       claim = λ κs. claims.next-mapped;
       args = λ κs a. record { kind = a.0; capture = a.1.0.now; place = a.1.1.0; map = a.1.1.1.0.now; room = a.1.1.1.1.0.now };
       later = λ κs s. s.1.1.1.1.0.now;
@@ -442,8 +442,8 @@ next-mapped-proper =
 abbrev pub listing : Row
 listing =
     record {
-      function = function_of host-list.bolsterweft_list.Key.name host-list.bolsterweft_list.Kinds.ps host-list.bolsterweft_list.Kinds.r
-          host-list.bolsterweft_list.Symbol.routine;
+      function = function_of host-list.bolsterweft_list.Symbol.symbol host-list.bolsterweft_list.Kinds.ps host-list.bolsterweft_list.Kinds.r
+          host-list.bolsterweft_list.Symbol.code;
       claim = λ κs. claims.listing;
       args = λ κs a. record { input = a.0.now; room = a.1.0.now };
       later = λ κs s. s.1.0.now;
@@ -465,8 +465,8 @@ listing-proper =
 abbrev pub listing-with : Row
 listing-with =
     record {
-      function = function_of host-list.bolsterweft_list_with.Key.name host-list.bolsterweft_list_with.Kinds.ps host-list.bolsterweft_list_with.Kinds.r
-          host-list.bolsterweft_list_with.Symbol.routine;
+      function = function_of host-list.bolsterweft_list_with.Symbol.symbol host-list.bolsterweft_list_with.Kinds.ps host-list.bolsterweft_list_with.Kinds.r
+          host-list.bolsterweft_list_with.Symbol.code;
       claim = λ κs. claims.listing-with;
       args = λ κs a. record { input = a.0.now; map = a.1.0.now; room = a.1.1.0.now };
       later = λ κs s. s.1.1.0.now;
@@ -488,8 +488,8 @@ listing-with-proper =
 abbrev pub acknowledge : Row
 acknowledge =
     record {
-      function = function_of host-lines.bolsterweft_acknowledge.Key.name host-lines.bolsterweft_acknowledge.Kinds.ps host-lines.bolsterweft_acknowledge.Kinds.r
-          host-lines.bolsterweft_acknowledge.Symbol.routine;
+      function = function_of host-lines.bolsterweft_acknowledge.Symbol.symbol host-lines.bolsterweft_acknowledge.Kinds.ps host-lines.bolsterweft_acknowledge.Kinds.r
+          host-lines.bolsterweft_acknowledge.Symbol.code;
       claim = λ κs. claims.acknowledge;
       args = λ κs a. record { frame = a.0.now; room = a.1.0.now };
       later = λ κs s. s.1.0.now;
@@ -511,8 +511,8 @@ acknowledge-proper =
 abbrev pub encode : Row
 encode =
     record {
-      function = function_of host-asked.bolsterweft_encode.Key.name host-asked.bolsterweft_encode.Kinds.ps host-asked.bolsterweft_encode.Kinds.r
-          host-asked.bolsterweft_encode.Symbol.routine;
+      function = function_of host-asked.bolsterweft_encode.Symbol.symbol host-asked.bolsterweft_encode.Kinds.ps host-asked.bolsterweft_encode.Kinds.r
+          host-asked.bolsterweft_encode.Symbol.code;
       claim = λ κs. claims.encode;
       args = λ κs a. record { text = a.0.now; room = a.1.0.now };
       later = λ κs s. s.1.0.now;
@@ -534,8 +534,8 @@ encode-proper =
 abbrev pub sheet-map : Row
 sheet-map =
     record {
-      function = function_of host-sheet.bolsterweft_sheet_map.Key.name host-sheet.bolsterweft_sheet_map.Kinds.ps host-sheet.bolsterweft_sheet_map.Kinds.r
-          host-sheet.bolsterweft_sheet_map.Symbol.routine;
+      function = function_of host-sheet.bolsterweft_sheet_map.Symbol.symbol host-sheet.bolsterweft_sheet_map.Kinds.ps host-sheet.bolsterweft_sheet_map.Kinds.r
+          host-sheet.bolsterweft_sheet_map.Symbol.code;
       claim = λ κs. claims.sheet-map;
       args = λ κs a. record { text = a.0.now; map = a.1.0.now };
       later = λ κs s. s.1.0.now;
@@ -557,8 +557,8 @@ sheet-map-proper =
 abbrev pub sheet-fault : Row
 sheet-fault =
     record {
-      function = function_of host-sheet.bolsterweft_sheet_fault.Key.name host-sheet.bolsterweft_sheet_fault.Kinds.ps host-sheet.bolsterweft_sheet_fault.Kinds.r
-          host-sheet.bolsterweft_sheet_fault.Symbol.routine;
+      function = function_of host-sheet.bolsterweft_sheet_fault.Symbol.symbol host-sheet.bolsterweft_sheet_fault.Kinds.ps host-sheet.bolsterweft_sheet_fault.Kinds.r
+          host-sheet.bolsterweft_sheet_fault.Symbol.code;
       claim = λ κs. claims.sheet-fault;
       args = λ κs a. record { text = a.0.now };
       later = λ κs s. [];
@@ -577,8 +577,8 @@ sheet-fault-proper =
 abbrev pub book-open : Row
 book-open =
     record {
-      function = function_of host-book.bolsterweft_book_open.Key.name host-book.bolsterweft_book_open.Kinds.ps host-book.bolsterweft_book_open.Kinds.r
-          host-book.bolsterweft_book_open.Symbol.routine;
+      function = function_of host-book.bolsterweft_book_open.Symbol.symbol host-book.bolsterweft_book_open.Kinds.ps host-book.bolsterweft_book_open.Kinds.r
+          host-book.bolsterweft_book_open.Symbol.code;
       claim = λ κs. claims.book-open;
       args = λ κs a. record { book = a.0.now };
       later = λ κs s. [];
@@ -597,8 +597,8 @@ book-open-proper =
 abbrev pub book-entry : Row
 book-entry =
     record {
-      function = function_of host-book.bolsterweft_book_entry.Key.name host-book.bolsterweft_book_entry.Kinds.ps host-book.bolsterweft_book_entry.Kinds.r
-          host-book.bolsterweft_book_entry.Symbol.routine;
+      function = function_of host-book.bolsterweft_book_entry.Symbol.symbol host-book.bolsterweft_book_entry.Kinds.ps host-book.bolsterweft_book_entry.Kinds.r
+          host-book.bolsterweft_book_entry.Symbol.code;
       claim = λ κs. claims.book-entry;
       args = λ κs a. record { book = a.0.now; number = a.1.0 };
       later = λ κs s. [];
@@ -617,8 +617,8 @@ book-entry-proper =
 abbrev pub book-line : Row
 book-line =
     record {
-      function = function_of host-book.bolsterweft_book_line.Key.name host-book.bolsterweft_book_line.Kinds.ps host-book.bolsterweft_book_line.Kinds.r
-          host-book.bolsterweft_book_line.Symbol.routine;
+      function = function_of host-book.bolsterweft_book_line.Symbol.symbol host-book.bolsterweft_book_line.Kinds.ps host-book.bolsterweft_book_line.Kinds.r
+          host-book.bolsterweft_book_line.Symbol.code;
       claim = λ κs. claims.book-line;
       args = λ κs a. record { book = a.0.now; number = a.1.0; room = a.1.1.0.now };
       later = λ κs s. s.1.1.0.now;
@@ -640,8 +640,8 @@ book-line-proper =
 abbrev pub book-line-with : Row
 book-line-with =
     record {
-      function = function_of host-book.bolsterweft_book_line_with.Key.name host-book.bolsterweft_book_line_with.Kinds.ps host-book.bolsterweft_book_line_with.Kinds.r
-          host-book.bolsterweft_book_line_with.Symbol.routine;
+      function = function_of host-book.bolsterweft_book_line_with.Symbol.symbol host-book.bolsterweft_book_line_with.Kinds.ps host-book.bolsterweft_book_line_with.Kinds.r
+          host-book.bolsterweft_book_line_with.Symbol.code;
       claim = λ κs. claims.book-line-with;
       args = λ κs a. record { book = a.0.now; number = a.1.0; map = a.1.1.0.now; room = a.1.1.1.0.now };
       later = λ κs s. s.1.1.1.0.now;
@@ -663,8 +663,8 @@ book-line-with-proper =
 abbrev pub book-list : Row
 book-list =
     record {
-      function = function_of host-book.bolsterweft_book_list.Key.name host-book.bolsterweft_book_list.Kinds.ps host-book.bolsterweft_book_list.Kinds.r
-          host-book.bolsterweft_book_list.Symbol.routine;
+      function = function_of host-book.bolsterweft_book_list.Symbol.symbol host-book.bolsterweft_book_list.Kinds.ps host-book.bolsterweft_book_list.Kinds.r
+          host-book.bolsterweft_book_list.Symbol.code;
       claim = λ κs. claims.book-list;
       args = λ κs a. record { book = a.0.now; room = a.1.0.now };
       later = λ κs s. s.1.0.now;
@@ -686,8 +686,8 @@ book-list-proper =
 abbrev pub book-list-with : Row
 book-list-with =
     record {
-      function = function_of host-book.bolsterweft_book_list_with.Key.name host-book.bolsterweft_book_list_with.Kinds.ps host-book.bolsterweft_book_list_with.Kinds.r
-          host-book.bolsterweft_book_list_with.Symbol.routine;
+      function = function_of host-book.bolsterweft_book_list_with.Symbol.symbol host-book.bolsterweft_book_list_with.Kinds.ps host-book.bolsterweft_book_list_with.Kinds.r
+          host-book.bolsterweft_book_list_with.Symbol.code;
       claim = λ κs. claims.book-list-with;
       args = λ κs a. record { book = a.0.now; map = a.1.0.now; room = a.1.1.0.now };
       later = λ κs s. s.1.1.0.now;
@@ -709,8 +709,8 @@ book-list-with-proper =
 abbrev pub book-add : Row
 book-add =
     record {
-      function = function_of host-book.bolsterweft_book_add.Key.name host-book.bolsterweft_book_add.Kinds.ps host-book.bolsterweft_book_add.Kinds.r
-          host-book.bolsterweft_book_add.Symbol.routine;
+      function = function_of host-book.bolsterweft_book_add.Symbol.symbol host-book.bolsterweft_book_add.Kinds.ps host-book.bolsterweft_book_add.Kinds.r
+          host-book.bolsterweft_book_add.Symbol.code;
       claim = λ κs. claims.book-add;
       args = λ κs a. record { book = a.0.now; kind = a.1.0; frame = a.1.1.0.now; room = a.1.1.1.0.now };
       later = λ κs s. s.1.1.1.0.now;

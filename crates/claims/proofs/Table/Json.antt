@@ -4,7 +4,7 @@ use Rattle.puts.proofs.Unique.{one-put}
 use mathlib.Core.Path.{refl}
 use Prim.Native.Nat.{ℕ}
 use mathlib.Core.List.{List, [], ◌∷◌}
-use Rattle.json.proofs as json
+use Rattle.json_values.proofs as json
 use Rattle.claims.specs.Paper.Row.{Row, Proper, Every, none, and}
 use Rattle.claims.specs.Paper.Function.{function_of}
 use Rattle.claims.specs.Paper.Table.Json as claims
@@ -13,7 +13,7 @@ use Rattle.claims.proofs.Laws.Forms.{placed}
 abbrev pub hex : Row
 hex =
     record {
-      function = function_of json.hex.Key.name json.hex.Kinds.ps json.hex.Kinds.r json.hex.Symbol.routine;
+      function = function_of json.hex.Symbol.symbol json.hex.Kinds.ps json.hex.Kinds.r json.hex.Symbol.code;
       claim = λ κs. claims.hex;
       args = λ κs a. record { s = a.0.now; room = a.1.0.now; at = a.1.1.0 };
       later = λ κs s. s.1.0.now;
@@ -32,7 +32,7 @@ hex-proper =
 abbrev pub chars : Row
 chars =
     record {
-      function = function_of json.chars.Key.name json.chars.Kinds.ps json.chars.Kinds.r json.chars.Symbol.routine;
+      function = function_of json.chars.Symbol.symbol json.chars.Kinds.ps json.chars.Kinds.r json.chars.Symbol.code;
       claim = λ κs. claims.chars;
       args = λ κs a. record { s = a.0.now; room = a.1.0.now; at = a.1.1.0 };
       later = λ κs s. s.1.0.now;
@@ -51,7 +51,7 @@ chars-proper =
 abbrev pub truth : Row
 truth =
     record {
-      function = function_of json.truth.Key.name json.truth.Kinds.ps json.truth.Kinds.r json.truth.Symbol.routine;
+      function = function_of json.truth.Symbol.symbol json.truth.Kinds.ps json.truth.Kinds.r json.truth.Symbol.code;
       claim = λ κs. claims.truth;
       args = λ κs a. record { b = a.0; room = a.1.0.now; at = a.1.1.0 };
       later = λ κs s. s.1.0.now;
@@ -70,7 +70,7 @@ truth-proper =
 abbrev pub signed : Row
 signed =
     record {
-      function = function_of json.signed.Key.name json.signed.Kinds.ps json.signed.Kinds.r json.signed.Symbol.routine;
+      function = function_of json.signed.Symbol.symbol json.signed.Kinds.ps json.signed.Kinds.r json.signed.Symbol.code;
       claim = λ κs. claims.signed;
       args = λ κs a. record { raw = a.0; decimals = a.1.0; room = a.1.1.0.now; at = a.1.1.1.0 };
       later = λ κs s. s.1.1.0.now;
@@ -89,7 +89,7 @@ signed-proper =
 abbrev pub unsigned : Row
 unsigned =
     record {
-      function = function_of json.unsigned.Key.name json.unsigned.Kinds.ps json.unsigned.Kinds.r json.unsigned.Symbol.routine;
+      function = function_of json.unsigned.Symbol.symbol json.unsigned.Kinds.ps json.unsigned.Kinds.r json.unsigned.Symbol.code;
       claim = λ κs. claims.unsigned;
       args = λ κs a. record { raw = a.0; decimals = a.1.0; room = a.1.1.0.now; at = a.1.1.1.0 };
       later = λ κs s. s.1.1.0.now;

@@ -27,7 +27,7 @@ characters-stated (CharactersCause.short x h) = there here
 abbrev pub accepts : Row
 accepts =
     record {
-      function = function_of jsontext.accepts.Key.name jsontext.accepts.Kinds.ps jsontext.accepts.Kinds.r jsontext.accepts.Symbol.routine;
+      function = function_of jsontext.accepts.Symbol.symbol jsontext.accepts.Kinds.ps jsontext.accepts.Kinds.r jsontext.accepts.Symbol.code;
       claim = λ κs. claims.accepts;
       args = λ κs a. record { text = a.0.now };
       later = λ κs s. [];
@@ -46,7 +46,7 @@ accepts-proper =
 abbrev pub fault : Row
 fault =
     record {
-      function = function_of jsontext.fault.Key.name jsontext.fault.Kinds.ps jsontext.fault.Kinds.r jsontext.fault.Symbol.routine;
+      function = function_of jsontext.fault.Symbol.symbol jsontext.fault.Kinds.ps jsontext.fault.Kinds.r jsontext.fault.Symbol.code;
       claim = λ κs. claims.fault;
       args = λ κs a. record { text = a.0.now };
       later = λ κs s. [];
@@ -65,7 +65,7 @@ fault-proper =
 abbrev pub count : Row
 count =
     record {
-      function = function_of jsontext.members.count.Key.name jsontext.members.count.Kinds.ps jsontext.members.count.Kinds.r jsontext.members.count.Symbol.routine;
+      function = function_of jsontext.members.count.Symbol.symbol jsontext.members.count.Kinds.ps jsontext.members.count.Kinds.r jsontext.members.count.Symbol.code;
       claim = λ κs. claims.count;
       args = λ κs a. record { text = a.0.now };
       later = λ κs s. [];
@@ -84,7 +84,7 @@ count-proper =
 abbrev pub value_of : Row
 value_of =
     record {
-      function = function_of jsontext.members.value_of.Key.name jsontext.members.value_of.Kinds.ps jsontext.members.value_of.Kinds.r jsontext.members.value_of.Symbol.routine;
+      function = function_of jsontext.members.value_of.Symbol.symbol jsontext.members.value_of.Kinds.ps jsontext.members.value_of.Kinds.r jsontext.members.value_of.Symbol.code;
       claim = λ κs. claims.value_of;
       args = λ κs a. record { text = a.0.now; name = a.1.0.now };
       later = λ κs s. [];
@@ -103,7 +103,7 @@ value-of-proper =
 abbrev pub characters : Row
 characters =
     record {
-      function = function_of jsontext.members.characters.Key.name jsontext.members.characters.Kinds.ps jsontext.members.characters.Kinds.r jsontext.members.characters.Symbol.routine;
+      function = function_of jsontext.members.characters.Symbol.symbol jsontext.members.characters.Kinds.ps jsontext.members.characters.Kinds.r jsontext.members.characters.Symbol.code;
       claim = λ κs. claims.characters;
       args = λ κs a. record { text = a.0.now; room = a.1.0.now };
       later = λ κs s. s.1.0.now;

@@ -12,8 +12,8 @@ use Rattle.claims.specs.Paper.Table.Layouts as claims
 abbrev pub homiq-frame : Row
 homiq-frame =
     record {
-      function = function_of layouts.homiq.frame.Key.name layouts.homiq.frame.Kinds.ps layouts.homiq.frame.Kinds.r
-          layouts.homiq.frame.Symbol.routine;
+      function = function_of layouts.homiq.frame.Symbol.symbol layouts.homiq.frame.Kinds.ps layouts.homiq.frame.Kinds.r
+          layouts.homiq.frame.Symbol.code;
       claim = λ κs. claims.homiq-frame;
       args = λ κs a. record { s = a.0.now };
       later = λ κs s. [];
@@ -32,8 +32,8 @@ homiq-frame-proper =
 abbrev pub homiq-crc : Row
 homiq-crc =
     record {
-      function = function_of layouts.homiq.crc.Key.name layouts.homiq.crc.Kinds.ps layouts.homiq.crc.Kinds.r
-          layouts.homiq.crc.Symbol.routine;
+      function = function_of layouts.homiq.crc.Symbol.symbol layouts.homiq.crc.Kinds.ps layouts.homiq.crc.Kinds.r
+          layouts.homiq.crc.Symbol.code;
       claim = λ κs. claims.homiq-crc;
       args = λ κs a. record { s = a.0.now };
       later = λ κs s. [];
@@ -52,8 +52,8 @@ homiq-crc-proper =
 abbrev pub homiq-may-start : Row
 homiq-may-start =
     record {
-      function = function_of layouts.homiq.may_start.Key.name layouts.homiq.may_start.Kinds.ps layouts.homiq.may_start.Kinds.r
-          layouts.homiq.may_start.Symbol.routine;
+      function = function_of layouts.homiq.may_start.Symbol.symbol layouts.homiq.may_start.Kinds.ps layouts.homiq.may_start.Kinds.r
+          layouts.homiq.may_start.Symbol.code;
       claim = λ κs. claims.homiq-may-start;
       args = λ κs a. record { s = a.0.now };
       later = λ κs s. [];
@@ -72,8 +72,8 @@ homiq-may-start-proper =
 abbrev pub homiq-is-payload : Row
 homiq-is-payload =
     record {
-      function = function_of layouts.homiq.is_payload.Key.name layouts.homiq.is_payload.Kinds.ps
-          layouts.homiq.is_payload.Kinds.r layouts.homiq.is_payload.Symbol.routine;
+      function = function_of layouts.homiq.is_payload.Symbol.symbol layouts.homiq.is_payload.Kinds.ps
+          layouts.homiq.is_payload.Kinds.r layouts.homiq.is_payload.Symbol.code;
       claim = λ κs. claims.homiq-is-payload;
       args = λ κs a. record { p = a.0.now };
       later = λ κs s. [];
@@ -92,8 +92,8 @@ homiq-is-payload-proper =
 abbrev pub nest-frame : Row
 nest-frame =
     record {
-      function = function_of layouts.nest.frame.Key.name layouts.nest.frame.Kinds.ps layouts.nest.frame.Kinds.r
-          layouts.nest.frame.Symbol.routine;
+      function = function_of layouts.nest.frame.Symbol.symbol layouts.nest.frame.Kinds.ps layouts.nest.frame.Kinds.r
+          layouts.nest.frame.Symbol.code;
       claim = λ κs. claims.nest-frame;
       args = λ κs a. record { direction = a.0; s = a.1.0.now };
       later = λ κs s. [];
@@ -112,8 +112,8 @@ nest-frame-proper =
 abbrev pub nest-may-start : Row
 nest-may-start =
     record {
-      function = function_of layouts.nest.may_start.Key.name layouts.nest.may_start.Kinds.ps layouts.nest.may_start.Kinds.r
-          layouts.nest.may_start.Symbol.routine;
+      function = function_of layouts.nest.may_start.Symbol.symbol layouts.nest.may_start.Kinds.ps layouts.nest.may_start.Kinds.r
+          layouts.nest.may_start.Symbol.code;
       claim = λ κs. claims.nest-may-start;
       args = λ κs a. record { direction = a.0; s = a.1.0.now };
       later = λ κs s. [];
@@ -132,8 +132,8 @@ nest-may-start-proper =
 abbrev pub nibe-frame : Row
 nibe-frame =
     record {
-      function = function_of layouts.nibe.frame.Key.name layouts.nibe.frame.Kinds.ps layouts.nibe.frame.Kinds.r
-          layouts.nibe.frame.Symbol.routine;
+      function = function_of layouts.nibe.frame.Symbol.symbol layouts.nibe.frame.Kinds.ps layouts.nibe.frame.Kinds.r
+          layouts.nibe.frame.Symbol.code;
       claim = λ κs. claims.nibe-frame;
       args = λ κs a. record { s = a.0.now };
       later = λ κs s. [];
@@ -152,8 +152,8 @@ nibe-frame-proper =
 abbrev pub nibe-may-start : Row
 nibe-may-start =
     record {
-      function = function_of layouts.nibe.may_start.Key.name layouts.nibe.may_start.Kinds.ps layouts.nibe.may_start.Kinds.r
-          layouts.nibe.may_start.Symbol.routine;
+      function = function_of layouts.nibe.may_start.Symbol.symbol layouts.nibe.may_start.Kinds.ps layouts.nibe.may_start.Kinds.r
+          layouts.nibe.may_start.Symbol.code;
       claim = λ κs. claims.nibe-may-start;
       args = λ κs a. record { s = a.0.now };
       later = λ κs s. [];
@@ -172,8 +172,8 @@ nibe-may-start-proper =
 abbrev pub nibe-is-command : Row
 nibe-is-command =
     record {
-      function = function_of layouts.nibe.is_command.Key.name layouts.nibe.is_command.Kinds.ps layouts.nibe.is_command.Kinds.r
-          layouts.nibe.is_command.Symbol.routine;
+      function = function_of layouts.nibe.is_command.Symbol.symbol layouts.nibe.is_command.Kinds.ps layouts.nibe.is_command.Kinds.r
+          layouts.nibe.is_command.Symbol.code;
       claim = λ κs. claims.nibe-is-command;
       args = λ κs a. record { c = a.0 };
       later = λ κs s. [];
@@ -192,8 +192,8 @@ nibe-is-command-proper =
 abbrev pub nikobus-frame : Row
 nikobus-frame =
     record {
-      function = function_of layouts.nikobus.frame.Key.name layouts.nikobus.frame.Kinds.ps layouts.nikobus.frame.Kinds.r
-          layouts.nikobus.frame.Symbol.routine;
+      function = function_of layouts.nikobus.frame.Symbol.symbol layouts.nikobus.frame.Kinds.ps layouts.nikobus.frame.Kinds.r
+          layouts.nikobus.frame.Symbol.code;
       claim = λ κs. claims.nikobus-frame;
       args = λ κs a. record { s = a.0.now };
       later = λ κs s. [];
@@ -212,8 +212,8 @@ nikobus-frame-proper =
 abbrev pub nikobus-may-start : Row
 nikobus-may-start =
     record {
-      function = function_of layouts.nikobus.may_start.Key.name layouts.nikobus.may_start.Kinds.ps
-          layouts.nikobus.may_start.Kinds.r layouts.nikobus.may_start.Symbol.routine;
+      function = function_of layouts.nikobus.may_start.Symbol.symbol layouts.nikobus.may_start.Kinds.ps
+          layouts.nikobus.may_start.Kinds.r layouts.nikobus.may_start.Symbol.code;
       claim = λ κs. claims.nikobus-may-start;
       args = λ κs a. record { s = a.0.now };
       later = λ κs s. [];
@@ -232,8 +232,8 @@ nikobus-may-start-proper =
 abbrev pub nikobus-all-digits : Row
 nikobus-all-digits =
     record {
-      function = function_of layouts.nikobus.all_digits.Key.name layouts.nikobus.all_digits.Kinds.ps
-          layouts.nikobus.all_digits.Kinds.r layouts.nikobus.all_digits.Symbol.routine;
+      function = function_of layouts.nikobus.all_digits.Symbol.symbol layouts.nikobus.all_digits.Kinds.ps
+          layouts.nikobus.all_digits.Kinds.r layouts.nikobus.all_digits.Symbol.code;
       claim = λ κs. claims.nikobus-all-digits;
       args = λ κs a. record { s = a.0.now };
       later = λ κs s. [];

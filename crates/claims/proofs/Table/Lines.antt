@@ -45,7 +45,7 @@ next-stated (NextCause.short f l h) = there (there here)
 abbrev pub write : Row
 write =
     record {
-      function = function_of lines.write.Key.name lines.write.Kinds.ps lines.write.Kinds.r lines.write.Symbol.routine;
+      function = function_of lines.write.Symbol.symbol lines.write.Kinds.ps lines.write.Kinds.r lines.write.Symbol.code;
       claim = λ κs. claims.write;
       args = λ κs a. record { kind = a.0; frame = a.1.0.now; at = a.1.1.0; room = a.1.1.1.0.now };
       later = λ κs s. s.1.1.1.0.now;
@@ -66,7 +66,7 @@ write-proper =
 abbrev pub write-mapped : Row
 write-mapped =
     record {
-      function = function_of lines.write_mapped.Key.name lines.write_mapped.Kinds.ps lines.write_mapped.Kinds.r lines.write_mapped.Symbol.routine;
+      function = function_of lines.write_mapped.Symbol.symbol lines.write_mapped.Kinds.ps lines.write_mapped.Kinds.r lines.write_mapped.Symbol.code;
       claim = λ κs. claims.write-mapped;
       args = λ κs a. record { kind = a.0; frame = a.1.0.now; at = a.1.1.0; map = a.1.1.1.0.now; room = a.1.1.1.1.0.now };
       later = λ κs s. s.1.1.1.1.0.now;
@@ -87,7 +87,7 @@ write-mapped-proper =
 abbrev pub write-with : Row
 write-with =
     record {
-      function = function_of lines.write_with.Key.name lines.write_with.Kinds.ps lines.write_with.Kinds.r lines.write_with.Symbol.routine;
+      function = function_of lines.write_with.Symbol.symbol lines.write_with.Kinds.ps lines.write_with.Kinds.r lines.write_with.Symbol.code;
       claim = λ κs. claims.write-with;
       args = λ κs a. record { kind = a.0; frame = a.1.0.now; at = a.1.1.0; text = a.1.1.1.0.now; room = a.1.1.1.1.0.now };
       later = λ κs s. s.1.1.1.1.0.now;
@@ -108,7 +108,7 @@ write-with-proper =
 abbrev pub next : Row
 next =
     record {
-      function = function_of lines.next.Key.name lines.next.Kinds.ps lines.next.Kinds.r lines.next.Symbol.routine;
+      function = function_of lines.next.Symbol.symbol lines.next.Kinds.ps lines.next.Kinds.r lines.next.Symbol.code;
       claim = λ κs. claims.next;
       args = λ κs a. record { kind = a.0; capture = a.1.0.now; place = a.1.1.0; map = a.1.1.1.0.now; room = a.1.1.1.1.0.now; to = a.1.1.1.1.1.0 };
       later = λ κs s. s.1.1.1.1.0.now;
@@ -128,7 +128,7 @@ next-proper =
 abbrev pub measure : Row
 measure =
     record {
-      function = function_of lines.measure.Key.name lines.measure.Kinds.ps lines.measure.Kinds.r lines.measure.Symbol.routine;
+      function = function_of lines.measure.Symbol.symbol lines.measure.Kinds.ps lines.measure.Kinds.r lines.measure.Symbol.code;
       claim = λ κs. claims.measure;
       args = λ κs a. record { kind = a.0; capture = a.1.0.now; place = a.1.1.0; map = a.1.1.1.0.now };
       later = λ κs s. [];
@@ -147,7 +147,7 @@ measure-proper =
 abbrev pub of : Row
 of =
     record {
-      function = function_of lines.of.Key.name lines.of.Kinds.ps lines.of.Kinds.r lines.of.Symbol.routine;
+      function = function_of lines.of.Symbol.symbol lines.of.Kinds.ps lines.of.Kinds.r lines.of.Symbol.code;
       claim = λ κs. claims.of;
       args = λ κs a. record { message = a.0; content = a.1.0.now; at = a.1.1.0; len = a.1.1.1.0; room = a.1.1.1.1.0.now; to = a.1.1.1.1.1.0 };
       later = λ κs s. s.1.1.1.1.0.now;
@@ -167,8 +167,8 @@ of-proper =
 abbrev pub put-content : Row
 put-content =
     record {
-      function = function_of lines.put_content.Key.name lines.put_content.Kinds.ps lines.put_content.Kinds.r
-          lines.put_content.Symbol.routine;
+      function = function_of lines.put_content.Symbol.symbol lines.put_content.Kinds.ps lines.put_content.Kinds.r
+          lines.put_content.Symbol.code;
       claim = λ κs. claims.put-content;
       args = λ κs a. record { tag = a.0; payload = a.1.0.now; at = a.1.1.0; len = a.1.1.1.0; map = a.1.1.1.1.0.now; room = a.1.1.1.1.1.0.now; to = a.1.1.1.1.1.1.0 };
       later = λ κs s. s.1.1.1.1.1.0.now;

@@ -48,7 +48,7 @@ right {Given} one {s} {room} w =
 abbrev pub write : Row
 write =
     record {
-      function = function_of list.write.Key.name list.write.Kinds.ps list.write.Kinds.r list.write.Symbol.routine;
+      function = function_of list.write.Symbol.symbol list.write.Kinds.ps list.write.Kinds.r list.write.Symbol.code;
       claim = λ κs. claims.write;
       args = λ κs a. record { input = a.0.now; room = a.1.0.now };
       later = λ κs s. s.1.0.now;
@@ -69,7 +69,7 @@ write-proper =
 abbrev pub write-mapped : Row
 write-mapped =
     record {
-      function = function_of list.write_mapped.Key.name list.write_mapped.Kinds.ps list.write_mapped.Kinds.r list.write_mapped.Symbol.routine;
+      function = function_of list.write_mapped.Symbol.symbol list.write_mapped.Kinds.ps list.write_mapped.Kinds.r list.write_mapped.Symbol.code;
       claim = λ κs. claims.write-mapped;
       args = λ κs a. record { input = a.0.now; map = a.1.0.now; room = a.1.1.0.now };
       later = λ κs s. s.1.1.0.now;
@@ -90,7 +90,7 @@ write-mapped-proper =
 abbrev pub write-with : Row
 write-with =
     record {
-      function = function_of list.write_with.Key.name list.write_with.Kinds.ps list.write_with.Kinds.r list.write_with.Symbol.routine;
+      function = function_of list.write_with.Symbol.symbol list.write_with.Kinds.ps list.write_with.Kinds.r list.write_with.Symbol.code;
       claim = λ κs. claims.write-with;
       args = λ κs a. record { input = a.0.now; text = a.1.0.now; room = a.1.1.0.now };
       later = λ κs s. s.1.1.0.now;

@@ -30,8 +30,8 @@ decode-stated (DecodeCause.no-message f) = there here
 abbrev pub decode : Row
 decode =
     record {
-      function = function_of messages.decode.Key.name messages.decode.Kinds.ps messages.decode.Kinds.r
-          messages.decode.Symbol.routine;
+      function = function_of messages.decode.Symbol.symbol messages.decode.Kinds.ps messages.decode.Kinds.r
+          messages.decode.Symbol.code;
       claim = λ κs. claims.decode;
       args = λ κs a. record { kind = a.0; frame = a.1.0.now };
       later = λ κs s. [];
@@ -50,7 +50,7 @@ decode-proper =
 abbrev pub find : Row
 find =
     record {
-      function = function_of messages.find.Key.name messages.find.Kinds.ps messages.find.Kinds.r messages.find.Symbol.routine;
+      function = function_of messages.find.Symbol.symbol messages.find.Kinds.ps messages.find.Kinds.r messages.find.Symbol.code;
       claim = λ κs. claims.find;
       args = λ κs a. record { kind = a.0; buffer = a.1.0.now; place = a.1.1.0 };
       later = λ κs s. [];
@@ -72,8 +72,8 @@ of_stated (MeantCause.no-message f) = here
 abbrev pub content : Row
 content =
     record {
-      function = function_of messages.content.Key.name messages.content.Kinds.ps messages.content.Kinds.r
-          messages.content.Symbol.routine;
+      function = function_of messages.content.Symbol.symbol messages.content.Kinds.ps messages.content.Kinds.r
+          messages.content.Symbol.code;
       claim = λ κs. claims.content;
       args = λ κs a. record { kind = a.0; frame = a.1.0 };
       later = λ κs s. [];
@@ -92,8 +92,8 @@ content-proper =
 abbrev pub homiq-field : Row
 homiq-field =
     record {
-      function = function_of messages.homiq.field.Key.name messages.homiq.field.Kinds.ps messages.homiq.field.Kinds.r
-          messages.homiq.field.Symbol.routine;
+      function = function_of messages.homiq.field.Symbol.symbol messages.homiq.field.Kinds.ps messages.homiq.field.Kinds.r
+          messages.homiq.field.Symbol.code;
       claim = λ κs. claims.homiq-field;
       args = λ κs a. record { content = a.0; number = a.1.0 };
       later = λ κs s. [];
@@ -113,7 +113,7 @@ homiq-field-proper =
 abbrev pub of : Row
 of =
     record {
-      function = function_of messages.of.Key.name messages.of.Kinds.ps messages.of.Kinds.r messages.of.Symbol.routine;
+      function = function_of messages.of.Symbol.symbol messages.of.Kinds.ps messages.of.Kinds.r messages.of.Symbol.code;
       claim = λ κs. claims.of;
       args = λ κs a. record { tag = a.0; payload = a.1.0.now };
       later = λ κs s. [];
@@ -136,8 +136,8 @@ allowed-stated (StandingCause.taken s a) = there here
 abbrev pub allowed : Row
 allowed =
     record {
-      function = function_of messages.allowed.Key.name messages.allowed.Kinds.ps messages.allowed.Kinds.r
-          messages.allowed.Symbol.routine;
+      function = function_of messages.allowed.Symbol.symbol messages.allowed.Kinds.ps messages.allowed.Kinds.r
+          messages.allowed.Symbol.code;
       claim = λ κs. claims.allowed;
       args = λ κs a. record { message = a.0; content = a.1.0.now };
       later = λ κs s. [];
@@ -159,8 +159,8 @@ homiq-next-id-stated (NextIdCause.no-id h) = here
 abbrev pub homiq-next-id : Row
 homiq-next-id =
     record {
-      function = function_of messages.homiq.next_id.Key.name messages.homiq.next_id.Kinds.ps messages.homiq.next_id.Kinds.r
-          messages.homiq.next_id.Symbol.routine;
+      function = function_of messages.homiq.next_id.Symbol.symbol messages.homiq.next_id.Kinds.ps messages.homiq.next_id.Kinds.r
+          messages.homiq.next_id.Symbol.code;
       claim = λ κs. claims.homiq-next-id;
       args = λ κs a. record { id = a.0 };
       later = λ κs s. [];
@@ -182,8 +182,8 @@ nest-for-panel-stated (PairCause.other f) = here
 abbrev pub nest-for-panel : Row
 nest-for-panel =
     record {
-      function = function_of messages.nest.for_panel.Key.name messages.nest.for_panel.Kinds.ps messages.nest.for_panel.Kinds.r
-          messages.nest.for_panel.Symbol.routine;
+      function = function_of messages.nest.for_panel.Symbol.symbol messages.nest.for_panel.Kinds.ps messages.nest.for_panel.Kinds.r
+          messages.nest.for_panel.Symbol.code;
       claim = λ κs. claims.nest-for-panel;
       args = λ κs a. record { message = a.0 };
       later = λ κs s. [];
@@ -205,8 +205,8 @@ nest-voltages-stated (VoltsCause.short h) = here
 abbrev pub nest-voltages : Row
 nest-voltages =
     record {
-      function = function_of messages.nest.voltages.Key.name messages.nest.voltages.Kinds.ps messages.nest.voltages.Kinds.r
-          messages.nest.voltages.Symbol.routine;
+      function = function_of messages.nest.voltages.Symbol.symbol messages.nest.voltages.Kinds.ps messages.nest.voltages.Kinds.r
+          messages.nest.voltages.Symbol.code;
       claim = λ κs. claims.nest-voltages;
       args = λ κs a. record { payload = a.0.now };
       later = λ κs s. [];

@@ -35,8 +35,8 @@ byte-values-write-stated (ValueCause.room h) = there (there here)
 abbrev pub byte-values-write : Row
 byte-values-write =
     record {
-      function = function_of numbers.byte_values.write.Key.name numbers.byte_values.write.Kinds.ps
-          numbers.byte_values.write.Kinds.r numbers.byte_values.write.Symbol.routine;
+      function = function_of numbers.byte_values.write.Symbol.symbol numbers.byte_values.write.Kinds.ps
+          numbers.byte_values.write.Kinds.r numbers.byte_values.write.Symbol.code;
       claim = λ κs. claims.byte-values-write;
       args = λ κs a. record { raw = a.0; width = a.1.0; signed = a.1.1.0; room = a.1.1.1.0.now };
       later = λ κs s. s.1.1.1.0.now;
@@ -62,8 +62,8 @@ byte-values-read-stated (BytesCause.count h) = there here
 abbrev pub byte-values-read : Row
 byte-values-read =
     record {
-      function = function_of numbers.byte_values.read.Key.name numbers.byte_values.read.Kinds.ps
-          numbers.byte_values.read.Kinds.r numbers.byte_values.read.Symbol.routine;
+      function = function_of numbers.byte_values.read.Symbol.symbol numbers.byte_values.read.Kinds.ps
+          numbers.byte_values.read.Kinds.r numbers.byte_values.read.Symbol.code;
       claim = λ κs. claims.byte-values-read;
       args = λ κs a. record { s = a.0.now; width = a.1.0; signed = a.1.1.0 };
       later = λ κs s. [];
@@ -82,8 +82,8 @@ byte-values-read-proper =
 abbrev pub panel-of : Row
 panel-of =
     record {
-      function = function_of numbers.panel.of.Key.name numbers.panel.of.Kinds.ps numbers.panel.of.Kinds.r
-          numbers.panel.of.Symbol.routine;
+      function = function_of numbers.panel.of.Symbol.symbol numbers.panel.of.Kinds.ps numbers.panel.of.Kinds.r
+          numbers.panel.of.Symbol.code;
       claim = λ κs. claims.panel-of;
       args = λ κs a. record { raw = a.0 };
       later = λ κs s. [];
@@ -102,8 +102,8 @@ panel-of-proper =
 abbrev pub panel-pair : Row
 panel-pair =
     record {
-      function = function_of numbers.panel.pair.Key.name numbers.panel.pair.Kinds.ps numbers.panel.pair.Kinds.r
-          numbers.panel.pair.Symbol.routine;
+      function = function_of numbers.panel.pair.Symbol.symbol numbers.panel.pair.Kinds.ps numbers.panel.pair.Kinds.r
+          numbers.panel.pair.Symbol.code;
       claim = λ κs. claims.panel-pair;
       args = λ κs a. record { temperature = a.0; humidity = a.1.0 };
       later = λ κs s. [];
@@ -122,8 +122,8 @@ panel-pair-proper =
 abbrev pub single-fits : Row
 single-fits =
     record {
-      function = function_of numbers.single.fits.Key.name numbers.single.fits.Kinds.ps numbers.single.fits.Kinds.r
-          numbers.single.fits.Symbol.routine;
+      function = function_of numbers.single.fits.Symbol.symbol numbers.single.fits.Kinds.ps numbers.single.fits.Kinds.r
+          numbers.single.fits.Symbol.code;
       claim = λ κs. claims.single-fits;
       args = λ κs a. record { raw = a.0 };
       later = λ κs s. [];
@@ -142,8 +142,8 @@ single-fits-proper =
 abbrev pub text-write : Row
 text-write =
     record {
-      function = function_of numbers.text.write.Key.name numbers.text.write.Kinds.ps numbers.text.write.Kinds.r
-          numbers.text.write.Symbol.routine;
+      function = function_of numbers.text.write.Symbol.symbol numbers.text.write.Kinds.ps numbers.text.write.Kinds.r
+          numbers.text.write.Symbol.code;
       claim = λ κs. claims.text-write;
       args = λ κs a. record { raw = a.0; decimals = a.1.0; room = a.1.1.0.now };
       later = λ κs s. s.1.1.0.now;
@@ -164,8 +164,8 @@ text-write-proper =
 abbrev pub text-read : Row
 text-read =
     record {
-      function = function_of numbers.text.read.Key.name numbers.text.read.Kinds.ps numbers.text.read.Kinds.r
-          numbers.text.read.Symbol.routine;
+      function = function_of numbers.text.read.Symbol.symbol numbers.text.read.Kinds.ps numbers.text.read.Kinds.r
+          numbers.text.read.Symbol.code;
       claim = λ κs. claims.text-read;
       args = λ κs a. record { t = a.0.now };
       later = λ κs s. [];

@@ -20,7 +20,7 @@ front-stated (short h) = here
 abbrev pub front : Row
 front =
     record {
-      function = function_of puts.front.Key.name puts.front.Kinds.ps puts.front.Kinds.r puts.front.Symbol.routine;
+      function = function_of puts.front.Symbol.symbol puts.front.Kinds.ps puts.front.Kinds.r puts.front.Symbol.code;
       claim = λ κs. claims.front;
       args = λ κs a. record { s = a.0.now; room = a.1.0.now };
       later = λ κs s. s.1.0.now;
@@ -41,7 +41,7 @@ front-proper =
 abbrev pub byte : Row
 byte =
     record {
-      function = function_of puts.byte.Key.name puts.byte.Kinds.ps puts.byte.Kinds.r puts.byte.Symbol.routine;
+      function = function_of puts.byte.Symbol.symbol puts.byte.Kinds.ps puts.byte.Kinds.r puts.byte.Symbol.code;
       claim = λ κs. claims.byte;
       args = λ κs a. record { b = a.0; room = a.1.0.now; at = a.1.1.0 };
       later = λ κs s. s.1.0.now;
@@ -60,7 +60,7 @@ byte-proper =
 abbrev pub bytes : Row
 bytes =
     record {
-      function = function_of puts.bytes.Key.name puts.bytes.Kinds.ps puts.bytes.Kinds.r puts.bytes.Symbol.routine;
+      function = function_of puts.bytes.Symbol.symbol puts.bytes.Kinds.ps puts.bytes.Kinds.r puts.bytes.Symbol.code;
       claim = λ κs. claims.bytes;
       args = λ κs a. record { s = a.0.now; room = a.1.0.now; at = a.1.1.0 };
       later = λ κs s. s.1.0.now;
@@ -79,7 +79,7 @@ bytes-proper =
 abbrev pub whole : Row
 whole =
     record {
-      function = function_of puts.whole.Key.name puts.whole.Kinds.ps puts.whole.Kinds.r puts.whole.Symbol.routine;
+      function = function_of puts.whole.Symbol.symbol puts.whole.Kinds.ps puts.whole.Kinds.r puts.whole.Symbol.code;
       claim = λ κs. claims.whole;
       args = λ κs a. record { n = a.0; room = a.1.0.now; at = a.1.1.0 };
       later = λ κs s. s.1.0.now;
@@ -98,7 +98,7 @@ whole-proper =
 abbrev pub hex : Row
 hex =
     record {
-      function = function_of puts.hex.Key.name puts.hex.Kinds.ps puts.hex.Kinds.r puts.hex.Symbol.routine;
+      function = function_of puts.hex.Symbol.symbol puts.hex.Kinds.ps puts.hex.Kinds.r puts.hex.Symbol.code;
       claim = λ κs. claims.hex;
       args = λ κs a. record { s = a.0.now; room = a.1.0.now; at = a.1.1.0 };
       later = λ κs s. s.1.0.now;

@@ -17,7 +17,7 @@ use Rattle.claims.proofs.Occur as inputs
 abbrev pub name_of : Row
 name_of =
     record {
-      function = function_of shapes.name_of.Key.name shapes.name_of.Kinds.ps shapes.name_of.Kinds.r shapes.name_of.Symbol.routine;
+      function = function_of shapes.name_of.Symbol.symbol shapes.name_of.Kinds.ps shapes.name_of.Kinds.r shapes.name_of.Symbol.code;
       claim = λ κs. claims.name_of;
       args = λ κs a. record { row = a.0; member = a.1.0; room = a.1.1.0.now };
       later = λ κs s. s.1.1.0.now;
@@ -42,7 +42,7 @@ name-of-proper =
 abbrev pub sort-of : Row
 sort-of =
     record {
-      function = function_of shapes.sort_of.Key.name shapes.sort_of.Kinds.ps shapes.sort_of.Kinds.r shapes.sort_of.Symbol.routine;
+      function = function_of shapes.sort_of.Symbol.symbol shapes.sort_of.Kinds.ps shapes.sort_of.Kinds.r shapes.sort_of.Symbol.code;
       claim = λ κs. claims.sort-of;
       args = λ κs a. record { row = a.0; member = a.1.0 };
       later = λ κs s. [];

@@ -46,7 +46,7 @@ type-in-stated (TypeInCause.unlisted e) = here
 abbrev pub opening : Row
 opening =
     record {
-      function = function_of sheet.open.Key.name sheet.open.Kinds.ps sheet.open.Kinds.r sheet.open.Symbol.routine;
+      function = function_of sheet.open.Symbol.symbol sheet.open.Kinds.ps sheet.open.Kinds.r sheet.open.Symbol.code;
       claim = λ κs. claims.opening;
       args = λ κs a. record { text = a.0.now };
       later = λ κs s. [];
@@ -65,7 +65,7 @@ opening-proper =
 abbrev pub type-of : Row
 type-of =
     record {
-      function = function_of sheet.type_of.Key.name sheet.type_of.Kinds.ps sheet.type_of.Kinds.r sheet.type_of.Symbol.routine;
+      function = function_of sheet.type_of.Symbol.symbol sheet.type_of.Kinds.ps sheet.type_of.Kinds.r sheet.type_of.Symbol.code;
       claim = λ κs. claims.type-of;
       args = λ κs a. record { text = a.0.now; register = a.1.0 };
       later = λ κs s. [];
@@ -84,7 +84,7 @@ type-of-proper =
 abbrev pub split : Row
 split =
     record {
-      function = function_of sheet.split.Key.name sheet.split.Kinds.ps sheet.split.Kinds.r sheet.split.Symbol.routine;
+      function = function_of sheet.split.Symbol.symbol sheet.split.Kinds.ps sheet.split.Kinds.r sheet.split.Symbol.code;
       claim = λ κs. claims.split;
       args = λ κs a. record { command = a.0; content = a.1.0.now; text = a.1.1.0.now; room = a.1.1.1.0.now };
       later = λ κs s. s.1.1.1.0.now;
@@ -105,7 +105,7 @@ split-proper =
 abbrev pub join : Row
 join =
     record {
-      function = function_of sheet.join.Key.name sheet.join.Kinds.ps sheet.join.Kinds.r sheet.join.Symbol.routine;
+      function = function_of sheet.join.Symbol.symbol sheet.join.Kinds.ps sheet.join.Kinds.r sheet.join.Symbol.code;
       claim = λ κs. claims.join;
       args = λ κs a. record { command = a.0; pairs = a.1.0.now; text = a.1.1.0.now; room = a.1.1.1.0.now };
       later = λ κs s. s.1.1.1.0.now;
@@ -126,7 +126,7 @@ join-proper =
 abbrev pub map : Row
 map =
     record {
-      function = function_of sheet.map.Key.name sheet.map.Kinds.ps sheet.map.Kinds.r sheet.map.Symbol.routine;
+      function = function_of sheet.map.Symbol.symbol sheet.map.Kinds.ps sheet.map.Kinds.r sheet.map.Symbol.code;
       claim = λ κs. claims.map;
       args = λ κs a. record { text = a.0.now; map = a.1.0.now };
       later = λ κs s. s.1.0.now;
@@ -147,7 +147,7 @@ map-proper =
 abbrev pub type-in : Row
 type-in =
     record {
-      function = function_of sheet.type_in.Key.name sheet.type_in.Kinds.ps sheet.type_in.Kinds.r sheet.type_in.Symbol.routine;
+      function = function_of sheet.type_in.Symbol.symbol sheet.type_in.Kinds.ps sheet.type_in.Kinds.r sheet.type_in.Symbol.code;
       claim = λ κs. claims.type-in;
       args = λ κs a. record { map = a.0.now; register = a.1.0 };
       later = λ κs s. [];
@@ -166,7 +166,7 @@ type-in-proper =
 abbrev pub splits : Row
 splits =
     record {
-      function = function_of sheet.splits.Key.name sheet.splits.Kinds.ps sheet.splits.Kinds.r sheet.splits.Symbol.routine;
+      function = function_of sheet.splits.Symbol.symbol sheet.splits.Kinds.ps sheet.splits.Kinds.r sheet.splits.Symbol.code;
       claim = λ κs. claims.splits;
       args = λ κs a. record { map = a.0.now; content = a.1.0.now };
       later = λ κs s. [];
@@ -185,7 +185,7 @@ splits-proper =
 abbrev pub unsolicited : Row
 unsolicited =
     record {
-      function = function_of sheet.unsolicited.Key.name sheet.unsolicited.Kinds.ps sheet.unsolicited.Kinds.r sheet.unsolicited.Symbol.routine;
+      function = function_of sheet.unsolicited.Symbol.symbol sheet.unsolicited.Kinds.ps sheet.unsolicited.Kinds.r sheet.unsolicited.Symbol.code;
       claim = λ κs. claims.unsolicited;
       args = λ κs a. record { command = a.0 };
       later = λ κs s. [];
@@ -204,7 +204,7 @@ unsolicited-proper =
 abbrev pub fault : Row
 fault =
     record {
-      function = function_of sheet.fault.Key.name sheet.fault.Kinds.ps sheet.fault.Kinds.r sheet.fault.Symbol.routine;
+      function = function_of sheet.fault.Symbol.symbol sheet.fault.Kinds.ps sheet.fault.Kinds.r sheet.fault.Symbol.code;
       claim = λ κs. claims.fault;
       args = λ κs a. record { text = a.0.now };
       later = λ κs s. [];

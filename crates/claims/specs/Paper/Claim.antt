@@ -4,7 +4,7 @@
 -- Assumes nothing.
 use Rattle.std.specs.Prelude.{List, [], ◌∷◌, ◌++◌, ◌≡◌, ℕ, length, drop}
 use Rattle.std.specs.Borrow.{Bor}
-use prog.Routine.{Name}
+use mir.Syntax.{Symbol as Name}
 use Rattle.digits.specs.Paper.Part.{Ends, HandsPart}
 use Rattle.digits.specs.Paper.Refusals.{Answers}
 use Rattle.puts.specs.Paper.Put.{Put}

@@ -10,7 +10,7 @@ use Rattle.digits.specs.declared.refusal.Refusal.TheVariants.{NoFrame}
 use Rattle.numbers.specs.Paper.ByteValues as values
 use Rattle.numbers.specs.Paper.Single.{fits_single}
 use Rattle.numbers.specs.Paper.Text.{InLimits}
-use Rattle.json.specs.Paper.Json.{escaped}
+use Rattle.json_values.specs.Paper.Json.{escaped}
 use Rattle.layouts.specs.Paper.Chars.{CR, LF}
 use Rattle.layouts.specs.Paper.Made.{Wire}
 use Rattle.layouts.specs.Paper.Nikobus as nikobuses

@@ -2,7 +2,7 @@
 -- are tested. What is claimed of each stands in Table.
 -- Assumes nothing.
 use Rattle.std.specs.Prelude.{List, [], ◌∷◌, ℕ}
-use prog.Routine.{Name}
+use mir.Syntax.{Symbol as Name}
 
 abbrev pub functions : List (Name × List ℕ)
 functions =
@@ -63,11 +63,11 @@ functions =
     ∷ ("numbers::text::write", 7 ∷ 5 ∷ 4 ∷ [])
     ∷ ("numbers::text::read", 7 ∷ [])
     -- json
-    ∷ ("json::hex", [])
-    ∷ ("json::chars", [])
-    ∷ ("json::truth", [])
-    ∷ ("json::signed", [])
-    ∷ ("json::unsigned", [])
+    ∷ ("json_values::hex", [])
+    ∷ ("json_values::chars", [])
+    ∷ ("json_values::truth", [])
+    ∷ ("json_values::signed", [])
+    ∷ ("json_values::unsigned", [])
     -- sheet
     ∷ ("sheet::open", 10 ∷ [])
     ∷ ("sheet::type_of", 10 ∷ 9 ∷ [])

@@ -9,7 +9,7 @@ use Rattle.std.specs.Prelude.{List, [], ◌∷◌, ◌≡◌, ℕ}
 use borrow.Fn.Kinds.{Dens, res_t}
 use contract.Lifetimes.{Lfts}
 use denote.Triple.Clauses.{AtExit, Lasts, at_exit}
-use prog.Routine.{Name}
+use mir.Syntax.{Symbol as Name}
 use Rattle.claims.specs.Paper.Claim.{Claim, Promised, Same, OneOf, Occur}
 use Rattle.claims.specs.Paper.Function.{Function, ended, Promise, Keeps, unending}
 

@@ -28,4 +28,5 @@ frame_payload_ends (Refused why) = zero_ends
 
 -- r is the right answer
 abbrev pub TestsOneFrame : ℕ → List ℕ → FramePayload → Type 0
-TestsOneFrame k s r = Answers zero_ends (OneFrameCause k s) (OneFrame k s) (frame_payload_refusal r) (frame_payload_ends r)
+TestsOneFrame k s r =
+    Answers zero_ends (OneFrameCause k s) (OneFrame k s) (frame_payload_refusal r) (frame_payload_ends r)

@@ -19,7 +19,8 @@ or_else (suc n) i from to r = At i (suc n) (i + from) (i + to)
 -- the first frame of s among n places from i on
 unfoldable pub seek_among : Kind → List ℕ → ℕ → ℕ → Found
 seek_among kind s zero i = Refused NoFrame
-seek_among kind s (suc n) i = or_else (len_at kind s i) i (from_at kind s i) (to_at kind s i) (seek_among kind s n (suc i))
+seek_among kind s (suc n) i =
+    or_else (len_at kind s i) i (from_at kind s i) (to_at kind s i) (seek_among kind s n (suc i))
 
 -- the first frame of s from the place i on
 unfoldable pub seek : Kind → List ℕ → ℕ → Found

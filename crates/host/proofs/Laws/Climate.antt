@@ -10,7 +10,7 @@ use lib.Signed.{lt_z, le_z_yes, lt_z_yes, lt_z_no, clash_ℤ, ◌<ℤ◌, ◌≤
 use mir.Syntax.{w16, w32}
 use mir.Val.{SFits, to_z, of_z}
 use mir.ValLaws.{to_z-of_z}
-use Rattle.digits.specs.Paper.Refusals.{refusal_order, First, clear, here, after, Answers, answers, refuses}
+use Rattle.digits.specs.Paper.Refusals.{refusal_order, clear, here, after, Answers, answers, refuses}
 use Rattle.digits.proofs.Laws.Refusals.{pass-over}
 use Rattle.numbers.specs.Paper.ByteValues.{HeldBy}
 use Rattle.host.specs.Paper.Panel.{zero_climate, ClimateCause, not-signed, not-unsigned, ClimateOf, Pair}

@@ -8,7 +8,7 @@ use Rattle.digits.specs.declared.refusal.Refusal.{Refusal}
 use Rattle.digits.specs.Paper.Refusals.{refusal_number}
 use Rattle.digits.proofs.Laws.Refusals.{some_number, cause-of, answered}
 use Rattle.layouts.specs.declared.Test.{Test}
-use Rattle.frames.specs.Paper.Why.{Failing, JudgedAt, WhyCause, Whys, zero_failing, test_number}
+use Rattle.frames.specs.Paper.Why.{WhyCause, Whys, test_number}
 use Rattle.frames.specs.declared.Verdict.{Verdict}
 use Rattle.frames.specs.declared.Verdict.TheVariants.{Is, Refused}
 use Rattle.frames.proofs.Unique.{failing-one}

@@ -9,7 +9,7 @@ use native.Mathlib.Omega.{arith}
 use lib.Dec.{eqb, ltb}
 use borrow.Author.Tests.{eqb-true, eqb-false, ltb-true, ltb-false}
 use Rattle.jsontext.specs.Paper.Json.{char, escaped}
-use Rattle.jsontext.specs.Work.Tight.{Lead, lead, follow, Char, nothing, two, escapes, is_short, Without}
+use Rattle.jsontext.specs.Work.Tight.{Lead, lead, follow, Char, two, escapes, is_short, Without}
 use Rattle.jsontext.proofs.Laws.Places as places
 use Rattle.jsontext.proofs.Laws.Follow.{f-low, f-plain, f-tail, f-2, f-3, f-4, f-over, f-5C, f-22, f-E0, f-ED, f-F0, f-F4, cast, e-75, e-short, e-none}
 

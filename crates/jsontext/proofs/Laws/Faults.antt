@@ -1,8 +1,8 @@
 -- The fault of a text, found from the front.
 -- Assumes nothing.
-use mathlib.Core.Bool.{Bool, true, false, not}
+use mathlib.Core.Bool.{Bool, true, false}
 use mathlib.Core.Logic.{⊎_elim}
-use mathlib.Core.Path.{◌≡◌, refl, sym, subst, ◌∙◌}
+use mathlib.Core.Path.{◌≡◌, refl, sym, subst}
 use mathlib.Core.List.{List, [], ◌∷◌, ◌++◌}
 use Prim.Native.Nat.{ℕ, zero, suc, ◌+◌, ◌-◌, ◌≤◌, ◌<◌}
 use native.Mathlib.Omega.{arith}
@@ -11,8 +11,8 @@ use lib.Dec.{eqb}
 use borrow.Author.Tests.{ne_eqb, eqb-true, eqb-false}
 use Rattle.digits.specs.Paper.Read.{Decides, holds, fails}
 use Rattle.jsontext.specs.Paper.Abnf.{Rule, byte}
-use Rattle.jsontext.specs.Paper.Faults.{Stops, InMember, no_name, no-colon, no_value, Names, any_item, other_name}
-use Rattle.jsontext.specs.Paper.Faults.{InItems, no_item, twice, no-comma, further, behind_blanks, array_stops, object_stops, value_stops, FaultOf, long, inside, behind}
+use Rattle.jsontext.specs.Paper.Faults.{Stops, InMember, no_name, no-colon, no_value, Names, other_name}
+use Rattle.jsontext.specs.Paper.Faults.{InItems, no_item, twice, no-comma, further, behind_blanks, array_stops, object_stops, value_stops, FaultOf, inside, behind}
 use Rattle.jsontext.specs.Paper.Json.{blank, string}
 use Rattle.jsontext.specs.Paper.Names.{InGrammar, most_bytes, most_depth}
 use Rattle.jsontext.specs.Work.Faults.{StopsFrom, at, Stands}
@@ -21,7 +21,7 @@ use Rattle.jsontext.specs.Work.Names.{Reached, here, TellsNew}
 use Rattle.jsontext.specs.Work.Tight.{Without, Member, tight}
 use Rattle.jsontext.specs.Work.Units.{name_in}
 use Rattle.jsontext.specs.declared.faults.Fault.{Fault}
-use Rattle.jsontext.specs.declared.faults.Fault.TheVariants.{None, Long, At}
+use Rattle.jsontext.specs.declared.faults.Fault.TheVariants.{At}
 use Rattle.jsontext.specs.declared.faults.Lack.{Lack}
 use Rattle.jsontext.specs.declared.faults.Lack.TheVariants.{Value, Depth, Name, OtherName, Colon, Comma, End}
 use Rattle.jsontext.proofs.Laws.Accepts.{all_read}
@@ -94,10 +94,10 @@ set-out-members h k = record { passing = set_out h k; reached = here }
 
 module _ {d : ℕ} {s : List ℕ} {p first i : ℕ} (g : PassingMembers d s p first i) where
   module _ {b : Bool} (t : TellsNew true (tight false d) s first i b) where
-    pub is-other : not b ≡ false → other_name g.passing.names (drop i s)
+    pub is-other : b ≡ true → other_name g.passing.names (drop i s)
     is-other e = told-yes (t g.passing.names g.reached) e
 
-    pub is-twice : not b ≡ true → other_name g.passing.names (drop i s) → ⊥
+    pub is-twice : b ≡ false → other_name g.passing.names (drop i s) → ⊥
     is-twice e = told-no (t g.passing.names g.reached) e
 
   pub members-on : {e j a : ℕ} → Found (Member (tight true d)) s i e → ((e ≡ 0) → ⊥) → other_name g.passing.names (drop i s)

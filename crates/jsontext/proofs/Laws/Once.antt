@@ -1,6 +1,6 @@
 -- The names of an object, looked through one by one.
 -- Assumes nothing.
-use mathlib.Core.Bool.{Bool, true, false, not, cond}
+use mathlib.Core.Bool.{Bool, true, false, cond}
 use mathlib.Core.Path.{◌≡◌, refl, sym, ap, subst, ◌∙◌}
 use mathlib.Core.List.{List, [], ◌∷◌, ◌++◌}
 use Prim.Native.Nat.{ℕ, ◌+◌, ◌-◌, ◌≤◌, ◌<◌}
@@ -245,16 +245,16 @@ walking : {v : Rule} {s : List ℕ} {i at : ℕ} {ms : List (List ℕ)} → Reac
 walking here h = absurd (omega arith)
 walking (on {k = k} {ns = ks} n r) h = (k, ks, n, r, refl)
 
-pub uncompared : (names : Bool) {v : Rule} {s : List ℕ} {first at : ℕ} → not names ≡ true → TellsNew names v s first at true
-uncompared true e ns r = absurd (never e)
+pub uncompared : (names : Bool) {v : Rule} {s : List ℕ} {first at : ℕ} → names ≡ false → TellsNew names v s first at true
+uncompared true e ns r = absurd (never (sym e))
 uncompared false e ns r = holds tt
 
 -- names are compared
-if-compared : (names : Bool) {n : List ℕ} {ns : List (List ℕ)} {b : Bool} → not names ≡ false → Decides (Other n ns) b → Decides (New names n ns) b
+if-compared : (names : Bool) {n : List ℕ} {ns : List (List ℕ)} {b : Bool} → names ≡ true → Decides (Other n ns) b → Decides (New names n ns) b
 if-compared true e d = d
-if-compared false e d = absurd (never (sym e))
+if-compared false e d = absurd (never e)
 
-module _ (names : Bool) {v : Rule} {s : List ℕ} {first at i : ℕ} (q : not names ≡ false) (c : Comparing v s first at i) where
+module _ (names : Bool) {v : Rule} {s : List ℕ} {first at i : ℕ} (q : names ≡ true) (c : Comparing v s first at i) where
   pub stands-before : i < at → name_in (drop i s) ≡ name_in (drop at s) → TellsNew names v s first at false
   stands-before h e ns r =
       let (ms, w, to, from) = c.left ns r in

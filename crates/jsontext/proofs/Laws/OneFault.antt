@@ -1,24 +1,23 @@
 -- A text has one fault at most: two readings stop at one place, for want of the same.
 -- Assumes nothing.
 use mathlib.Core.Bool.{Bool, true, false, cond}
-use mathlib.Core.Path.{◌≡◌, refl, sym, ap, subst, ◌∙◌}
+use mathlib.Core.Path.{◌≡◌, refl, sym, subst, ◌∙◌}
 use mathlib.Core.List.{List, [], ◌∷◌, ◌++◌}
 use Prim.Native.Nat.{ℕ, zero, suc, ◌≤◌, ◌<◌}
 use native.Mathlib.Omega.{arith}
 use lib.Dec.{eqb}
 use lib.ListN.{length, drop}
-use Rattle.jsontext.specs.Paper.Abnf.{Rule, byte}
+use Rattle.jsontext.specs.Paper.Abnf.{Rule}
 use Rattle.jsontext.specs.Paper.Faults.{Stops, InMember, no_name, no-colon, no_value, Names, InItems, no_item, twice, no-comma, further}
 use Rattle.jsontext.specs.Paper.Faults.{behind_blanks, value_stops, FaultOf, none, long, inside, behind}
-use Rattle.jsontext.specs.Paper.Json.{string}
-use Rattle.jsontext.specs.Paper.Names.{InGrammar, most_bytes, most_depth}
-use Rattle.jsontext.specs.Work.Tight.{Without, Blanks, Member, tight}
+use Rattle.jsontext.specs.Paper.Names.{InGrammar, most_depth}
+use Rattle.jsontext.specs.Work.Tight.{Without, Blanks, tight}
 use Rattle.jsontext.specs.Work.Units.{name_in}
 use Rattle.jsontext.specs.declared.faults.Fault.{Fault}
 use Rattle.jsontext.specs.declared.faults.Fault.TheVariants.{At}
 use Rattle.jsontext.specs.declared.faults.Lack.{Lack}
 use Rattle.jsontext.specs.declared.faults.Lack.TheVariants.{Value, Depth}
-use Rattle.jsontext.proofs.Laws.Grammar.{Read, text-to}
+use Rattle.jsontext.proofs.Laws.Grammar.{text-to}
 use Rattle.jsontext.proofs.Laws.Once.{same_place}
 use Rattle.jsontext.proofs.Laws.Only.{Only, string-only, blanks-only, tight-only, member-only}
 use Rattle.jsontext.proofs.Laws.Places.{tail_of, nothing, at_place}

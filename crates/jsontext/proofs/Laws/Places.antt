@@ -1,7 +1,7 @@
 -- What stands at a place.
 -- Assumes nothing.
 use mathlib.Core.Path.{◌≡◌, refl, sym, ap, subst, ◌∙◌}
-use mathlib.Core.Bool.{Bool, true, false, not}
+use mathlib.Core.Bool.{Bool, true, false}
 use mathlib.Core.List.{List, [], ◌∷◌}
 use Prim.Native.Nat.{ℕ, zero, suc, ◌+◌, ◌≤◌, ◌<◌}
 use native.Mathlib.Numerals.{add-one}
@@ -94,10 +94,10 @@ then_found {a} {b} x (none n) = none (λ t z. n t (subst (λ (l : List ℕ). b l
 never : true ≡ false → ⊥
 never e = let z : ◌≡◌ {A = ℕ} 0 1 = cc in omega arith
 
-pub told-yes : {A : Type 0} {b : Bool} → Decides A b → not b ≡ false → A
+pub told-yes : {A : Type 0} {b : Bool} → Decides A b → b ≡ true → A
 told-yes (holds a) e = a
-told-yes (fails f) e = absurd (never e)
+told-yes (fails f) e = absurd (never (sym e))
 
-pub told-no : {A : Type 0} {b : Bool} → Decides A b → not b ≡ true → A → ⊥
-told-no (holds a) e = absurd (never (sym e))
+pub told-no : {A : Type 0} {b : Bool} → Decides A b → b ≡ false → A → ⊥
+told-no (holds a) e = absurd (never e)
 told-no (fails f) e = f

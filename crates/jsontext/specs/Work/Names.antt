@@ -1,6 +1,7 @@
 -- What the readers of names answer.
 -- Assumes nothing.
-use Rattle.std.specs.Prelude.{Bool, true, false, cond, List, [], ◌∷◌, ◌≡◌, ℕ, ◌+◌, ◌-◌, ◌*◌, ◌<◌, eqb, length, get_or, drop}
+use Rattle.std.specs.Prelude.{Bool, true, false, cond, List, [], ◌∷◌, ◌≡◌, ℕ, ◌+◌, ◌-◌, ◌*◌, ◌<◌, eqb, length, get_or}
+use Rattle.std.specs.Prelude.{drop}
 use Rattle.digits.specs.Paper.Read.{Decides}
 use Rattle.jsontext.specs.Paper.Abnf.{Rule}
 use Rattle.jsontext.specs.Paper.Json.{blank}

@@ -1,7 +1,8 @@
 -- The code units of a string, as a reader goes through it: bytes by their first one, and no byte is tested. Of what is
 -- no string it says something too.
 -- Assumes nothing.
-use Rattle.std.specs.Prelude.{cond, List, [], ◌∷◌, ◌++◌, ℕ, zero, suc, ◌+◌, ◌*◌, ◌/◌, ◌%◌, eqb, ltb, length, get_or, drop}
+use Rattle.std.specs.Prelude.{cond, List, [], ◌∷◌, ◌++◌, ℕ, zero, suc, ◌+◌, ◌*◌, ◌/◌, ◌%◌, eqb, ltb, length, get_or}
+use Rattle.std.specs.Prelude.{drop}
 
 -- a hex digit's value
 unfoldable pub hex_value : ℕ → ℕ
@@ -23,7 +24,8 @@ size_of s =
 unfoldable pub escape_of : List ℕ → ℕ
 escape_of s =
     cond (eqb (get_or s 1 0) 0x75)
-    (((hex_value (get_or s 2 0) * 16 + hex_value (get_or s 3 0)) * 16 + hex_value (get_or s 4 0)) * 16 + hex_value (get_or s 5 0))
+    (((hex_value (get_or s 2 0) * 16 + hex_value (get_or s 3 0)) * 16 + hex_value (get_or s 4 0)) * 16
+    + hex_value (get_or s 5 0))
     (short_value (get_or s 1 0))
 
 -- UTF-8 of two, three and four bytes

@@ -295,10 +295,14 @@ pub data Compares : Test → Type 0 where
 
 -- THE VALUES DIFFER IF A CHECK FAILED, and else they are zeros
 failed-differ : {cs : List Compared} {t : Test} {v : Compared} → FirstFailed cs t v → Compares t → v.found ≡ v.expected → ⊥
+failed-differ (no-check _) m = elim m [ ]
 failed-differ (first-check f) first = f
 failed-differ (second-check e f) second = f
 
 pub values-differ : {l : Layout} {s : List ℕ} {t : Test} {v : Compared} → Judged l s t v → Compares t → v.found ≡ v.expected → ⊥
+values-differ (no_start _) c = elim c [ ]
+values-differ (no_length _ _) c = elim c [ ]
+values-differ (no_fields _ _ _) c = elim c [ ]
 values-differ (checked x y h f) c = failed-differ f c
 
 failed-zeros : {cs : List Compared} {t : Test} {v : Compared} → FirstFailed cs t v → (Compares t → ⊥) → v ≡ zero_values

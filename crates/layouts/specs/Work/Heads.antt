@@ -1,6 +1,7 @@
 -- Recognisers: the length of the word that stands at the head of a list, 0 for none.
 -- Assumes nothing.
-use Rattle.std.specs.Prelude.{Bool, true, false, ◌&&◌, cond, List, [], ◌∷◌, ℕ, zero, suc, ◌+◌, eqb, leb, ltb, length, take, drop}
+use Rattle.std.specs.Prelude.{Bool, true, false, ◌&&◌, cond, List, [], ◌∷◌, ℕ, zero, suc, ◌+◌, eqb, leb, ltb, length}
+use Rattle.std.specs.Prelude.{take, drop}
 use Rattle.layouts.specs.Paper.Chars.{all}
 
 -- n if the test holds, else 0

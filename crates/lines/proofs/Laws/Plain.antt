@@ -5,7 +5,7 @@ use mathlib.Core.Option.{none}
 use mathlib.Core.Path.{◌≡◌, refl, ap}
 use Prim.Native.Nat.{ℕ}
 use Rattle.digits.specs.Paper.Ascii.{ascii}
-use Rattle.json.specs.Paper.Json.{Member, ◌∶◌, object, number, quoted}
+use Rattle.json_values.specs.Paper.Json.{Member, ◌∶◌, object, number, quoted}
 use Rattle.messages.specs.Paper.Message.{Message, read, set, answer, press, tail, link, command, climate, state, break, end, text, response, ask, reply, put, done, nibe, output, input, shutter, beat, homiq, name}
 use Rattle.lines.specs.Paper.Line.{members, line}
 use Rattle.lines.specs.Paper.WithSheet.{members_with, further_members, line_with}

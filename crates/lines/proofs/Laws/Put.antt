@@ -6,7 +6,7 @@ use mathlib.Core.Option.{Option}
 use Prim.Native.Nat.{ℕ}
 use Rattle.digits.specs.Paper.Ascii.{ascii}
 use Rattle.digits.specs.Paper.Hex.{hex_byte, hex_bytes, hex_word}
-use Rattle.json.specs.Paper.Json.{Member, member, number, further, object}
+use Rattle.json_values.specs.Paper.Json.{Member, member, number, further, object}
 use Rattle.messages.specs.Paper.Message.{Message, name}
 use Rattle.puts.specs.Paper.Put.{Put}
 use Rattle.puts.proofs.Laws.Puts.{puts-as}

@@ -11,7 +11,7 @@ use borrow.Author.Tests.{ltb-true, ltb-false, le-ltb}
 use Rattle.digits.specs.Paper.Ascii.{ascii}
 use Rattle.digits.specs.Paper.Hex.{hex_bytes}
 use Rattle.digits.specs.declared.refusal.Refusal.TheVariants.{OutOfLimits}
-use Rattle.json.specs.Paper.Json.{Member, number, hex}
+use Rattle.json_values.specs.Paper.Json.{Member, number, hex}
 use Rattle.layouts.specs.Paper.Made.{Wire, Payload}
 use Rattle.messages.specs.Paper.Message.{Message, link, state}
 use Rattle.messages.specs.Paper.Panel.{ReadsVolts}

@@ -12,8 +12,8 @@ use Rattle.messages.specs.Paper.Message.{Message, name}
 use Rattle.messages.specs.Paper.Content.{kind_of}
 use Rattle.messages.specs.Paper.Table.{content_of, bytes, Limits}
 use Rattle.messages.proofs.Theorems.{stands-bytes, stands-kind}
-use Rattle.json.specs.Paper.Json.{Member, ◌∶◌, further, number, quoted}
-use Rattle.json.proofs.Laws.Tokens.{number-token, quoted-token, next-member, first_member}
+use Rattle.json_values.specs.Paper.Json.{Member, ◌∶◌, further, number, quoted}
+use Rattle.json_values.proofs.Laws.Tokens.{number-token, quoted-token, next-member, first_member}
 use Rattle.lines.specs.Paper.Answers.{LineOf}
 use Rattle.sheet.specs.Paper.Sheet.{Lookup}
 use Rattle.lines.specs.Paper.WithSheet.{members_with, further_members, line_with}

@@ -13,8 +13,8 @@ use Rattle.digits.specs.Paper.Bytes.{Bytes}
 use Rattle.digits.specs.Paper.Decimal.{decimal}
 use Rattle.digits.specs.Paper.LowFirst.{Width, one, two, four}
 use Rattle.digits.proofs.Laws.Decimal.{length-decimal}
-use Rattle.json.specs.Paper.Json.{◌∶◌, number, quoted, truth, reading, array, further_values}
-use Rattle.json.proofs.Laws.Sizes.{length-quoted, length-truth, total, length-object, length-reading}
+use Rattle.json_values.specs.Paper.Json.{◌∶◌, number, quoted, truth, reading, array, further_values}
+use Rattle.json_values.proofs.Laws.Sizes.{length-quoted, length-truth, total, length-object, length-reading}
 use Rattle.numbers.specs.Paper.ByteValues.{HeldBy}
 use Rattle.numbers.specs.Paper.Raw.{most_decimals}
 use Rattle.numbers.specs.Paper.Single.{fits_single}

@@ -60,8 +60,8 @@ use Rattle.messages.specs.declared.nikobus.Nikobus.{Nikobus}
 use Rattle.messages.specs.declared.nikobus.Nikobus.TheVariants.{Read, Set, Answer, Press, Tail, Link}
 use Rattle.messages.proofs.Theorems.{stands-bytes}
 use Rattle.puts.specs.Paper.Put.{largest_place}
-use Rattle.json.specs.Paper.Json.{Member, ◌∶◌, object, number, quoted, reading}
-use Rattle.json.proofs.Laws.Sizes.{length-quoted, length-hex, length-chars, length-truth, total, length-object, length-reading}
+use Rattle.json_values.specs.Paper.Json.{Member, ◌∶◌, object, number, quoted, reading}
+use Rattle.json_values.proofs.Laws.Sizes.{length-quoted, length-hex, length-chars, length-truth, total, length-object, length-reading}
 use Rattle.lines.specs.Paper.Answers.{LineOf, LineSaid}
 use Rattle.sheet.specs.Paper.Sheet.{RegisterType, Lookup}
 use Rattle.sheet.specs.Paper.Split.{is_unsolicited, typed_value, Pair, split_of}

@@ -14,7 +14,7 @@ use Rattle.digits.specs.Paper.Bytes.{Bytes}
 use Rattle.digits.specs.Paper.LowFirst.{Width, Held, low_byte_first, low_value}
 use Rattle.digits.proofs.Laws.Bytes.{bytes-nil, bytes-cons}
 use Rattle.digits.proofs.Laws.LowFirst.{value_low}
-use Rattle.json.specs.Paper.Json.{reading}
+use Rattle.json_values.specs.Paper.Json.{reading}
 use Rattle.numbers.specs.Paper.ByteValues.{twos}
 use Rattle.numbers.proofs.Laws.Values as numbers
 use Rattle.sheet.specs.Paper.Sheet.{RegisterType, Lookup}
@@ -27,7 +27,7 @@ use Rattle.layouts.proofs.Laws.ByteRuns.{bytes-by, one-of-bytes}
 use Rattle.layouts.proofs.Laws.HomiqOne.{field-bytes}
 use Rattle.messages.specs.Paper.Message.{Message, read, set, answer, press, tail, link, command, climate, state, break, end, text, response, ask, reply, put, done, nibe, output, input, shutter, beat, homiq, name}
 use Rattle.messages.specs.Paper.Table.{Limits}
-use Rattle.json.proofs.Laws.Tokens.{unquoted, Ends, Token, number-token, hex-token, chars-token, truth-token, reading-token}
+use Rattle.json_values.proofs.Laws.Tokens.{unquoted, Ends, Token, number-token, hex-token, chars-token, truth-token, reading-token}
 use Rattle.lines.specs.Paper.Line.{high_byte_first, members}
 use Rattle.lines.specs.Paper.WithSheet.{value_reading, members_with}
 use Rattle.lines.specs.Work.Values.{Spelling, as_number, as_hex, as_chars, as_truth, as_reading, as_value, Of, spelt, Columns, close, column, Values, members_of, of_high_byte_first, wire_columns, wire_values, form_of, values, same_text, form_in, form_named}

@@ -7,7 +7,7 @@ use Rattle.messages.specs.Paper.Message.{Message, read, set, answer, press, tail
 use Rattle.messages.specs.Paper.Message.{break, end, text, response, ask, reply, put, done, nibe, output, input}
 use Rattle.messages.specs.Paper.Message.{shutter, beat, homiq, name}
 use Rattle.messages.specs.Paper.Table.{v_in, v_op, v_bat}
-use Rattle.json.specs.Paper.Json.{Member, ◌∶◌, object, number, hex, chars, quoted, truth, reading}
+use Rattle.json_values.specs.Paper.Json.{Member, ◌∶◌, object, number, hex, chars, quoted, truth, reading}
 
 -- "a Nikobus module address is shown high byte first"
 abbrev pub high_byte_first : ℕ → List ℕ

@@ -5,7 +5,7 @@ use Rattle.std.proofs.Math.Option.{Option, none as without, some}
 use Rattle.std.proofs.lemmas.List.Edits.{sets}
 use Rattle.digits.specs.Paper.Ascii.{ascii}
 use Rattle.digits.specs.declared.refusal.Refusal.TheVariants.{NoRoom}
-use Rattle.json.specs.Paper.Json.{Member, ◌∶◌, member, number, hex, chars, quoted, reading}
+use Rattle.json_values.specs.Paper.Json.{Member, ◌∶◌, member, number, hex, chars, quoted, reading}
 use Rattle.messages.specs.Paper.Homiq.{field_at}
 use Rattle.messages.specs.Paper.Message.{Message, command, state, name}
 use Rattle.messages.specs.Paper.Says.{of_nikobus, of_response, of_nibe}

@@ -10,7 +10,7 @@ use Rattle.messages.specs.Paper.Message.{Message, read, set, answer, press, tail
 use Rattle.messages.specs.Paper.Message.{break, end, text, response, ask, reply, put, done, nibe, output, input}
 use Rattle.messages.specs.Paper.Message.{shutter, beat, homiq}
 use Rattle.messages.specs.Paper.Table.{v_in, v_op, v_bat}
-use Rattle.json.specs.Paper.Json.{Member, ◌∶◌, number, hex, chars, truth, reading}
+use Rattle.json_values.specs.Paper.Json.{Member, ◌∶◌, number, hex, chars, truth, reading}
 use Rattle.sheet.specs.Paper.Sheet.{RegisterType, Lookup}
 use Rattle.lines.specs.Paper.Line.{high_byte_first}
 use Rattle.lines.specs.Paper.WithSheet.{type_in, value_reading}

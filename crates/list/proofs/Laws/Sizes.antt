@@ -18,8 +18,8 @@ use Rattle.frames.specs.Paper.Search.{Hit, frame_part}
 use Rattle.frames.proofs.Laws.Places.{size-at}
 use Rattle.frames.proofs.Laws.Starts.{four_bytes}
 use Rattle.frames.proofs.Theorems.{in_order}
-use Rattle.json.specs.Paper.Json.{◌∶◌, object, number}
-use Rattle.json.proofs.Laws.Sizes.{total, length-object}
+use Rattle.json_values.specs.Paper.Json.{◌∶◌, object, number}
+use Rattle.json_values.proofs.Laws.Sizes.{total, length-object}
 use Rattle.lines.proofs.Laws.Sizes.{line-within}
 use Rattle.sheet.specs.Paper.Sheet.{Lookup}
 use Rattle.lines.proofs.Laws.Types.{InTypes}

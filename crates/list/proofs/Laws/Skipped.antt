@@ -41,6 +41,7 @@ empty t = elim t [ ]
 
 -- frames in order take up no place before theirs
 none_before : {k : ℕ} {s : List ℕ} {place : ℕ} {hits : List Hit} {j : ℕ} → InOrder k s place hits → TakenUp j hits → place ≤ j
+none_before nothing t = elim t [ ]
 none_before (next b q r) (here h l) = omega arith
 none_before (next b q r) (there t) = let h = none_before r t in omega arith
 

@@ -13,7 +13,7 @@ use Rattle.digits.specs.Paper.Bytes.{part}
 use Rattle.digits.specs.Paper.Decimal.{decimal, decimal_in, enough}
 use Rattle.digits.specs.declared.refusal.Refusal.TheVariants.{NoRoom}
 use Rattle.digits.proofs.Laws.Parts.{part-rest}
-use Rattle.json.specs.Paper.Json.{number, further, object}
+use Rattle.json_values.specs.Paper.Json.{number, further, object}
 use Rattle.puts.specs.Paper.Wrote.{refused, RoomCause, Writes}
 use Rattle.puts.specs.declared.Written.{Written}
 use Rattle.puts.specs.declared.Written.TheVariants.{Bytes, Refused}

@@ -7,7 +7,7 @@ use Rattle.digits.specs.Paper.Ascii.{ascii}
 use Rattle.frames.specs.Paper.Kinds.{known}
 use Rattle.frames.specs.Paper.Runs.{Run}
 use Rattle.frames.specs.Paper.Search.{Hit, frame_part}
-use Rattle.json.specs.Paper.Json.{◌∶◌, object, number}
+use Rattle.json_values.specs.Paper.Json.{◌∶◌, object, number}
 use Rattle.lines.specs.Paper.Answers.{LineOf}
 use Rattle.sheet.specs.Paper.Map.{sheet_in}
 use Rattle.sheet.specs.Paper.Sheet.{Row, Sheet, Lookup, find}

@@ -107,4 +107,5 @@ pub record FoundAs (k : ℕ) (s : List ℕ) (place : ℕ) (v : FoundValue) : Typ
 -- r is the right answer; it is refused as the search is
 abbrev pub Finds : ℕ → List ℕ → ℕ → FoundMessage → Type 0
 Finds k s place r =
-    Answers zero_found_message (SearchCause k s place) (FoundAs k s place) (found_message_refusal r) (found_message_value r)
+    Answers zero_found_message (SearchCause k s place) (FoundAs k s place)
+    (found_message_refusal r) (found_message_value r)

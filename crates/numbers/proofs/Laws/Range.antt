@@ -2,12 +2,11 @@
 -- back, where the code goes on by `if !in_range(z)`.
 -- Assumes nothing.
 use mathlib.Core.Path.{◌≡◌}
-use mathlib.Core.Bool.{Bool, true, false, not}
+use mathlib.Core.Bool.{Bool, true, false}
 use Prim.Native.Nat.{ℕ, suc-le-suc, ◌≤◌}
 use native.Mathlib.Nat.{le_trans}
 use lib.Dec.{leb→le}
 use lib.IntN.{ℤ, pos, negsuc, nat_abs}
-use borrow.Author.Tests.{not-true, not-false}
 use mir.Syntax.{w64}
 use mir.Val.{SFits}
 use Rattle.digits.specs.Paper.Read.{Decides}
@@ -26,12 +25,12 @@ module _ {z : ℤ} (f : SFits w64 z) {b : Bool} (t : Decides (Raw (back z)) b) w
   of_number : Decides (Raw z) b
   of_number = said (λ (y : ℤ). Decides (Raw y) b) z f t
 
-  pub refused : not b ≡ true → Raw z → ⊥
-  refused e = untold of_number (not-true b e)
+  pub refused : b ≡ false → Raw z → ⊥
+  refused e = untold of_number e
 
-  pub passed : not b ≡ false → Raw z
-  passed e = told of_number (not-false b e)
+  pub passed : b ≡ true → Raw z
+  passed e = told of_number e
 
   -- of what the machine reads back, for the function that is called next
-  pub passed-back : not b ≡ false → Raw (back z)
-  passed-back e = told t (not-false b e)
+  pub passed-back : b ≡ true → Raw (back z)
+  passed-back e = told t e

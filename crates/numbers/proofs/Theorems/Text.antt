@@ -15,8 +15,8 @@ use Rattle.puts.specs.declared.Written.{Written}
 use Rattle.puts.specs.declared.Written.TheVariants.{Bytes}
 use Rattle.puts.proofs.Unique.{one_written}
 use Rattle.numbers.specs.Paper.Raw.{Raw, most_decimals}
-use Rattle.numbers.specs.Paper.Text.{below_zero, sign, last_digits, fraction, text_of, text}
-use Rattle.numbers.specs.Paper.Exact.{Exact, pointed}
+use Rattle.numbers.specs.Paper.Text.{below_zero, sign, last_digits, text_of, text}
+use Rattle.numbers.specs.Paper.Exact.{Exact}
 use Rattle.numbers.specs.Paper.Answers.{TextCause, reading_refusal, ReadsText}
 use Rattle.numbers.specs.declared.text.Reading.{Reading}
 use Rattle.numbers.specs.declared.text.Reading.TheVariants.{Is}

@@ -1,7 +1,8 @@
 -- 01, Numbers: "A raw number fits a single when it is zero or when the bits of its magnitude, without leading and
 -- trailing zeros, number at most 24."
 -- Assumes nothing.
-use Rattle.std.specs.Prelude.{ℕ, suc, Bool, true, false, ◌||◌, List, [], ◌∷◌, reverse, eqb, leb, ℤ, pos, negsuc, nat_abs, length, Float}
+use Rattle.std.specs.Prelude.{ℕ, suc, Bool, true, false, ◌||◌, List, [], ◌∷◌, reverse, eqb, leb, ℤ, pos, negsuc}
+use Rattle.std.specs.Prelude.{nat_abs, length, Float}
 use Rattle.std.specs.Float.Ieee.Exact.{HasValue}
 use Rattle.digits.specs.Paper.Bits.{lows}
 

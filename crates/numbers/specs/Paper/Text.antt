@@ -1,7 +1,8 @@
 -- 01, Numbers: "Its text has a whole part of one digit or without leading zero, exactly that many digits after the
 -- point, no point for 0 decimals, and no minus on zero".
 -- Assumes nothing.
-use Rattle.std.specs.Prelude.{ℕ, zero, suc, ◌/◌, ◌%◌, ◌^◌, ◌≤◌, Bool, true, false, List, [], ◌∷◌, ◌++◌, ℤ, pos, negsuc, nat_abs}
+use Rattle.std.specs.Prelude.{ℕ, zero, suc, ◌/◌, ◌%◌, ◌^◌, ◌≤◌, Bool, true, false, List, [], ◌∷◌, ◌++◌, ℤ, pos, negsuc}
+use Rattle.std.specs.Prelude.{nat_abs}
 use Rattle.digits.specs.Paper.Ascii.{ascii}
 use Rattle.digits.specs.Paper.Decimal.{decimal_digit, decimal}
 use Rattle.numbers.specs.Paper.Raw.{Raw, most_decimals}

@@ -1,6 +1,7 @@
 -- What the functions on texts say of their parts.
 -- Assumes nothing.
-use Rattle.std.specs.Prelude.{◌≡◌, ℕ, ◌+◌, ◌*◌, ◌%◌, ◌≤◌, Bool, true, false, List, [], ◌∷◌, ltb, eqb, ℤ, pos, neg_ℤ, length}
+use Rattle.std.specs.Prelude.{◌≡◌, ℕ, ◌+◌, ◌*◌, ◌%◌, ◌≤◌, Bool, true, false, List, [], ◌∷◌, ltb, eqb, ℤ, pos, neg_ℤ}
+use Rattle.std.specs.Prelude.{length}
 use Rattle.digits.specs.Paper.Bytes.{part}
 
 -- a text at the front of twelve characters

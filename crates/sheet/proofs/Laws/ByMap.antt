@@ -1,25 +1,24 @@
 -- What is done by a sheet's map is done by the sheet.
 -- Assumes nothing.
 use mathlib.Core.Path.{◌≡◌, refl, sym, ap, ◌∙◌, subst}
-use mathlib.Core.Bool.{Bool, true, false, true≢false, ◌||◌}
-use mathlib.Core.List.{List, [], ◌++◌, append-nil}
-use mathlib.Core.Option.{none, some, none-ne-some}
-use Prim.Native.Nat.{ℕ, ◌≤◌, ◌<◌}
+use mathlib.Core.Bool.{Bool, false, true≢false, ◌||◌}
+use mathlib.Core.List.{List, ◌++◌, append-nil}
+use mathlib.Core.Option.{some, none-ne-some}
+use Prim.Native.Nat.{ℕ, ◌<◌}
 use native.Mathlib.Omega.{arith}
-use lib.Dec.{eqb, lit<}
+use lib.Dec.{eqb}
 use lib.ListN.{length, drop, drop_of_length-le}
 use Rattle.digits.specs.Paper.Refusals.{refusal_order, refusal_number, First, clear, here, after, Answers, answers, refuses}
 use Rattle.digits.specs.declared.refusal.Refusal.{Refusal}
 use Rattle.digits.proofs.Laws.Refusals.{pass-over, cause-at, some_number}
 use Rattle.puts.specs.Paper.Right.{WroteRight, wrote, refused}
-use Rattle.puts.specs.declared.Written.TheVariants.{Bytes, Refused}
 use Rattle.puts.proofs.Laws.Right.{first_of}
 use Rattle.sheet.specs.Paper.Sheet.{RegisterType, Row, Sheet, Lookup, find}
 use Rattle.sheet.specs.Paper.Map.{registers, map_of, lookup_in}
 use Rattle.sheet.specs.Paper.Answers.{MapCause, IsMap, TypeInCause, TypesIn, typed_refusal, typed_value, zero_type, TypeCause, HasType, Types}
 use Rattle.sheet.specs.Paper.Answers as paper
 use Rattle.sheet.specs.declared.Typed.{Typed}
-use Rattle.sheet.specs.declared.Typed.TheVariants.{Is, Refused as NoType}
+use Rattle.sheet.specs.declared.Typed.TheVariants.{Refused as NoType}
 use Rattle.sheet.proofs.Laws.Maps.{length-map, lookup-is}
 use Rattle.sheet.proofs.Laws.Scans.{one-sheet}
 

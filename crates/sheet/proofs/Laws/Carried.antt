@@ -1,10 +1,9 @@
 -- A loop over things that stand one behind the other.
 -- Assumes nothing.
-use mathlib.Core.Path.{◌≡◌, refl}
+use mathlib.Core.Path.{refl}
 use mathlib.Core.List.{List, ◌∷◌}
 use Prim.Native.Nat.{ℕ, ◌+◌}
 use native.Mathlib.Omega.{arith}
-use lib.ListN.{length}
 use Rattle.sheet.specs.Work.Carried.{Carried}
 
 pub start : {X : Type 0} {Whole : List X → Type 0} → Carried Whole Whole 1

@@ -2,15 +2,14 @@
 -- Assumes nothing.
 use mathlib.Core.Path.{◌≡◌, refl, sym, ap, ◌∙◌, subst}
 use mathlib.Core.List.{List, [], ◌∷◌}
-use Prim.Native.Nat.{ℕ, suc, ◌+◌, ◌≤◌, ◌<◌}
+use Prim.Native.Nat.{ℕ, suc, ◌<◌}
 use native.Mathlib.Omega.{arith}
 use lib.ListN.{length}
-use Rattle.digits.specs.Paper.Decimal.{decimal}
-use Rattle.digits.specs.Paper.Refusals.{First, clear, here, after}
+use Rattle.digits.specs.Paper.Refusals.{clear, after}
 use Rattle.digits.proofs.Laws.Decimal.{decimal-inj}
 use Rattle.digits.proofs.Laws.Refusals.{one-first}
-use Rattle.sheet.specs.Paper.Sheet.{Row, LF, fields, sheet, Sheet}
-use Rattle.sheet.specs.Paper.Fault.{behind, first_field, line, Fails, tests, FirstFault, no_line, here as fault-here, later, Faulty}
+use Rattle.sheet.specs.Paper.Sheet.{Row, LF, sheet, Sheet}
+use Rattle.sheet.specs.Paper.Fault.{behind, first_field, FirstFault, no_line, here as fault-here, later, Faulty}
 use Rattle.sheet.specs.Work.Lines.{RowsFrom}
 use Rattle.sheet.proofs.Laws.Rows.{first_of}
 use Rattle.sheet.proofs.Laws.Scans.{begins, passes-each, of-sheet, sheet-some}
@@ -34,7 +33,7 @@ no-fault {least} {number} {s} (r ∷ rows) w =
     let b = begins w in
     later {n = r.register} (some s refl)
     (after (passes-each b 1) (after (passes-each b 2) (after (passes-each b 3) (after (passes-each b 4) (after (passes-each b 5) (after (passes-each b 6) (after (passes-each b 7) clear)))))))
-    (sym (ap first_field b.line-is ∙ (first_of r).0)) (no-fault rows b.others)
+    (sym (ap first_field b.line-is ∙ (first_of r).0)) (no-fault {least = suc r.register} {number = suc number} {s = behind LF s} rows b.others)
   where
     some : (t : List ℕ) → s ≡ t → 0 < length s
     some [] e = absurd (sheet-some r rows (w.written ∙ e))

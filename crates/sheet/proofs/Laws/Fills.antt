@@ -1,15 +1,12 @@
 -- The rows of a sheet, stored one after the other.
 -- Assumes nothing.
 use mathlib.Core.Path.{◌≡◌, refl, sym, ap, ◌∙◌, subst}
-use mathlib.Core.List.{List, [], ◌∷◌, ◌++◌}
+use mathlib.Core.List.{List, [], ◌∷◌}
 use Prim.Native.Nat.{ℕ, zero, suc, ◌+◌, ◌≤◌, ◌<◌}
 use native.Mathlib.Omega.{arith}
 use lib.ListN.{length, drop, set, length-append, length-drop, length-set}
 use lib.Seq.{drop-drop, drop-length}
-use Rattle.digits.specs.Paper.Refusals.{First}
-use Rattle.digits.proofs.Laws.Refusals.{cause-at}
-use Rattle.sheet.specs.Paper.Sheet.{Row, LF, fields, sheet, most_rows}
-use Rattle.sheet.specs.Paper.Map.{type_byte, registers}
+use Rattle.sheet.specs.Paper.Sheet.{Row, LF, fields, sheet}
 use Rattle.sheet.specs.Work.Lines.{Passes, ReadsLine, RowsFrom}
 use Rattle.sheet.specs.Work.Maps.{stores, Filling, Filled}
 use Rattle.sheet.proofs.Laws.Scans.{no_rows, take-off, size-most}

@@ -1,13 +1,13 @@
 -- A row's line: it has no LF, two commas and three fields; and no two rows within limits have the same.
 -- Assumes nothing.
-use mathlib.Core.Path.{◌≡◌, refl, sym, ap, ap₂, ◌∙◌, subst}
+use mathlib.Core.Path.{◌≡◌, refl, sym, ap, ap₂, ◌∙◌}
 use mathlib.Core.Bool.{Bool, true, false}
-use mathlib.Core.List.{List, [], ◌∷◌, ◌++◌, append_assoc}
-use Prim.Native.Nat.{ℕ, suc, ◌+◌, ◌*◌, ◌^◌, ◌≤◌, ◌<◌}
+use mathlib.Core.List.{List, [], ◌∷◌, ◌++◌}
+use Prim.Native.Nat.{ℕ, ◌*◌, ◌^◌, ◌≤◌, ◌<◌}
 use native.Mathlib.Omega.{arith}
 use lib.Dec.{lit<}
 use lib.ListN.{length, length-append}
-use Rattle.digits.specs.Paper.Decimal.{decimal, decimal_in, enough}
+use Rattle.digits.specs.Paper.Decimal.{decimal}
 use Rattle.digits.specs.Paper.LowFirst.{Width, one, two, four}
 use Rattle.digits.proofs.Laws.Decimal.{decimal-inj, length-decimal}
 use Rattle.sheet.specs.Paper.Sheet.{RegisterType, Row, letter, type_name, comma, LF, fields, InLimits}

@@ -1,7 +1,6 @@
 -- The lines of a text, one after the other: its rows, and its first fault.
 -- Assumes nothing.
 use mathlib.Core.Path.{◌≡◌, refl, sym, ap, ap₂, ◌∙◌, subst}
-use mathlib.Core.Bool.{Bool, true, false}
 use mathlib.Core.List.{List, [], ◌∷◌, ◌++◌}
 use Prim.Native.Nat.{ℕ, zero, suc, ◌+◌, ◌≤◌, ◌<◌}
 use native.Mathlib.Omega.{arith}
@@ -10,13 +9,12 @@ use lib.Seq.{drop-drop, drop-length}
 use Rattle.digits.specs.Paper.Decimal.{decimal}
 use Rattle.digits.specs.Paper.Refusals.{First, clear, here, after}
 use Rattle.digits.proofs.Laws.Decimal.{decimal-inj}
-use Rattle.digits.proofs.Laws.Refusals.{one-first, cause-at}
+use Rattle.digits.proofs.Laws.Refusals.{cause-at}
 use Rattle.sheet.specs.Paper.Sheet.{Row, comma, LF, fields, sheet, InLimits, Rising, done, next, most_rows, Sheet}
 use Rattle.sheet.specs.Paper.Fault.{behind, count, line, first_field, Fails, tests, FirstFault, no_line, here as fault-here, later}
 use Rattle.sheet.specs.Paper.Fault as paper
-use Rattle.sheet.specs.Work.Carried.{Carried}
 use Rattle.sheet.specs.Work.Lines.{Passes, ReadsLine, RowsFrom, Scanning, Scans}
-use Rattle.sheet.proofs.Laws.Chars.{up-take, count-append, count-one}
+use Rattle.sheet.proofs.Laws.Chars.{count-append, count-one}
 use Rattle.sheet.proofs.Laws.Carried as carried
 use Rattle.sheet.proofs.Laws.Rows.{fields-inj, line_of, first_of, second-of, third_of, two-commas}
 

@@ -1,7 +1,8 @@
 -- A register map (ours): a sheet as one byte a register, so that a lookup is an index. 0 says that the register is not
 -- in the sheet, and 1 + 4 × type + decimals that it is, the types u8 s8 u16 s16 u32 s32 being 0 to 5.
 -- Assumes nothing.
-use Rattle.std.specs.Prelude.{Bool, true, false, cond, ◌&&◌, List, [], ◌∷◌, ℕ, zero, suc, ◌+◌, ◌-◌, ◌*◌, ◌/◌, ◌%◌, ◌^◌, leb, get_or}
+use Rattle.std.specs.Prelude.{Bool, true, false, cond, ◌&&◌, List, [], ◌∷◌, ℕ, zero, suc, ◌+◌, ◌-◌, ◌*◌, ◌/◌, ◌%◌, ◌^◌}
+use Rattle.std.specs.Prelude.{leb, get_or}
 use Rattle.std.proofs.Math.Option.{Option, none, some}
 use Rattle.digits.specs.Paper.Bits.{is_set}
 use Rattle.sheet.specs.Paper.Sheet.{RegisterType, Lookup}

@@ -6,7 +6,8 @@ use Rattle.std.specs.Borrow.{Bor}
 use Rattle.puts.specs.declared.Written.{Written}
 use Rattle.sheet.specs.Paper.Map.{sheet_in}
 use Rattle.book.specs.Paper.Answers.{AddCause, Adds, BookLines, Counts, EntryCause, EntryLine, EntryLineCause}
-use Rattle.book.specs.Paper.Answers.{EntryOf, ListCause, OpenCause, Location, located_refusal, located_value, opened_count}
+use Rattle.book.specs.Paper.Answers.{EntryOf, ListCause, OpenCause, Location, located_refusal, located_value}
+use Rattle.book.specs.Paper.Answers.{opened_count}
 use Rattle.book.specs.Paper.Answers.{opened_refusal, location_ends, zero_location}
 use Rattle.book.specs.Paper.Answers.{EntryLineByText, EntryLineByTextCause, BookLinesByText, ListByTextCause}
 use Rattle.book.specs.declared.Located.{Located}

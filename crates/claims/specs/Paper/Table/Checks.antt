@@ -1,7 +1,7 @@
 -- The public functions of `checks`: each check has the same five.
 -- Assumes nothing.
 use Rattle.std.specs.Prelude.{List, [], ◌∷◌, ◌≡◌, ℕ}
-use prog.Routine.{Name}
+use mir.Syntax.{Symbol as Name}
 use Rattle.checks.specs.Paper.Buses.{homiq_crc, nest_crc, nibe_xor, nikobus_crc16, nikobus_crc8}
 use Rattle.checks.specs.Paper.Check.{Check, check, feed}
 use Rattle.checks.specs.Paper.Rules.{check_of}

@@ -1,9 +1,9 @@
 -- The public functions of `json`.
 -- Assumes nothing.
 use Rattle.std.specs.Prelude.{List, Bool, ℕ, ℤ, pos}
-use Rattle.json.specs.Paper.Decimals.{decimals_of}
-use Rattle.json.specs.Paper.Json as paper
-use Rattle.json.specs.declared.Decimals.{Decimals}
+use Rattle.json_values.specs.Paper.Decimals.{decimals_of}
+use Rattle.json_values.specs.Paper.Json as paper
+use Rattle.json_values.specs.declared.Decimals.{Decimals}
 use Rattle.claims.specs.Paper.Claim.{Claim, putting}
 
 -- Puts a string of upper-case hex, two digits a byte.
@@ -14,7 +14,7 @@ pub record HexArgs : Type 0 where
 
 abbrev pub hex : Claim ℕ
 hex =
-    putting {Args = HexArgs} "json::hex"
+    putting {Args = HexArgs} "json_values::hex"
     (record {
       room = λ a. a.room;
       place = λ a. a.at;
@@ -29,7 +29,7 @@ pub record CharsArgs : Type 0 where
 
 abbrev pub chars : Claim ℕ
 chars =
-    putting {Args = CharsArgs} "json::chars"
+    putting {Args = CharsArgs} "json_values::chars"
     (record {
       room = λ a. a.room;
       place = λ a. a.at;
@@ -44,7 +44,7 @@ pub record TruthArgs : Type 0 where
 
 abbrev pub truth : Claim ℕ
 truth =
-    putting {Args = TruthArgs} "json::truth"
+    putting {Args = TruthArgs} "json_values::truth"
     (record {
       room = λ a. a.room;
       place = λ a. a.at;
@@ -60,7 +60,7 @@ pub record SignedArgs : Type 0 where
 
 abbrev pub signed : Claim ℕ
 signed =
-    putting {Args = SignedArgs} "json::signed"
+    putting {Args = SignedArgs} "json_values::signed"
     (record {
       room = λ a. a.room;
       place = λ a. a.at;
@@ -76,7 +76,7 @@ pub record UnsignedArgs : Type 0 where
 
 abbrev pub unsigned : Claim ℕ
 unsigned =
-    putting {Args = UnsignedArgs} "json::unsigned"
+    putting {Args = UnsignedArgs} "json_values::unsigned"
     (record {
       room = λ a. a.room;
       place = λ a. a.at;

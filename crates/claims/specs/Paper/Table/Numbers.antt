@@ -3,7 +3,8 @@
 use Rattle.std.specs.Prelude.{List, [], ◌∷◌, Bool, false, ◌≡◌, ℕ, ℤ, pos, length}
 use Rattle.puts.specs.declared.Written.{Written}
 use Rattle.numbers.specs.Paper.Answers.{BytesCause, RangeCause, TextCause, ValueCause, ValueIn, fits_refusal}
-use Rattle.numbers.specs.Paper.Answers.{fits_value, reading_refusal, reading_value, shown_refusal, shown_value, value_of}
+use Rattle.numbers.specs.Paper.Answers.{fits_value, reading_refusal, reading_value, shown_refusal, shown_value}
+use Rattle.numbers.specs.Paper.Answers.{value_of}
 use Rattle.numbers.specs.Paper.Answers.{value_refusal, zero_float, zero_number}
 use Rattle.numbers.specs.Paper.ByteValues.{value_bytes}
 use Rattle.numbers.specs.Paper.Panel.{ClimatePair, Panel}

@@ -1,0 +1,19 @@
+-- `nikobus::press` meets its contract.
+-- Assumes nothing.
+use mathlib.Core.Path.{refl}
+use native.Mathlib.Omega.{arith}
+use Rattle.messages.specs.Paper.Message.{press}
+use Rattle.messages.specs.declared.nikobus.Nikobus.TheVariants.{Press}
+use Rattle.asked.specs.Paper.Answers.{beside}
+use Rattle.shapes.specs.Paper.Shapes.{fields_of}
+use Rattle.asked.proofs.Laws.Drafts.{drafts, members_of}
+use Rattle.asked.proofs.Laws.Slots.{slots_at, slotted}
+use Rattle.asked.proofs.Laws.Lift.{lifted}
+use Rattle.asked.proofs.Laws.Shaped.{last, said_row, fixed}
+use Rattle.asked.proofs.nikobus.press.Goals as goal
+
+pub returns : goal.returns
+unfolding slots_at slotted members_of fields_of beside
+returns c =
+    drafts 4 refl (λ e. absurd (omega arith)) refl (last (lifted c.value.ensures c.six_digits-addr.ensures))
+    (λ e. said_row (press _) refl refl (omega arith) (fixed (Press _) refl _) refl)

@@ -1,0 +1,14 @@
+-- `rows::named` meets its contract.
+-- Assumes nothing.
+use mathlib.Core.Path.{ap, ◌∙◌}
+use Prim.Native.Nat.{ℕ}
+use Rattle.frames.proofs.Laws.Kinds.{resolved-known, resolved-unknown}
+use Rattle.asked.specs.Work.Rows.{row_named}
+use Rattle.asked.proofs.Laws.Named.{unknown-row}
+use Rattle.asked.proofs.rows.named.Goals as goal
+
+pub returns-in-Is : goal.returns-in-Is
+returns-in-Is c = c.of_kind.ensures ∙ ap (λ (k : ℕ). row_named k c.args.name.now) (resolved-known c.of.ensures c.in-Is.is)
+
+pub returns-in-Unknown : goal.returns-in-Unknown
+returns-in-Unknown c = unknown-row _ _ (resolved-unknown c.of.ensures c.in-Unknown.is)

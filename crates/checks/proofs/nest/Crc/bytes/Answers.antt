@@ -1,0 +1,6 @@
+-- `checks::nest::Crc::bytes` meets its contract: the engine has the check's polynomial.
+-- Assumes nothing.
+use Rattle.checks.proofs.nest.Crc.bytes.Goals as goal
+
+pub returns : goal.returns
+returns c = c.bytes.ensures

@@ -1,0 +1,6 @@
+-- `checks::nest::Crc::of` meets its contract: the bytes are fed from the start.
+-- Assumes nothing.
+use Rattle.checks.proofs.nest.Crc.of.Goals as goal
+
+pub returns : goal.returns
+returns c = cc

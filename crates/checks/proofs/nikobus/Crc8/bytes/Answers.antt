@@ -1,0 +1,6 @@
+-- `checks::nikobus::Crc8::bytes` meets its contract: the engine has the check's polynomial.
+-- Assumes nothing.
+use Rattle.checks.proofs.nikobus.Crc8.bytes.Goals as goal
+
+pub returns : goal.returns
+returns c = c.bytes.ensures

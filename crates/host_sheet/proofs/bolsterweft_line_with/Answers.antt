@@ -1,0 +1,9 @@
+-- `host_sheet::bolsterweft_line_with` meets its contract: it is `lines::write_mapped`, and an unknown kind is refused like any other.
+-- Assumes nothing.
+use Rattle.host_lines.proofs.Laws.Unknown.{line-alike}
+use Rattle.host_sheet.proofs.bolsterweft_line_with.Goals as goal
+
+pub returns : goal.returns
+returns c =
+    rw (c.counted.ensures.0, c.counted.ensures.1)
+    (line-alike c.kind_byte.ensures c.write_mapped.ensures)

@@ -1,0 +1,16 @@
+-- `accepts` meets its contract.
+-- Assumes nothing.
+use Rattle.jsontext.proofs.Laws.Accepts.{too_long, no_value, judged}
+use Rattle.jsontext.proofs.Laws.Places.{found}
+use Rattle.jsontext.proofs.accepts.Goals as goal
+
+pub returns-then-text-gt-MOST_BYTES : goal.returns-then-text-gt-MOST_BYTES
+returns-then-text-gt-MOST_BYTES c = too_long c.if-text-gt-MOST_BYTES.true
+
+pub returns-then-end-eq0 : goal.returns-then-end-eq0
+returns-then-end-eq0 c = no_value c.blanks-start.ensures c.value-end.ensures c.if-end-eq0.true
+
+pub returns : goal.returns
+returns c =
+    judged c.blanks-start.ensures (found c.value-end.ensures c.if-end-eq0.false) c.blanks.ensures
+    c.if-text-gt-MOST_BYTES.false

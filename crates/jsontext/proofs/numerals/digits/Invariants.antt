@@ -1,0 +1,13 @@
+-- `numerals::digits` meets its contract.
+-- Assumes nothing.
+use Prim.Native.Nat.{◌-◌}
+use lib.ListN.{length}
+use Rattle.jsontext.specs.Paper.Json.{DIGIT}
+use Rattle.jsontext.proofs.Laws.Blanks.{Behind}
+use Rattle.jsontext.proofs.numerals.digits.Given as goal
+
+abbrev pub invariant-loop-i : goal.invariant-loop-i
+invariant-loop-i l = Behind DIGIT l.s l.p l.i
+
+abbrev pub decreases-loop-i : goal.decreases-loop-i
+decreases-loop-i l = length l.s - l.i

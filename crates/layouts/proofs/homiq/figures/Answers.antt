@@ -1,0 +1,32 @@
+-- `layouts::homiq::figures` meets its contract: what is left from the index on completes the run and its number, and four figures fit.
+-- Assumes nothing.
+use mathlib.Core.Path.{sym, ◌∙◌}
+use Prim.Native.Nat.{◌-◌}
+use native.Mathlib.Omega.{arith}
+use borrow.Author.Rules.{rules}
+use Rattle.layouts.specs.Work.Homiq.{is_figure}
+use Rattle.layouts.proofs.Laws.HomiqFields.{figuring-start, figuring-small, figuring-next, figuring-end}
+use Rattle.layouts.proofs.Laws.Runs.{leading-stop, leading_end}
+use Rattle.layouts.proofs.homiq.figures.Goals as goal
+
+pub loop-i-init : goal.loop-i-init
+loop-i-init c = figuring-start _
+
+pub returns-then-s-i : goal.returns-then-s-i
+returns-then-s-i c = record { end_value = (figuring-end c.loop-i.invariant (leading_end is_figure _ _ c.if-s-i.true)).0; value_value = (figuring-end c.loop-i.invariant (leading_end is_figure _ _ c.if-s-i.true)).1 }
+
+pub returns-then-not-is_figure : goal.returns-then-not-is_figure
+returns-then-not-is_figure c = record { end_value = (figuring-end c.loop-i.invariant (leading-stop is_figure _ _ c.if-s-i.false (sym c.is_figure.ensures ∙ c.if-not-is_figure.true))).0; value_value = (figuring-end c.loop-i.invariant (leading-stop is_figure _ _ c.if-s-i.false (sym c.is_figure.ensures ∙ c.if-not-is_figure.true))).1 }
+
+pub overflow_mul-v : goal.overflow_mul-v
+overflow_mul-v c = let v = figuring-small c.loop-i.invariant c.if-s-i.false c.requires in search rules
+
+pub overflow_add-v : goal.overflow_add-v
+overflow_add-v c = let v = figuring-small c.loop-i.invariant c.if-s-i.false c.requires in search rules
+
+pub loop-i-preserved : goal.loop-i-preserved
+loop-i-preserved c =
+    figuring-next c.loop-i.invariant c.if-s-i.false (sym c.is_figure.ensures ∙ c.if-not-is_figure.false)
+
+pub returns : goal.returns
+returns c = record { end_value = (figuring-end c.loop-i.invariant (leading_end is_figure _ _ (omega (arith, c.loop-i-test.false, c.requires)))).0; value_value = (figuring-end c.loop-i.invariant (leading_end is_figure _ _ (omega (arith, c.loop-i-test.false, c.requires)))).1 }

@@ -1,0 +1,9 @@
+-- `lines::members::chars` meets its contract: the label, and then the value.
+-- Assumes nothing.
+use Rattle.puts.proofs.Laws.Puts.{◌then◌}
+use Rattle.lines.proofs.members.chars.Goals as goal
+
+pub returns : goal.returns
+returns c =
+    c.bytes-next.ensures
+    then c.chars.ensures

@@ -1,0 +1,13 @@
+-- `lines::nest::text` meets its contract: one member after the other.
+-- Assumes nothing.
+use Rattle.puts.proofs.Laws.Puts.{◌then◌}
+use Rattle.lines.specs.Paper.Line.{members}
+use Rattle.lines.proofs.Laws.Put.{last-put}
+use Rattle.lines.specs.Work.Put.{commaed, named}
+use Rattle.lines.proofs.nest.text.Goals as goal
+
+pub returns : goal.returns
+unfolding named members commaed
+returns c =
+    c.number-a.ensures
+    then last-put c.chars.ensures

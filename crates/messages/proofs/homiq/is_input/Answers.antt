@@ -1,0 +1,10 @@
+-- `messages::homiq::is_input` meets its contract: the tests are the statement's two parts.
+-- Assumes nothing.
+use Rattle.messages.proofs.Laws.Telling.{first-fails, second-tells}
+use Rattle.messages.proofs.homiq.is_input.Goals as goal
+
+pub returns-then-not-is_marked_number : goal.returns-then-not-is_marked_number
+returns-then-not-is_marked_number c = first-fails c.is_marked_number.ensures c.if-not-is_marked_number.true
+
+pub returns : goal.returns
+returns c = second-tells c.is_marked_number.ensures c.if-not-is_marked_number.false c.is_letter.ensures

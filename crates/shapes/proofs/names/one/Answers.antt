@@ -1,0 +1,11 @@
+-- `names::one` meets its contract.
+-- Assumes nothing.
+use native.Mathlib.Omega.{arith}
+use Rattle.shapes.proofs.Laws.Picked.{first-name, later-name, unnamed}
+use Rattle.shapes.proofs.names.one.Goals as goal
+
+pub returns-then-member-eq0 : goal.returns-then-member-eq0
+returns-then-member-eq0 c = first-name c.if-member-eq0.true c.front.ensures
+
+pub returns : goal.returns
+returns c = later-name c.if-member-eq0.false (unnamed (omega arith))
