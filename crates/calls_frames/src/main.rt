@@ -1,5 +1,7 @@
 // Answers the records that ask for a function of `layouts`, `builds` or `frames`, and passes all records on.
 // crates/calls_read/src/request.rt says what a record is.
+#![tactic(auto)]
+
 mod answer;
 mod frame_calls;
 mod layout_calls;
@@ -7,19 +9,24 @@ mod layout_calls;
 use answer::Answer;
 use digits::low_first;
 use digits::low_first::Number;
-use libc::{STDIN_FILENO, STDOUT_FILENO};
+use std::io::{Read, Write};
 
-fn main() {
+fn main(rt: HostRuntime) {
     let mut record = [0u8; 131184];
     let mut room = [0u8; 2097202];
-    pass_all(&mut record, &mut room);
+    pass_all(&mut rt.stdin(), &mut rt.stdout(), &mut record, &mut room);
 }
 
 // The words and the bytes of the longest record, and its room. They are lent by their types, so that no proof has to count them.
-fn pass_all(record: &mut [u8; 131184], room: &mut [u8; 2097202]) {
+fn pass_all(
+    from: &mut impl Read,
+    to: &mut impl Write,
+    record: &mut [u8; 131184],
+    room: &mut [u8; 2097202],
+) {
     let mut turns = u64::MAX;
     while 0 < turns {
-        if !pass(record, room) {
+        if !pass(from, to, record, room) {
             return;
         }
         turns -= 1;
@@ -27,19 +34,20 @@ fn pass_all(record: &mut [u8; 131184], room: &mut [u8; 2097202]) {
 }
 
 // Reads a record, answers it if it is for this program, and passes it on; whether there was one.
-fn pass(record: &mut [u8], room: &mut [u8]) -> bool {
-    if !read(record, 0, 256) {
+fn pass(from: &mut impl Read, to: &mut impl Write, record: &mut [u8], room: &mut [u8]) -> bool {
+    if !read(from, record, 0, 256) {
         return false;
     }
     let size = number(record, 9) as usize;
-    if !read(record, 256, size) {
+    if !read(from, record, 256, size) {
         return false;
     }
-    if !read(room, 0, number(record, 13) as usize) {
+    let lent = number(record, 13) as usize;
+    if !read(from, room, 0, lent) {
         return false;
     }
     answered(record, room);
-    write(record, size) && write(room, number(record, 13) as usize)
+    write(to, record, size) && write(to, room, number(record, 13) as usize)
 }
 
 fn answered(record: &mut [u8], room: &mut [u8]) {
@@ -87,19 +95,19 @@ fn call(function: u64, x: u64, y: u64, first: &[u8], s: &[u8], room: &mut [u8]) 
     }
 }
 
-// Reads the bytes between two places.
-fn read(s: &mut [u8], from: usize, to: usize) -> bool {
-    if to <= from {
+// Reads the bytes between two places. A read that fails is the end of the input.
+fn read(from: &mut impl Read, s: &mut [u8], start: usize, end: usize) -> bool {
+    if end <= start {
         return true;
     }
-    if s.len() < to {
+    if s.len() < end {
         return false;
     }
-    io::read_full(STDIN_FILENO, &mut s[from..to]) == to - from
+    from.read_exact(&mut s[start..end]).is_ok()
 }
 
-fn write(s: &[u8], n: usize) -> bool {
-    io::write_all(STDOUT_FILENO, part(s, 0, n))
+fn write(to: &mut impl Write, s: &[u8], n: usize) -> bool {
+    to.write_all(part(s, 0, n)).is_ok()
 }
 
 // The bytes between two places.

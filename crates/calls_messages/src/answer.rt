@@ -41,7 +41,7 @@ pub(crate) fn room(r: Answer, before: u64) -> u64 {
 // A message, and what may stand beside it: the form of its row, counted from the one before the first.
 pub(crate) fn said(before: u64, message: [u64; 4], beside: [u64; 4]) -> Answer {
     [
-        std::num::wrapping_add_u64(before, message[0]),
+        before.wrapping_add(message[0]),
         message[1],
         message[2],
         message[3],

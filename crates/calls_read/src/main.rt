@@ -1,36 +1,56 @@
 // Reads requests, a line each, and writes a record for each: request.rt says what a record is, functions.rt which functions there are. The
 // programs `calls_values`, `calls_frames` and `calls_messages` answer records, and `calls_write` writes the answers.
+#![tactic(auto)]
+
 mod functions;
 mod request;
 mod table;
 mod word;
 
 use digits::low_first;
-use libc::{STDIN_FILENO, STDOUT_FILENO};
+use std::io::{Read, Write};
 
-fn main() {
+fn main(rt: HostRuntime) {
     let mut input = [0u8; 300001];
     let mut record = [0u8; 131184];
     let room = [0xEEu8; 2097202];
-    with_rooms(&mut input, &mut record, &room);
+    with_rooms(
+        &mut rt.stdin(),
+        &mut rt.stdout(),
+        &mut input,
+        &mut record,
+        &room,
+    );
 }
 
 // The longest line and its LF, the words and the bytes of one request, and the longest room that is lent, as it is lent. They are taken by
 // their types, so that no proof has to count them.
-fn with_rooms(input: &mut [u8; 300001], record: &mut [u8; 131184], room: &[u8; 2097202]) {
-    read_all(input, record, room);
+fn with_rooms(
+    source: &mut impl Read,
+    to: &mut impl Write,
+    input: &mut [u8; 300001],
+    record: &mut [u8; 131184],
+    room: &[u8; 2097202],
+) {
+    read_all(source, to, input, record, room);
 }
 
 // How far the reading is. The front of the input has the first bytes of a line that is not complete: how many, whether the line began
 // before them and is too long, and whether there may be more.
-#[derive(Drop)]
+#[derive(Clone, Copy)]
 struct Reading {
     have: usize,
     over: bool,
     more: bool,
 }
 
-fn read_all(input: &mut [u8], record: &mut [u8], room: &[u8]) {
+fn read_all(
+    source: &mut impl Read,
+    to: &mut impl Write,
+    input: &mut [u8],
+    record: &mut [u8],
+    room: &[u8],
+) {
     let mut turns = u64::MAX;
     let mut reading = Reading {
         have: 0,
@@ -38,36 +58,48 @@ fn read_all(input: &mut [u8], record: &mut [u8], room: &[u8]) {
         more: true,
     };
     while turns > 0 && reading.more {
-        reading = next(reading, input, record, room);
+        reading = next(reading, source, to, input, record, room);
         turns -= 1;
     }
 }
 
 // Reads what there is, behind what is there already, and the requests that are complete then.
-fn next(reading: Reading, input: &mut [u8], record: &mut [u8], room: &[u8]) -> Reading {
+fn next(
+    reading: Reading,
+    source: &mut impl Read,
+    to: &mut impl Write,
+    input: &mut [u8],
+    record: &mut [u8],
+    room: &[u8],
+) -> Reading {
     let have = reading.have;
-    let n = read_behind(have, input);
+    let n = read_behind(have, source, input);
     if n == 0 {
-        return last(reading, input, record, room);
+        return last(reading, to, input, record, room);
     }
-    complete(n, reading.over, input, record, room)
+    complete(n, reading.over, to, input, record, room)
 }
 
-// How many bytes there are with those that are read now; 0 if none are.
-fn read_behind(have: usize, input: &mut [u8]) -> usize {
+// How many bytes there are with those that are read now; 0 if none are. A read that fails is the end of the input.
+fn read_behind(have: usize, source: &mut impl Read, input: &mut [u8]) -> usize {
     if input.len() < have {
         return 0;
     }
-    let got = libc::read(STDIN_FILENO, &mut input[have..]);
-    let n = io::count(got, &input[have..]);
-    if n == 0 {
-        return 0;
+    match source.read(&mut input[have..]) {
+        Ok(0) => 0,
+        Ok(n) => have + n,
+        Err(_) => 0,
     }
-    have + n
 }
 
 // The last line needs no LF.
-fn last(reading: Reading, input: &[u8], record: &mut [u8], room: &[u8]) -> Reading {
+fn last(
+    reading: Reading,
+    to: &mut impl Write,
+    input: &[u8],
+    record: &mut [u8],
+    room: &[u8],
+) -> Reading {
     let have = reading.have;
     if input.len() < have {
         return ended();
@@ -77,7 +109,7 @@ fn last(reading: Reading, input: &[u8], record: &mut [u8], room: &[u8]) -> Readi
             return ended();
         }
     }
-    line(reading.over, &input[0..have], record, room);
+    line(reading.over, to, &input[0..have], record, room);
     ended()
 }
 
@@ -90,18 +122,25 @@ fn ended() -> Reading {
 }
 
 // What was taken of the input: up to where, whether the line that begins there is too long, and whether its records could be written.
-#[derive(Drop)]
+#[derive(Clone, Copy)]
 struct Taken {
     from: usize,
     over: bool,
     written: bool,
 }
 
-fn complete(end: usize, over: bool, input: &mut [u8], record: &mut [u8], room: &[u8]) -> Reading {
+fn complete(
+    end: usize,
+    over: bool,
+    to: &mut impl Write,
+    input: &mut [u8],
+    record: &mut [u8],
+    room: &[u8],
+) -> Reading {
     if input.len() < end {
         return ended();
     }
-    let taken = each(over, &input[0..end], record, room);
+    let taken = each(over, to, &input[0..end], record, room);
     if !taken.written {
         return ended();
     }
@@ -121,7 +160,7 @@ fn complete(end: usize, over: bool, input: &mut [u8], record: &mut [u8], room: &
 }
 
 // Takes each complete line.
-fn each(over: bool, text: &[u8], record: &mut [u8], room: &[u8]) -> Taken {
+fn each(over: bool, to: &mut impl Write, text: &[u8], record: &mut [u8], room: &[u8]) -> Taken {
     let mut from = 0;
     let mut long = over;
     let mut written = true;
@@ -135,7 +174,7 @@ fn each(over: bool, text: &[u8], record: &mut [u8], room: &[u8]) -> Taken {
                 written: written,
             };
         }
-        written = line(long, &rest[0..n], record, room) && written;
+        written = line(long, to, &rest[0..n], record, room) && written;
         long = false;
         from = from + n + 1;
     }
@@ -147,13 +186,13 @@ fn each(over: bool, text: &[u8], record: &mut [u8], room: &[u8]) -> Taken {
 }
 
 // Writes the record of a line.
-fn line(over: bool, line: &[u8], record: &mut [u8], room: &[u8]) -> bool {
+fn line(over: bool, to: &mut impl Write, line: &[u8], record: &mut [u8], room: &[u8]) -> bool {
     let mut words = [0, 0, 0, 0, 0, 0, 0, 0, 0, 256, 112, 112, 200_000, 0];
     take(over, line, &mut words, record);
     put_all(&words, record);
     let size = words[9];
     let lent = words[13];
-    write(record, size) && write(room, lent)
+    write(to, record, size) && write(to, room, lent)
 }
 
 // Reads a request. A line that is too long is none.
@@ -185,12 +224,12 @@ fn put(n: u64, record: &mut [u8], at: usize) -> usize {
 }
 
 // Writes the first n bytes.
-fn write(s: &[u8], n: u64) -> bool {
+fn write(to: &mut impl Write, s: &[u8], n: u64) -> bool {
     let k = n as usize;
     if s.len() < k {
         return false;
     }
-    io::write_all(STDOUT_FILENO, &s[0..k])
+    to.write_all(&s[0..k]).is_ok()
 }
 
 // Moves the bytes between two places to the front; how many they are.

@@ -19,7 +19,7 @@ use digits::slices;
 
 // How far the reading is: the place in the line, the next word, and how many bytes of the store are taken. A request that is wrong goes
 // on at a place behind all lines.
-#[derive(Drop)]
+#[derive(Clone, Copy)]
 struct Cursor {
     at: usize,
     slot: usize,

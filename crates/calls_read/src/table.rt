@@ -4,7 +4,7 @@ ghost use Rattle.std.specs.Prelude.{◌≤◌, length};
 use digits::slices;
 
 // A row: its number, counted from 1, and where in the table the words behind its name begin and end; 0 if there is none.
-#[derive(Drop)]
+#[derive(Clone, Copy)]
 pub(crate) struct Row {
     pub number: usize,
     pub from: usize,

@@ -4,14 +4,14 @@ use digits::hex;
 use digits::hex::Byte;
 
 // What a word is read as.
-#[derive(Drop)]
+#[derive(Clone, Copy)]
 pub(crate) enum Value {
     Is(u64),
     Wrong,
 }
 
 // A number that is made digit by digit, unless it is wrong.
-#[derive(Drop)]
+#[derive(Clone, Copy)]
 struct Made {
     n: u64,
     wrong: bool,

@@ -1,7 +1,7 @@
-// The functions of `puts` and `json`: a place in the room, but for `puts::front`.
+// The functions of `puts` and `json_values`: a place in the room, but for `puts::front`.
 use super::answer::Answer;
 use super::{answer, value};
-use json::Decimals;
+use json_values::Decimals;
 use puts::Written;
 
 pub(crate) fn call(function: u64, x: u64, y: u64, z: u64, s: &[u8], room: &mut [u8]) -> Answer {
@@ -17,11 +17,11 @@ fn put(function: u64, x: u64, y: u64, z: u64, s: &[u8], room: &mut [u8]) -> usiz
         303 => puts::hex(s, room, x as usize),
         304 => puts::byte(value::small(x), room, y as usize),
         305 => puts::whole(x, room, y as usize),
-        401 => json::hex(s, room, x as usize),
-        402 => json::chars(s, room, x as usize),
-        403 => json::truth(x == 1, room, y as usize),
-        404 => json::signed(value::signed32(x), decimals(y), room, z as usize),
-        _ => json::unsigned(value::long(x), decimals(y), room, z as usize),
+        401 => json_values::hex(s, room, x as usize),
+        402 => json_values::chars(s, room, x as usize),
+        403 => json_values::truth(x == 1, room, y as usize),
+        404 => json_values::signed(value::signed32(x), decimals(y), room, z as usize),
+        _ => json_values::unsigned(value::long(x), decimals(y), room, z as usize),
     }
 }
 

@@ -21,7 +21,7 @@ pub(crate) fn line(record: &[u8], room: &[u8], out: &mut [u8]) -> usize {
 }
 
 // How far a line is: the place in it, and the word of the record that is the next value.
-#[derive(Drop)]
+#[derive(Clone, Copy)]
 struct Spelt {
     at: usize,
     word: usize,

@@ -1,24 +1,38 @@
 // Writes the answers that stand in records, a line each. crates/calls_read/src/request.rt says what a record is, forms.rt what an answer is.
+#![tactic(auto)]
+
 mod float;
 mod forms;
 
 use digits::low_first;
 use digits::low_first::Number;
-use libc::{STDIN_FILENO, STDOUT_FILENO};
+use std::io::{Read, Write};
 
-fn main() {
+fn main(rt: HostRuntime) {
     let mut record = [0u8; 131184];
     let mut room = [0u8; 2097202];
     let mut out = [0u8; 4194816];
-    write_all(&mut record, &mut room, &mut out);
+    write_all(
+        &mut rt.stdin(),
+        &mut rt.stdout(),
+        &mut record,
+        &mut room,
+        &mut out,
+    );
 }
 
 // The words and the bytes of the longest record, its room, and the longest line. They are lent by their types, so that no proof has to
 // count them.
-fn write_all(record: &mut [u8; 131184], room: &mut [u8; 2097202], out: &mut [u8; 4194816]) {
+fn write_all(
+    from: &mut impl Read,
+    to: &mut impl Write,
+    record: &mut [u8; 131184],
+    room: &mut [u8; 2097202],
+    out: &mut [u8; 4194816],
+) {
     let mut turns = u64::MAX;
     while 0 < turns {
-        if !next(record, room, out) {
+        if !next(from, to, record, room, out) {
             return;
         }
         turns -= 1;
@@ -26,30 +40,37 @@ fn write_all(record: &mut [u8; 131184], room: &mut [u8; 2097202], out: &mut [u8;
 }
 
 // Reads a record and writes its line; whether there was one.
-fn next(record: &mut [u8], room: &mut [u8], out: &mut [u8]) -> bool {
-    if !read(record, 0, 256) {
+fn next(
+    from: &mut impl Read,
+    to: &mut impl Write,
+    record: &mut [u8],
+    room: &mut [u8],
+    out: &mut [u8],
+) -> bool {
+    if !read(from, record, 0, 256) {
         return false;
     }
-    if !read(record, 256, number(record, 9) as usize) {
+    let end = number(record, 9) as usize;
+    if !read(from, record, 256, end) {
         return false;
     }
     let lent = number(record, 13) as usize;
-    if !read(room, 0, lent) {
+    if !read(from, room, 0, lent) {
         return false;
     }
     let n = forms::line(record, part(room, 0, lent), out);
-    io::write_all(STDOUT_FILENO, part(out, 0, n))
+    to.write_all(part(out, 0, n)).is_ok()
 }
 
-// Reads the bytes between two places.
-fn read(s: &mut [u8], from: usize, to: usize) -> bool {
-    if to <= from {
+// Reads the bytes between two places. A read that fails is the end of the input.
+fn read(from: &mut impl Read, s: &mut [u8], start: usize, end: usize) -> bool {
+    if end <= start {
         return true;
     }
-    if s.len() < to {
+    if s.len() < end {
         return false;
     }
-    io::read_full(STDIN_FILENO, &mut s[from..to]) == to - from
+    from.read_exact(&mut s[start..end]).is_ok()
 }
 
 // The bytes between two places.

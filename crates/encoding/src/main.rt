@@ -1,37 +1,55 @@
 // Writes the frames of commands as JSON. Standard input has a digit, 0 for frames as bytes or 1 for frames as hex digits with LF behind each;
 // LF; and a command on each line, of which the last needs no LF. Standard output has the frames. Standard error has a line for each command
 // that is refused, with its number, counted from 1; and a last line, `end`, if every frame could be written. All that is said of a frame is
-// proved of `asked::encode`, and all that is said of a refused line of `jsontext::fault`, `asked::lacks` and `shapes`.
+// proved of `asked::encode`.
+#![tactic(auto)]
+
 mod words;
 
 ghost use Rattle.std.specs.Prelude.{◌≤◌, length};
 
 use digits::refusal::Refusal;
-use libc::{STDERR_FILENO, STDIN_FILENO, STDOUT_FILENO};
 use puts::Written;
+use std::io::{Read, Write};
 
-fn main() {
+fn main(rt: HostRuntime) {
     let mut input = [0u8; 65536];
     let mut frame = [0u8; 1034];
     let mut out = [0u8; 2069];
-    with_rooms(&mut input, &mut frame, &mut out);
+    with_rooms(
+        &mut rt.stdin(),
+        &mut rt.stdout(),
+        &mut rt.stderr(),
+        &mut input,
+        &mut frame,
+        &mut out,
+    );
 }
 
 // Many lines, the longest frame, and its hex digits and LF. A line that the input does not hold is over the limit of a text by far. They are
 // lent by their types, so that no proof has to count them.
-fn with_rooms(input: &mut [u8; 65536], frame: &mut [u8; 1034], out: &mut [u8; 2069]) {
-    encode_all(wants_digits(), input, frame, out);
+fn with_rooms(
+    source: &mut impl Read,
+    to: &mut impl Write,
+    told: &mut impl Write,
+    input: &mut [u8; 65536],
+    frame: &mut [u8; 1034],
+    out: &mut [u8; 2069],
+) {
+    let digits = wants_digits(source);
+    encode_all(digits, source, to, told, input, frame, out);
 }
 
-fn wants_digits() -> bool {
+// Takes the digit and its LF. A read that fails is the end of the input.
+fn wants_digits(source: &mut impl Read) -> bool {
     let mut head = [0u8; 2];
-    io::read_full(STDIN_FILENO, &mut head);
+    let _ = source.read_exact(&mut head);
     head[0] == b'1'
 }
 
 // How far the reading is. The front of the input has the first bytes of a line that is not complete: how many, and whether the line began
 // before them and is too long. Then how many lines there were before it, whether all frames could be written, and whether there may be more.
-#[derive(Drop)]
+#[derive(Clone, Copy)]
 struct Reading {
     have: usize,
     over: bool,
@@ -40,7 +58,15 @@ struct Reading {
     more: bool,
 }
 
-fn encode_all(digits: bool, input: &mut [u8], frame: &mut [u8], out: &mut [u8]) {
+fn encode_all(
+    digits: bool,
+    source: &mut impl Read,
+    to: &mut impl Write,
+    told: &mut impl Write,
+    input: &mut [u8],
+    frame: &mut [u8],
+    out: &mut [u8],
+) {
     let mut turns = u64::MAX;
     let mut reading = Reading {
         have: 0,
@@ -50,11 +76,11 @@ fn encode_all(digits: bool, input: &mut [u8], frame: &mut [u8], out: &mut [u8]) 
         more: true,
     };
     while turns > 0 && reading.more {
-        reading = next(digits, reading, input, frame, out);
+        reading = next(digits, reading, source, to, told, input, frame, out);
         turns -= 1;
     }
     if reading.written {
-        io::write_all(STDERR_FILENO, b"end\n");
+        let _ = told.write_all(b"end\n");
     }
 }
 
@@ -62,39 +88,49 @@ fn encode_all(digits: bool, input: &mut [u8], frame: &mut [u8], out: &mut [u8]) 
 fn next(
     digits: bool,
     reading: Reading,
+    source: &mut impl Read,
+    to: &mut impl Write,
+    told: &mut impl Write,
     input: &mut [u8],
     frame: &mut [u8],
     out: &mut [u8],
 ) -> Reading {
     let have = reading.have;
-    let n = read_behind(have, input);
+    let n = read_behind(have, source, input);
     if n == 0 {
-        return last(digits, reading, part(input, 0, have), frame, out);
+        return last(digits, reading, to, told, part(input, 0, have), frame, out);
     }
-    complete(digits, reading, n, input, frame, out)
+    complete(digits, reading, n, to, told, input, frame, out)
 }
 
-// How many bytes there are with those that are read now; 0 if none are.
-fn read_behind(have: usize, input: &mut [u8]) -> usize {
+// How many bytes there are with those that are read now; 0 if none are. A read that fails is the end of the input.
+fn read_behind(have: usize, source: &mut impl Read, input: &mut [u8]) -> usize {
     if input.len() < have {
         return 0;
     }
-    let got = libc::read(STDIN_FILENO, &mut input[have..]);
-    let n = io::count(got, &input[have..]);
-    if n == 0 {
-        return 0;
+    match source.read(&mut input[have..]) {
+        Ok(0) => 0,
+        Ok(n) => have + n,
+        Err(_) => 0,
     }
-    have + n
 }
 
 // The last line needs no LF. If it has one, nothing is left behind it.
-fn last(digits: bool, reading: Reading, rest: &[u8], frame: &mut [u8], out: &mut [u8]) -> Reading {
+fn last(
+    digits: bool,
+    reading: Reading,
+    to: &mut impl Write,
+    told: &mut impl Write,
+    rest: &[u8],
+    frame: &mut [u8],
+    out: &mut [u8],
+) -> Reading {
     let mut written = reading.written;
     if reading.over {
-        written = line(digits, true, reading.lines, rest, frame, out);
+        written = line(digits, true, reading.lines, to, told, rest, frame, out);
     } else {
         if rest.len() != 0 {
-            written = line(digits, false, reading.lines, rest, frame, out);
+            written = line(digits, false, reading.lines, to, told, rest, frame, out);
         }
     }
     Reading {
@@ -111,11 +147,13 @@ fn complete(
     digits: bool,
     reading: Reading,
     end: usize,
+    to: &mut impl Write,
+    told: &mut impl Write,
     input: &mut [u8],
     frame: &mut [u8],
     out: &mut [u8],
 ) -> Reading {
-    let taken = each(digits, reading, part(input, 0, end), frame, out);
+    let taken = each(digits, reading, to, told, part(input, 0, end), frame, out);
     let left = to_front(input, taken.from, end);
     let full = left == input.len();
     Reading {
@@ -129,7 +167,7 @@ fn complete(
 
 // What was taken of the input: up to where, whether the line that begins there is too long, how many lines there were before it, and whether
 // all frames could be written.
-#[derive(Drop)]
+#[derive(Clone, Copy)]
 struct Taken {
     from: usize,
     over: bool,
@@ -138,7 +176,15 @@ struct Taken {
 }
 
 // Encodes each complete line.
-fn each(digits: bool, reading: Reading, text: &[u8], frame: &mut [u8], out: &mut [u8]) -> Taken {
+fn each(
+    digits: bool,
+    reading: Reading,
+    to: &mut impl Write,
+    told: &mut impl Write,
+    text: &[u8],
+    frame: &mut [u8],
+    out: &mut [u8],
+) -> Taken {
     let mut from = 0;
     let mut over = reading.over;
     let mut lines = reading.lines;
@@ -154,9 +200,9 @@ fn each(digits: bool, reading: Reading, text: &[u8], frame: &mut [u8], out: &mut
                 written: written,
             };
         }
-        written = line(digits, over, lines, &rest[0..n], frame, out);
+        written = line(digits, over, lines, to, told, &rest[0..n], frame, out);
         over = false;
-        lines = std::num::wrapping_add_u64(lines, 1);
+        lines = lines.wrapping_add(1);
         from = from + n + 1;
     }
     Taken {
@@ -172,37 +218,34 @@ fn line(
     digits: bool,
     over: bool,
     before: u64,
+    to: &mut impl Write,
+    told: &mut impl Write,
     text: &[u8],
     frame: &mut [u8],
     out: &mut [u8],
 ) -> bool {
     if over {
-        let end = words::too_long(before, out);
-        return tell(part(out, 0, end));
+        return refused(before, Refusal::NotInGrammar, told, out);
     }
     match asked::encode(text, frame) {
-        Written::Bytes(n) => show(digits, part(frame, 0, n), out),
-        Written::Refused(why) => refused(before, why, text, out),
+        Written::Bytes(n) => show(digits, part(frame, 0, n), to, out),
+        Written::Refused(why) => refused(before, why, told, out),
     }
 }
 
-fn show(digits: bool, frame: &[u8], out: &mut [u8]) -> bool {
+fn show(digits: bool, frame: &[u8], to: &mut impl Write, out: &mut [u8]) -> bool {
     if !digits {
-        return io::write_all(STDOUT_FILENO, frame);
+        return to.write_all(frame).is_ok();
     }
     let n = puts::hex(frame, out, 0);
     let end = puts::byte(b'\n', out, n);
-    io::write_all(STDOUT_FILENO, part(out, 0, end))
+    to.write_all(part(out, 0, end)).is_ok()
 }
 
-fn refused(before: u64, why: Refusal, text: &[u8], out: &mut [u8]) -> bool {
-    let end = words::refused(before, why, text, out);
-    tell(part(out, 0, end))
-}
-
-// A program has no exit status: that a line was refused shows on standard error alone.
-fn tell(said: &[u8]) -> bool {
-    io::write_all(STDERR_FILENO, said);
+// The status tells nothing: that a line was refused shows on standard error alone.
+fn refused(before: u64, why: Refusal, told: &mut impl Write, out: &mut [u8]) -> bool {
+    let end = words::refused(before, why, out);
+    let _ = told.write_all(part(out, 0, end));
     true
 }
 
