@@ -2,7 +2,7 @@
  *
  * Platform: x86-64 Linux, System V calling convention. The header compiles as C89, C99, C11, C17 and C++11 or later. Link
  * with libbolsterweft.a (`cc program.c -lbolsterweft`). Of the C library the archive needs only `memcpy`, and `memset` for
- * `bolsterweft_encode`.
+ * `bolsterweft_encode` and the calls for a book.
  *
  *
  * WHAT EVERY CALL DOES
@@ -149,7 +149,7 @@ struct bolsterweft_found {
  * Cost: linear in the bytes searched. Each false start among them costs at most one frame's length more: the worst capture, two
  * overlapping Nest heads in every ten bytes that each claim some 1,000, takes 197 times as long as good frames of its size (31 ms
  * for 64 KiB, measured).
- * Stack: 256 bytes.
+ * Stack: 192 bytes.
  *
  * Example:
  *
@@ -269,7 +269,7 @@ struct bolsterweft_count bolsterweft_acknowledge(const uint8_t *frame, size_t fr
  * Cost: linear in text_length; in addition each object costs at most the number of its members times its size, twice
  * BOLSTERWEFT_COMMAND_MOST bytes are cleared, and a text that is too long is refused at once. An object of as many members as fit
  * is the worst text (14 ms, measured on a busy machine); the longest commands take 0.05 ms.
- * Stack: 24,000 bytes.
+ * Stack: 22,080 bytes.
  *
  * Example:
  *
@@ -360,7 +360,7 @@ struct bolsterweft_fault bolsterweft_sheet_fault(const uint8_t *text, size_t tex
  *   5  if the bytes are not one frame.
  *   4  if the room is too short.
  * Cost: linear in frame_length.
- * Stack: 640 bytes.
+ * Stack: 576 bytes.
  *
  * Example:
  *
@@ -420,7 +420,7 @@ struct bolsterweft_listed {
  *   4  if there is a frame, and the room is too short for its line.
  *   1  if no frame starts at or after the place.
  * Cost: that of the search, and linear in the frame's length.
- * Stack: 896 bytes.
+ * Stack: 832 bytes.
  *
  * Example:
  *
@@ -468,7 +468,7 @@ struct bolsterweft_listed bolsterweft_line_next_with(uint32_t kind, const uint8_
  * Refuses, in this order:
  *   4  if the room is too short.
  * Cost: that of searching the capture; twice that if the room is shorter than what is always enough.
- * Stack: 1,024 bytes.
+ * Stack: 896 bytes.
  *
  * Example:
  *
@@ -489,7 +489,7 @@ struct bolsterweft_count bolsterweft_list(const uint8_t *input, size_t input_len
  * Refuses, in this order:
  *   4  if the room is too short.
  * Cost: that of searching the capture; twice that if the room is shorter than what is always enough.
- * Stack: 1,024 bytes.
+ * Stack: 896 bytes.
  *
  * Example:
  *
@@ -515,7 +515,7 @@ struct bolsterweft_count bolsterweft_list_with(const uint8_t *input, size_t inpu
  *   5  if raw is out of range.
  *   4  if the room is too short.
  * Cost: constant.
- * Stack: 192 bytes.
+ * Stack: 256 bytes.
  *
  * Example:
  *
@@ -540,7 +540,7 @@ struct bolsterweft_reading {
  * Refuses, in this order:
  *   7  if the bytes are no such text, or its raw number is out of range.
  * Cost: constant.
- * Stack: 192 bytes.
+ * Stack: 256 bytes.
  *
  * Example:
  *
@@ -750,7 +750,7 @@ struct bolsterweft_entry bolsterweft_book_entry(const uint8_t *book, size_t book
  *   3  if it has no entry of that number.
  *   4  if the room is too short.
  * Cost: linear in book_length.
- * Stack: 16,704 bytes.
+ * Stack: 16,640 bytes.
  *
  * Example:
  *
@@ -774,7 +774,7 @@ struct bolsterweft_count bolsterweft_book_line(const uint8_t *book, size_t book_
  *   3  if it has no entry of that number.
  *   4  if the room is too short.
  * Cost: linear in book_length.
- * Stack: 16,704 bytes.
+ * Stack: 16,640 bytes.
  *
  * Example:
  *
@@ -796,7 +796,7 @@ struct bolsterweft_count bolsterweft_book_line_with(const uint8_t *book, size_t 
  *   8  if the bytes are not a book.
  *   4  if the room is too short.
  * Cost: linear in book_length.
- * Stack: 16,896 bytes.
+ * Stack: 16,768 bytes.
  *
  * Example:
  *
@@ -817,7 +817,7 @@ struct bolsterweft_count bolsterweft_book_list(const uint8_t *book, size_t book_
  *   8  if the bytes are not a book.
  *   4  if the room is too short.
  * Cost: linear in book_length.
- * Stack: 16,896 bytes.
+ * Stack: 16,768 bytes.
  *
  * Example:
  *
@@ -842,7 +842,7 @@ struct bolsterweft_count bolsterweft_book_list_with(const uint8_t *book, size_t 
  *   5  if the bytes are not one frame of the kind, or the new book would be over its limits.
  *   4  if the room is too short.
  * Cost: linear in book_length and frame_length.
- * Stack: 16,320 bytes.
+ * Stack: 16,384 bytes.
  *
  * Example:
  *

@@ -1,10 +1,9 @@
 #!/usr/bin/env python3
-"""What each crate costs: lines of code, contract, definition and proof, wrong answers that must be refused, the edits that they stand in, and
-seconds of check. The table stands in docs/COSTS.md.
+"""What each crate costs: lines of code, contract, definition and proof, wrong answers that must be refused, and the edits that they stand in.
+The table stands in docs/COSTS.md.
 
-scripts/costs.py --write [LOG]   writes the counts there; the seconds are those of LOG, what `rt check` wrote on a tree without target/, and
-                                 stay as they are without one
-scripts/costs.py --check         whether the counts there are those of the files
+scripts/costs.py --write   writes the counts there; the seconds of check stay as they are: they are of an older kit, and `rt` tells none now
+scripts/costs.py --check   whether the counts there are those of the files
 """
 import os
 import re
@@ -17,7 +16,7 @@ sys.dont_write_bytecode = True  # or Python leaves a folder beside those that ar
 import changes
 
 PAGE = os.path.join(ROOT, "docs", "COSTS.md")
-COLUMNS = ["crate", "code", "contract", "definition", "working definition", "proof", "wrong answers", "edits", "check, s"]
+COLUMNS = ["crate", "code", "contract", "definition", "working definition", "proof", "wrong answers", "edits", "check, s (older kit)"]
 HEAD = "| %s |\n|%s\n" % (" | ".join(COLUMNS), "---|" * len(COLUMNS))
 
 
@@ -53,7 +52,7 @@ def counts(crate):
 
 def crates():
     with open(os.path.join(ROOT, "crates.txt"), encoding="utf-8") as file:
-        return [line.split(":")[0] for line in file if line.strip() and not line.startswith("#")]
+        return [re.split(r"[ :]", line)[0] for line in file if line.strip() and not line.startswith("#")]
 
 
 def rows_of(page):
@@ -89,9 +88,6 @@ def main(words):
         print("%d passed, %d failed" % (len(crates()) - len(wrong), len(wrong)))
         return 1 if wrong else 0
     seconds = {crate: row[1] for crate, row in stands.items()}
-    if len(words) > 1:
-        with open(words[1], encoding="utf-8") as file:
-            seconds.update(re.findall(r"^rt: (\w+) proved \((\d+) s\)$", file.read(), re.M))
     start = page.index(HEAD)
     end = re.compile(r"^\| all .*\n", re.M).search(page, start)
     with open(PAGE, "w", encoding="utf-8") as file:

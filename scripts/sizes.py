@@ -8,7 +8,7 @@
 scripts/sizes.py             of this repository
 scripts/sizes.py FOLDER..    of each of these: the same program in C, over the crates there
 
-All is built without a proof (scripts/unproved), which takes some seconds. What the C library adds is not counted.
+What is measured is what was proved; what has not been proved there is proved first. What the C library adds is not counted.
 """
 import pathlib
 import struct
@@ -20,10 +20,10 @@ ROOT = pathlib.Path(__file__).resolve().parent.parent
 CODE, BITS, WRITABLE, LOADED = 4, 1, 1, 2
 
 
-def shell(command, *words):
-    """Runs a line of bash, with the kit's tools (scripts/x86-64.sh) and these words."""
+def shell(folder, command, *words):
+    """Runs a line of bash in a repository, with the kit's tools (scripts/x86-64.sh) and these words."""
     line = "set -euo pipefail; . scripts/x86-64.sh; " + command
-    return subprocess.run(["bash", "-c", line, "sizes", *map(str, words)], cwd=ROOT, check=True, stdout=subprocess.PIPE, text=True).stdout
+    return subprocess.run(["bash", "-c", line, "sizes", *map(str, words)], cwd=folder, check=True, stdout=subprocess.PIPE, text=True).stdout
 
 
 def objects(archive):
@@ -60,12 +60,11 @@ def code_and_constants(*files):
 
 def measured(folder, room):
     """What is measured of a repository, each with its code and constants."""
-    crates = shell('printf "%s\\n" "${library[@]}"').split()
-    archives = [room / ("lib%s.a" % crate) for crate in crates]
-    for crate, archive in zip(crates, archives):
-        shell('scripts/unproved "$1" "$2" "$3"', folder, crate, archive)
-    shell('scripts/unproved "$1" listing "$2"', folder, room / "listing")
+    found = shell(folder, 'lock "$root"; archives "${library[@]}"; printf "%s\\n" "${archives[@]}"').splitlines()
+    archives = [pathlib.Path(archive) for archive in found]
+    shell(folder, "bin/prove list")
     shell(
+        ROOT,
         '"$tools/clang" --target=x86_64-linux-gnu -std=c11 -O3 -ffreestanding -isystem scripts/headers -Wall -Wextra -Werror -c bench/smallest.c -o "$1.o"'
         ' && "$tools/ld.lld" --gc-sections --unresolved-symbols=ignore-all -e smallest -o "$1" "$1.o" "${@:2}"',
         room / "smallest",
@@ -73,7 +72,7 @@ def measured(folder, room):
     )
     yield "search and number text alone", code_and_constants((room / "smallest").read_bytes())
     yield "the archive for C", code_and_constants(*[file for archive in archives for file in objects(archive.read_bytes())])
-    yield "the program `listing`", code_and_constants((room / "listing").read_bytes())
+    yield "the program `listing`", code_and_constants((folder / "target/bin/listing").read_bytes())
 
 
 def main(words):

@@ -51,7 +51,7 @@ def declared(root, crate):
             if function.public:
                 head = "\n".join(lines[function.first : function.last])
                 owner = next((owners[number] for number in sorted(owners, reverse=True) if number < function.first), "")
-                inside = re.match(r'\s*pub (?:extern "C" )?fn \w+\((.*?)\)(?: ->|\n)', head, re.S).group(1)
+                inside = re.match(r'\s*pub (?:extern "C" )?fn \w+(?:<[^(]*>)?\((.*?)\)(?: ->|\n)', head, re.S).group(1)
                 asks = re.search(r"^\s*requires\b", head.split("\n{\n")[0].split("\n    {\n")[0], re.M)
                 yield function.name, parameters(inside, owner), bool(asks)
 
@@ -88,7 +88,7 @@ def arguments(block, records):
 def imports(text):
     """What each name that a file imports stands for."""
     return {
-        name or path.split(".")[-1]: path for path, name in re.findall(r"^use (Rattle·[\w·]+\.[\w.]*?)(?: as ([\w-]+))?$", text, re.M)
+        name or path.split(".")[-1]: path for path, name in re.findall(r"^use (Rattle\.[\w.]+?)(?: as ([\w-]+))?$", text, re.M)
     }
 
 
@@ -104,7 +104,7 @@ def rows(root):
                 continue
             body = re.sub(r"\s+", " ", block)
             claim = re.search(r"claim = λ κs\. (\w+)\.([\w-]+);", body)
-            made = re.search(r"function = function-of (\S+)\.Key\.name (\S+)\.Kinds\.ps (\S+)\.Kinds\.r (\S+)\.Symbol\.routine;", body)
+            made = re.search(r"function = function_of (\S+)\.Symbol\.symbol (\S+)\.Kinds\.ps (\S+)\.Kinds\.r (\S+)\.Symbol\.code;", body)
             given = re.search(r"args = λ κs a\. (?:record \{ (.*?) \}|tt);", body)
             later = re.search(r"later = λ κs s\. (.*?);", body)
             yield {
@@ -121,7 +121,7 @@ def rows(root):
 
 
 def place(number):
-    return " .1" * number + " .0"
+    return ".1" * number + ".0"
 
 
 def amiss(name, params, asks, claim, row):
@@ -132,13 +132,13 @@ def amiss(name, params, asks, claim, row):
     if [argument for argument, _ in claim] != [parameter for parameter, _ in params]:
         yield "the claim of %s has the arguments %s" % (name, [argument for argument, _ in claim])
         return
-    if row["made"] != {"Rattle·%s.proofs.%s" % (crate, ".".join(rest))}:
+    if row["made"] != {"Rattle.%s.proofs.%s" % (crate, ".".join(rest))}:
         yield "%s is not made of %s alone: %s" % (row["place"], name, sorted(row["made"]))
-    lent = [kind.startswith("&") and argument[1] != "RefT (List ℕ)" for argument, (_, kind) in zip(claim, params)]
-    given = [(parameter, "a" + place(i) + (" .now" if lent[i] else "")) for i, (parameter, _) in enumerate(params)]
+    lent = [kind.startswith("&") and argument[1] != "Bor (List ℕ)" for argument, (_, kind) in zip(claim, params)]
+    given = [(parameter, "a" + place(i) + (".now" if lent[i] else "")) for i, (parameter, _) in enumerate(params)]
     if row["args"] != given:
         yield "%s gives the arguments %s" % (row["place"], row["args"])
-    rooms = ["s%s .now" % place(i) for i, (_, kind) in enumerate(params) if kind.startswith("&mut")]
+    rooms = ["s%s.now" % place(i) for i, (_, kind) in enumerate(params) if kind.startswith("&mut")]
     if [row["later"]] != (rooms or ["[]"]):
         yield "%s takes the room afterwards from %s" % (row["place"], row["later"])
     if not row["listed"]:

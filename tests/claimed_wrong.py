@@ -48,27 +48,30 @@ def asking(name, clause, row):
 
 
 EDITS = [
-    asking("bolsterweft_value_read", "(⌜ width ≡ 2 ⌝ ∧ₛ ⌜ length (now bytes) ≡ 2 ⌝) ∗ ⊤ₛ", "value-read-proper"),
-    asking("bolsterweft_text", "⌜ decimals ≡ 2 ⌝", "text-of-proper"),
-    Edit("an argument from another parameter", ROWS + "Lines.antt", "content = a .1 .0 .now; at = a .1 .1 .0; len = a .1 .1 .1 .0;",
-         "content = a .1 .0 .now; at = a .1 .1 .1 .0; len = a .1 .1 .0;", "gives the arguments"),
-    Edit("the room afterwards from another parameter", ROWS + "Puts.antt", "later = λ κs s. s .1 .0 .now;\n    }\n\npub front-proper",
-         "later = λ κs s. s .0 .now;\n    }\n\npub front-proper", "takes the room afterwards from"),
+    asking("bolsterweft_value_read", "(width ≡ 2) × (length bytes.now ≡ 2)", "value-read-proper"),
+    asking("bolsterweft_text", "decimals ≡ 2", "text-of-proper"),
+    Edit("an argument from another parameter", ROWS + "Lines.antt", "content = a.1.0.now; at = a.1.1.0; len = a.1.1.1.0;",
+         "content = a.1.0.now; at = a.1.1.1.0; len = a.1.1.0;", "gives the arguments"),
+    Edit("the room afterwards from another parameter", ROWS + "Puts.antt", "later = λ κs s. s.1.0.now;\n    }\n\npub front-proper",
+         "later = λ κs s. s.0.now;\n    }\n\npub front-proper", "takes the room afterwards from"),
     Edit("an argument under another name", "crates/claims/specs/Paper/Table/Frames.antt", "  pub place : ℕ\n\nabbrev pub search",
          "  pub from : ℕ\n\nabbrev pub search", "the claim of frames::search has the arguments"),
-    Edit("another function's code", ROWS + "Frames.antt", "frames.search.Symbol.routine", "frames.one_frame.Symbol.routine", "is not made of"),
+    Edit("another function's code", ROWS + "Frames.antt", "frames.search.Symbol.code", "frames.one_frame.Symbol.code", "is not made of"),
     Edit("a row that is not listed", ROWS + "Book.antt", "rows = opening ∷ entry", "rows = opening", "is not in its file's list"),
     Edit("a claim of another function", "crates/claims/specs/Paper/Table/Book.antt", '"book::open"', '"book::opens"', "book::open has 0 claims"),
 ]
 
 
-def copy(to, parts):
-    for part in parts:
-        source = ROOT / part
-        if source.is_dir():
-            shutil.copytree(source, to / part, symlinks=True)
-        else:
-            shutil.copy(source, to / part)
+def copy(to):
+    """The crate `claims` and those below, without what rt left in them and without their edits, as a repository."""
+    lines = (ROOT / "crates.txt").read_text(encoding="utf-8").splitlines()
+    below = next(line.split(":")[1].split() for line in lines if line.startswith("claims:"))
+    wanted = [line for line in lines if re.split("[ :]", line)[0] in (*below, "claims")]
+    (to / "crates.txt").write_text("".join(line + "\n" for line in wanted), encoding="utf-8")
+    for line in wanted:
+        crate = line.split(":")[0]
+        shutil.copytree(ROOT / "crates" / crate, to / "crates" / crate, ignore=shutil.ignore_patterns("out", "must-fail"))
+    (to / ".git").mkdir()
 
 
 def change(root, edits):
@@ -91,7 +94,7 @@ def seen_by_test(edits):
     """Each edit alone, in one copy that is mended after each."""
     with tempfile.TemporaryDirectory() as folder:
         root = pathlib.Path(folder)
-        copy(root, ["crates"])
+        copy(root)
         for edit in edits:
             path = root / edit.path
             before = path.read_text(encoding="utf-8")
@@ -103,17 +106,19 @@ def seen_by_test(edits):
 
 
 def seen_by_prover(edits):
-    """The edits of one crate at once: each has its row refused, and the crate itself is proved."""
+    """The edits of one crate at once: each has its row refused, and the crate itself is proved. (`rt ci` takes of the crates below what it
+    proved before.)"""
     with tempfile.TemporaryDirectory() as folder:
         root = pathlib.Path(folder)
-        copy(root, ["crates", "crates.txt", "target"])
+        copy(root)
         wrong = change(root, edits)
         if wrong:
             yield wrong
             return
-        status, said = run("rt", "check", "claims", cwd=folder)
+        status, said = run("rt", "ci", cwd=folder)
+    is_proved = re.search(r"^rt: host (proved|is kept)", said, re.M)
     for edit in edits:
-        if status == 0 or "host proved" not in said or not re.search(r"error: `%s`" % re.escape(edit.row), said):
+        if status == 0 or not is_proved or "rt: claims NOT PROVED" not in said or not re.search(r"error: `%s`" % re.escape(edit.row), said):
             yield "%s: the prover does not refuse %s" % (edit.name, edit.row)
 
 

@@ -4,47 +4,65 @@ import re
 from typing import NamedTuple
 
 ROOT = pathlib.Path(__file__).resolve().parent.parent
-# It repeats promises of `checks`, one call each, for the tests in C to call: what is shown of those functions is shown of its own.
-REPEATS = {"probe"}
+# They repeat promises of other crates, one call each, for programs and tests in C to call: what is shown of those functions is shown of
+# their own.
+REPEATS = {"probe", "host_c", "host_lines_c", "host_list_c", "host_sheet_c", "host_asked_c", "host_book_c"}
 
 
 class Function(NamedTuple):
-    """A function as the prover names it, whether it is public, and its first and last line in its file."""
+    """A function as the prover names it, whether it is public, its first and last line in its file, and the name of the cycle of calls
+    that it is in."""
 
     name: str
     public: bool
     first: int
     last: int
+    cycle: str
 
 
 def functions_in(crate, path, root=ROOT):
     """The functions of a file: one ends at the first brace that stands as far left as it begins."""
     parts = path.relative_to(root / "crates" / crate / "src").with_suffix("").parts
     module = [crate, *(part for part in parts if part not in ("lib", "main"))]
-    kind, begun = [], None
+    kind, begun, cycle = [], None, ""
     for number, line in enumerate(path.read_text(encoding="utf-8").splitlines()):
         inside = re.match(r"impl (\w+)", line)
         found = re.match(r'( *)(pub(?:\(crate\))? )?(?:extern "C" )?fn (\w+)', line)
+        named = re.match(r" *#\[cycle\((\w+)\)\]", line)
         if inside:
             kind = [inside.group(1)]
+        elif named:
+            cycle = named.group(1)
         elif found:
-            begun = (found, number)
+            begun = (found, number, cycle)
+            cycle = ""
         elif begun and line == begun[0].group(1) + "}":
             indent, visible, name = begun[0].groups()
-            yield Function("::".join([*module, *(kind if indent else []), name]), visible == "pub ", begun[1], number)
+            yield Function("::".join([*module, *(kind if indent else []), name]), visible == "pub ", begun[1], number, begun[2])
             begun = None
 
 
-def proved_in(crate, place):
-    """The functions whose proof stands in a folder of `proofs`: one, or all those that call each other, joined by `+`."""
+def all_functions(crate, root=ROOT):
+    """The functions of a crate."""
+    for path in sorted((root / "crates" / crate / "src").rglob("*.rt")):
+        yield from functions_in(crate, path, root)
+
+
+def proved_in(crate, place, root=ROOT):
+    """The functions whose proof stands in a folder of `proofs`: one, or all those of a cycle of calls, whose name has a `+` before it."""
     *module, last = place.split("/")
-    return ["::".join([crate, *module, name]) for name in last.strip("+").split("+")]
+    if last.startswith("+"):
+        return [function.name for function in all_functions(crate, root) if function.cycle == last[1:]]
+    return ["::".join([crate, *module, last])]
 
 
-def called_by_each_other(crate):
+def called_by_each_other(crate, root=ROOT):
     """The sets of a crate's functions that call each other, and so have one proof."""
-    proofs = ROOT / "crates" / crate / "proofs"
-    return [set(proved_in(crate, str(path.relative_to(proofs)))) for path in sorted(proofs.rglob("+*"))]
+    found = {}
+    for function in all_functions(crate, root):
+        if function.cycle:
+            found.setdefault(function.cycle, set()).add(function.name)
+    return list(found.values())
 
 
 def libraries(root=ROOT):
@@ -54,5 +72,4 @@ def libraries(root=ROOT):
 
 def public_functions(crate):
     """The names of a crate's public functions."""
-    for path in sorted((ROOT / "crates" / crate / "src").rglob("*.rt")):
-        yield from (function.name for function in functions_in(crate, path) if function.public)
+    yield from (function.name for function in all_functions(crate) if function.public)

@@ -1,5 +1,6 @@
 #!/usr/bin/env python3
-"""Holds include/bolsterweft.h to the crates `host`, `host_lines`, `host_list`, `host_sheet`, `host_asked` and `host_book`, and to docs/API.md.
+"""Holds include/bolsterweft.h to docs/API.md, to the structs of the crates `host`, `host_lines`, `host_list`, `host_sheet`, `host_asked` and
+`host_book`, and to what `host_c`, `host_lines_c`, `host_list_c`, `host_sheet_c`, `host_asked_c` and `host_book_c` export.
 
 tests/header.py          compares; the last line is `N passed, M failed`
 tests/header.py --wrong  moves, in copies, each member and each type of either side, and more, and shows that each is found
@@ -16,7 +17,13 @@ ROOT = pathlib.Path(__file__).resolve().parent.parent
 HEADER = ROOT / "include/bolsterweft.h"
 API = ROOT / "docs/API.md"
 CRATES = ("host", "host_lines", "host_list", "host_sheet", "host_asked", "host_book")
-SOURCES = sorted(path for crate in CRATES for path in (ROOT / "crates" / crate / "src").glob("**/*.rt"))
+
+
+def sources_of(crates):
+    """The text of all source files of these crates."""
+    paths = sorted(path for crate in crates for path in (ROOT / "crates" / crate / "src").glob("**/*.rt"))
+    return "\n".join(path.read_text() for path in paths)
+
 
 # Rattle's type: C's, its size
 TYPES = {
@@ -45,7 +52,7 @@ def without_comments(text):
 def rattle_structs(text):
     """Name: a list of members, each its name and its C type."""
     found = {}
-    for name, body in re.findall(r"#\[repr\(C\)\]\s*pub struct (\w+) \{(.*?)\}", text, re.S):
+    for name, body in re.findall(r"#\[repr\(C\)\]\s*(?:#\[derive\([\w, ]*\)\]\s*)?pub struct (\w+) \{(.*?)\}", text, re.S):
         members = re.findall(r"pub (\w+): (\w+),", body)
         found[in_c(name)] = [(member, TYPES.get(kind, (kind, 0))[0]) for member, kind in members]
     return found
@@ -158,7 +165,7 @@ def version_number(text):
 # ---- compared
 
 
-def compare(header, sources, api, version, changelog):
+def compare(header, sources, exports, api, version, changelog):
     """Each comparison: its name, and whether it holds."""
     ours, theirs = c_structs(header), rattle_structs(sources)
     sizes, offsets = asserted(header)
@@ -168,8 +175,9 @@ def compare(header, sources, api, version, changelog):
         size, places = laid_out(theirs.get(name, []))
         yield f"its size, of {name}", size is not None and sizes.get(name) == size
         yield f"its offsets, of {name}", {m: at for (n, m), at in offsets.items() if n == name} == places
-    ours, theirs = c_functions(header), rattle_functions(sources)
+    ours, theirs = c_functions(header), rattle_functions(exports)
     yield "the same functions", bool(theirs) and set(ours) == set(theirs)
+    yield "the same functions in the library and in the archive", rattle_functions(sources) == theirs
     for name in sorted(set(ours) | set(theirs)):
         yield f"{name}()", ours.get(name) == theirs.get(name)
     number = re.search(r"#define BOLSTERWEFT_VERSION (\d+)", header)
@@ -193,8 +201,8 @@ def compare(header, sources, api, version, changelog):
 
 
 def read():
-    return [HEADER.read_text(), "\n".join(path.read_text() for path in SOURCES), API.read_text(), (ROOT / "VERSION").read_text(),
-            (ROOT / "docs/CHANGELOG.md").read_text()]
+    return [HEADER.read_text(), sources_of(CRATES), sources_of(crate + "_c" for crate in CRATES), API.read_text(),
+            (ROOT / "VERSION").read_text(), (ROOT / "docs/CHANGELOG.md").read_text()]
 
 
 def wrong_versions(header, sources):

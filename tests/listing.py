@@ -737,7 +737,7 @@ def write(path, data):
 
 
 def run(cases, asked):
-    """What a program writes on standard output and on standard error, for each case; on Arm under the kit's emulator."""
+    """What a program writes on standard output and on standard error, for each case."""
     os.makedirs(os.path.join(ROOT, "target"), exist_ok=True)
     with tempfile.TemporaryDirectory(dir=os.path.join(ROOT, "target"), prefix="listing-") as folder:
         os.mkdir(os.path.join(folder, "empty"))

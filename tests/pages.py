@@ -16,7 +16,6 @@ refusals.
 Ends with `N passed, M failed`: a test is a command, a program, a message or a call.
 """
 import pathlib
-import platform
 import re
 import shutil
 import subprocess
@@ -30,11 +29,10 @@ import table
 
 ROOT = pathlib.Path(__file__).resolve().parent.parent
 BLOCK = re.compile(r"^```(\w+)\n(.*?)^```$", re.M | re.S)
-# What an example needs and a machine may lack. The gate has the second, by `rt ci`; it is for x86-64, and runs only there without the
-# kit's emulator.
+# What an example needs and a machine may lack. The gate has the second, by bin/prove.
 MAY_LACK = {
     "jq": lambda: shutil.which("jq"),
-    "target/bin/listing": lambda: platform.machine() == "x86_64" and (ROOT / "target/bin/listing").exists(),
+    "target/bin/listing": lambda: (ROOT / "target/bin/listing").exists(),
 }
 # The public functions with their refusals, to which the proofs hold the code.
 FUNCTIONS = "crates/claims/specs/Paper/Functions.antt"

@@ -1,5 +1,5 @@
-"""The proved programs, for the tests in Python; and the lock on target/, as in scripts/lock.sh: `rt` and the tests write there, and two at
-once would spoil each other's files."""
+"""The proved programs, for the tests in Python; and the lock on target/ and built/, as in scripts/lock.sh: the tests and bin/prove write
+there, and two at once would spoil each other's files."""
 import fcntl
 import os
 import pathlib
@@ -7,6 +7,8 @@ import subprocess
 import sys
 
 ROOT = pathlib.Path(__file__).resolve().parent.parent
+# What bin/prove is asked for, of each program.
+GOALS = {"listing": "list", "verdicts": "why", "encoding": "encode"}
 
 
 def lock_is_held():
@@ -43,7 +45,7 @@ def quietly(*words):
 
 def program(name):
     """The program's path; it is proved and built if that has not been done."""
-    quietly("rt", "check", name)
+    quietly("bin/prove", GOALS[name])
     return ROOT / "target" / "bin" / name
 
 

@@ -19,6 +19,8 @@ ROOT = pathlib.Path(__file__).resolve().parent.parent
 FOREIGN = ("memcpy", "memset")
 # values nest 16 deep, and a call for one that is deeper answers at once
 NESTED, NESTED_MOST = "jsontext::value", 17
+# what a function that calls none uses below its stack pointer
+BELOW = re.compile(r"(?<![\w(])-(0x[0-9a-f]+)\(%rsp")
 LINE = re.compile(r"^\s+([0-9a-f]+):\t\s*(\S+)\s*(.*)$")
 RELOCATION = re.compile(r"^\s+[0-9a-f]+: R_X86_64_(?:PLT32|PC32)\s+(.+?)(?:[-+]0x[0-9a-f]+)?$")
 
@@ -88,7 +90,7 @@ class Stack:
             depths[i] = depth
             _, word, rest, target = code[i]
             depth, base = self.moved(name, word, rest, depth, base)
-            most = max(most, depth)
+            most = max([most, depth, *(depth + int(below, 16) for below in BELOW.findall(rest))])
             if word.startswith("call"):
                 if not target and "*" in rest:
                     sys.exit(f"stack: {name} calls by a register")
