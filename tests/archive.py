@@ -59,14 +59,14 @@ def main():
     found = list(objects(pathlib.Path(sys.argv[1]).read_bytes()))
     defined = {name for code in found for name in exported(code)}
     needed = {name for code in found if not CLEARS & exported(code) for name, here in symbols(code) if not here} - defined
-    to_clear = {name for code in found if CLEARS & exported(code) for name, here in symbols(code) if not here} - defined
+    to_clear = [{name for name, here in symbols(code) if not here} - defined for code in found if CLEARS & exported(code)]
     writable = sum(size for code in found for _, _, flags, _, size, _ in sections(code) if flags & WRITABLE)
     header = re.sub(r"/\*.*?\*/", " ", (ROOT / "include/bolsterweft.h").read_text(), flags=re.S)
     declared = set(re.findall(r"^(?:struct )?\w+ (bolsterweft_\w+)\([^;{]*\);", header, re.M))
     tests = [
         ("it exports the functions of the header", bool(declared) and defined == declared, defined ^ declared),
         ("it needs memcpy", needed == FOREIGN, needed),
-        ("its objects that encode and list a book need memset, too", to_clear == FOREIGN | TO_CLEAR, to_clear),
+        ("its object that encodes and the one that lists a book need memset, too", to_clear == 2 * [FOREIGN | TO_CLEAR], to_clear),
         ("it has no state", bool(found) and writable == 0, writable),
     ]
     for name, holds, seen in tests:
