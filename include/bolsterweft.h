@@ -149,7 +149,7 @@ struct bolsterweft_found {
  * Cost: linear in the bytes searched. Each false start among them costs at most one frame's length more: the worst capture, two
  * overlapping Nest heads in every ten bytes that each claim some 1,000, takes 197 times as long as good frames of its size (31 ms
  * for 64 KiB, measured).
- * Stack: 192 bytes.
+ * Stack: 256 bytes.
  *
  * Example:
  *
@@ -176,7 +176,7 @@ struct bolsterweft_payload {
  *   2  if the kind is not 1 to 5.
  *   5  if the bytes are not one frame.
  * Cost: linear in frame_length.
- * Stack: 192 bytes.
+ * Stack: 256 bytes.
  *
  * Example:
  *
@@ -217,7 +217,7 @@ struct bolsterweft_verdict {
  *   2  if the kind is not 1 to 5.
  *   3  if the place is beyond buffer_length.
  * Cost: linear in the frame's length.
- * Stack: 128 bytes.
+ * Stack: 256 bytes.
  *
  * Example:
  *
@@ -243,7 +243,7 @@ struct bolsterweft_count {
  *   5  if the bytes are not one Homiq frame, or its type is `a`.
  *   4  if the room is too short.
  * Cost: linear in frame_length.
- * Stack: 384 bytes.
+ * Stack: 448 bytes.
  *
  * Example:
  *
@@ -269,7 +269,7 @@ struct bolsterweft_count bolsterweft_acknowledge(const uint8_t *frame, size_t fr
  * Cost: linear in text_length; in addition each object costs at most the number of its members times its size, twice
  * BOLSTERWEFT_COMMAND_MOST bytes are cleared, and a text that is too long is refused at once. An object of as many members as fit
  * is the worst text (14 ms, measured on a busy machine); the longest commands take 0.05 ms.
- * Stack: 22,080 bytes.
+ * Stack: 21,760 bytes.
  *
  * Example:
  *
@@ -334,7 +334,7 @@ struct bolsterweft_fault {
  * Answers: the line and the test. They are 0 exactly if the bytes are a sheet.
  * Refuses: never.
  * Cost: linear in text_length.
- * Stack: 192 bytes.
+ * Stack: 128 bytes.
  *
  * Example:
  *
@@ -385,7 +385,7 @@ struct bolsterweft_count bolsterweft_line(uint32_t kind, const uint8_t *frame, s
  *   5  if the bytes are not one frame.
  *   4  if the room is too short.
  * Cost: linear in frame_length.
- * Stack: 640 bytes.
+ * Stack: 576 bytes.
  *
  * Example:
  *
@@ -468,7 +468,7 @@ struct bolsterweft_listed bolsterweft_line_next_with(uint32_t kind, const uint8_
  * Refuses, in this order:
  *   4  if the room is too short.
  * Cost: that of searching the capture; twice that if the room is shorter than what is always enough.
- * Stack: 896 bytes.
+ * Stack: 1,024 bytes.
  *
  * Example:
  *
@@ -489,7 +489,7 @@ struct bolsterweft_count bolsterweft_list(const uint8_t *input, size_t input_len
  * Refuses, in this order:
  *   4  if the room is too short.
  * Cost: that of searching the capture; twice that if the room is shorter than what is always enough.
- * Stack: 896 bytes.
+ * Stack: 1,024 bytes.
  *
  * Example:
  *
@@ -699,7 +699,7 @@ struct bolsterweft_entries {
  * Refuses, in this order:
  *   8  if the bytes are not a book.
  * Cost: linear in book_length.
- * Stack: 16,256 bytes.
+ * Stack: 16,320 bytes.
  *
  * Example:
  *
@@ -728,7 +728,7 @@ struct bolsterweft_entry {
  *   8  if the bytes are not a book.
  *   3  if it has no entry of that number.
  * Cost: linear in book_length. So a walk over all entries is quadratic; `bolsterweft_book_list` is not.
- * Stack: 16,256 bytes.
+ * Stack: 16,384 bytes.
  *
  * Example:
  *
@@ -796,7 +796,7 @@ struct bolsterweft_count bolsterweft_book_line_with(const uint8_t *book, size_t 
  *   8  if the bytes are not a book.
  *   4  if the room is too short.
  * Cost: linear in book_length.
- * Stack: 16,768 bytes.
+ * Stack: 16,704 bytes.
  *
  * Example:
  *
@@ -817,7 +817,7 @@ struct bolsterweft_count bolsterweft_book_list(const uint8_t *book, size_t book_
  *   8  if the bytes are not a book.
  *   4  if the room is too short.
  * Cost: linear in book_length.
- * Stack: 16,768 bytes.
+ * Stack: 16,704 bytes.
  *
  * Example:
  *
@@ -842,7 +842,7 @@ struct bolsterweft_count bolsterweft_book_list_with(const uint8_t *book, size_t 
  *   5  if the bytes are not one frame of the kind, or the new book would be over its limits.
  *   4  if the room is too short.
  * Cost: linear in book_length and frame_length.
- * Stack: 16,384 bytes.
+ * Stack: 16,512 bytes.
  *
  * Example:
  *

@@ -21,16 +21,18 @@ class Function(NamedTuple):
 
 
 def functions_in(crate, path, root=ROOT):
-    """The functions of a file: one ends at the first brace that stands as far left as it begins."""
+    """The functions of a file: one ends at the first brace that stands as far left as it begins. (Those of a trait for a type have the names
+    of both before them.)"""
     parts = path.relative_to(root / "crates" / crate / "src").with_suffix("").parts
     module = [crate, *(part for part in parts if part not in ("lib", "main"))]
     kind, begun, cycle = [], None, ""
     for number, line in enumerate(path.read_text(encoding="utf-8").splitlines()):
-        inside = re.match(r"impl (\w+)", line)
+        inside = re.match(r"impl(?:<[^>]*>)? (?:(\w+)(?:<(\w+)>)? for )?(\w+)", line)
         found = re.match(r'( *)(pub(?:\(crate\))? )?(?:extern "C" )?fn (\w+)', line)
         named = re.match(r" *#\[cycle\((\w+)\)\]", line)
         if inside:
-            kind = [inside.group(1)]
+            trait, argument, name = inside.groups(default="")
+            kind = [name + trait + argument]
         elif named:
             cycle = named.group(1)
         elif found:

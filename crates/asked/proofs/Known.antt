@@ -5,6 +5,7 @@ use mathlib.Core.Logic.{inl}
 use mathlib.Core.Path.{refl}
 use Prim.Native.Nat.{ℕ, ◌-◌}
 use native.Mathlib.Omega.{arith}
+use Rattle.std.specs.Prelude.{Some, None}
 use Rattle.digits.specs.Paper.Ascii.{ascii}
 use Rattle.digits.specs.Paper.Bits.{lows}
 use Rattle.digits.specs.Paper.Bytes.{Bytes}
@@ -32,7 +33,7 @@ use Rattle.asked.specs.Paper.Means.{named, Fills, Means}
 use Rattle.asked.specs.Paper.Means as means
 use Rattle.shapes.specs.Paper.Shapes.{number_field, fields_of}
 use Rattle.asked.specs.Work.Rows.{same_text}
-use Rattle.asked.specs.declared.lacks.Lack.TheVariants.{Text, Nothing}
+use Rattle.asked.specs.declared.lacks.Lack.TheVariants.{Text}
 use Rattle.asked.proofs.Laws.LineMeans.{is_fine, by_members, counted, line-within}
 use Rattle.asked.proofs.Laws.Objects.{Written, none, under, and, called, is_other, are_once, once-of}
 use Rattle.asked.proofs.Laws.Refused.{lacks-none}
@@ -154,10 +155,10 @@ pub means-nothing : (m : Message) → Means [] m → ⊥
 means-nothing m x = texts.no-object _ x.many.object
 
 -- a text with a name twice lacks the grammar, and the tail above nothing
-pub twice-lacks : LackOf texts.twice Text
+pub twice-lacks : LackOf texts.twice (Some Text)
 twice-lacks = without texts.not-in-the-grammar refl
 
-pub tail-lacks : LackOf tail_text Nothing
+pub tail-lacks : LackOf tail_text None
 unfolding fields_of means.named
 tail-lacks =
     lacks-none {r = 5} {fs = []}

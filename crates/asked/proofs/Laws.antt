@@ -1,3 +1,4 @@
+pub mod Results
 pub mod Lift
 pub mod Rebuilt
 pub mod Slots

@@ -6,16 +6,16 @@ ghost use Rattle.jsontext.specs.Paper.Names.{Member as Found};
 ghost use Rattle.asked.specs.Paper.Lacks.{HasOf, HasKind, LackOf, LackIn};
 ghost use Rattle.asked.specs.Paper.Means.{HeadOf};
 ghost use Rattle.shapes.specs.Paper.Shapes.{shape_at};
-ghost use Rattle.asked.specs.Work.Lacks.{member_at, is_there, Looked};
+ghost use Rattle.asked.specs.Work.Lacks.{member_at, Looked};
 
 use crate::{rows, sorts, strings, values, wholes};
+use digits::refusal::Refusal;
 use frames::kinds;
 use jsontext::members;
-use jsontext::members::{Many, Value};
-use puts::Written;
+use jsontext::members::Value;
 
 // The first thing that a text lacks. Where `there` is true, a member with the name stands there, and its value is not as it is to be.
-#[derive(Clone, Copy)]
+#[derive(Clone, Copy, Debug, PartialEq, Eq)]
 pub enum Lack {
     // It is not JSON, or over a limit.
     Text,
@@ -31,31 +31,29 @@ pub enum Lack {
     Extra,
     // A state's voltages are not those of its data.
     Volts,
-    // It lacks nothing: it means a message, if that is within its limits.
-    Nothing,
 }
 
-// The first thing that a text lacks to be a command, in the order of the variants of `Lack`; `Nothing` if it lacks none.
-pub fn first(text: &[u8]) -> Lack
+// The first thing that a text lacks to be a command, in the order of the variants of `Lack`. One that lacks nothing means a message, if that is
+// within its limits.
+pub fn first(text: &[u8]) -> Option<Lack>
     ensures { LackOf text.now result }
 {
     if !jsontext::accepts(text) {
-        return Lack::Text;
+        return Some(Lack::Text);
     }
     if !is_object(text) {
-        return Lack::Object;
+        return Some(Lack::Object);
     }
     if !has_kind(text) {
-        return Lack::Kind {
-            there: stands(members::value_of(text, b"kind")),
-        };
+        return Some(Lack::Kind {
+            there: members::value_of(text, b"kind").is_ok(),
+        });
     }
-    let row = rows::row(text);
-    if row == 0 {
-        return Lack::Msg {
-            there: stands(members::value_of(text, b"msg")),
-        };
-    }
+    let Some(row) = rows::row(text) else {
+        return Some(Lack::Msg {
+            there: members::value_of(text, b"msg").is_ok(),
+        });
+    };
     of_row(text, row)
 }
 
@@ -63,73 +61,54 @@ pub fn first(text: &[u8]) -> Lack
 fn is_object(text: &[u8]) -> bool
     ensures { Decides ((ms : List Found) × IsObject text.now ms) result }
 {
-    match members::count(text) {
-        Many::Is(n) => true,
-        Many::Refused(why) => false,
-    }
+    members::count(text).is_ok()
 }
 
 // Whether it has a kind of the table.
 fn has_kind(text: &[u8]) -> bool
     ensures { Decides (HasKind text.now) result }
 {
-    let kind = wholes::whole(values::value(text, b"kind"), 0, 255);
-    if kind.state != values::READ {
+    let Ok(kind) = wholes::whole(values::value(text, b"kind"), 0, 255) else {
         return false;
-    }
-    kinds::known(kind.value as u8)
-}
-
-// Whether a member was found.
-fn stands(found: Value) -> bool
-    ensures { result ≡ is_there found }
-{
-    match found {
-        Value::At { from, to } => true,
-        Value::Refused(why) => false,
-    }
+    };
+    kinds::known(kind as u8)
 }
 
 // What a text lacks that has the kind and the msg of a row.
-fn of_row(text: &[u8], row: u8) -> Lack
+fn of_row(text: &[u8], row: u8) -> Option<Lack>
     requires { HeadOf text.now row }
     ensures { LackIn text.now row result }
 {
     let mut digits = [0u8; strings::MOST];
-    let member = first_member(text, row, &mut digits);
-    let many = rows::many(row);
-    if (member as usize) < many {
-        return Lack::Member {
+    if let Some(member) = first_member(text, row, &mut digits) {
+        return Some(Lack::Member {
             row: row,
             member: member,
-            there: stands(found(text, row, member)),
-        };
+            there: found(text, row, member).is_ok(),
+        });
     }
-    if !crate::has_so_many(text, many + 2) {
-        return Lack::Extra;
+    if !crate::has_so_many(text, rows::many(row) + 2) {
+        return Some(Lack::Extra);
     }
     let mut content = [0u8; strings::MOST];
-    let draft = crate::by_row(row, text, &mut digits, &mut content);
-    if draft.state == values::NONE {
-        return Lack::Volts;
+    if !values::is_spelt(crate::by_row(row, text, &mut digits, &mut content)) {
+        return Some(Lack::Volts);
     }
-    Lack::Nothing
+    None
 }
 
-// The first member of a row that a text does not have in its sort; how many there are, if it has all.
-fn first_member(text: &[u8], row: u8, digits: &mut [u8; strings::MOST]) -> u8
+// The first member of a row that a text does not have in its sort.
+fn first_member(text: &[u8], row: u8, digits: &mut [u8; strings::MOST]) -> Option<u8>
     requires { (1 ≤ row) × (row ≤ 23) }
     ensures { Looked text.now (shape_at row).members result }
 {
-    let many = rows::many(row);
-    let mut i: u8 = 0;
-    while (i as usize) < many {
+    let many = rows::many(row) as u8;
+    for i in 0..many {
         if !has(text, row, i, digits) {
-            return i;
+            return Some(i);
         }
-        i += 1;
     }
-    i
+    None
 }
 
 // Whether a text has a member of a row in its sort.
@@ -137,24 +116,22 @@ fn has(text: &[u8], row: u8, member: u8, digits: &mut [u8; strings::MOST]) -> bo
     requires { (row ≤ 23) × (member < length (shape_at row).members) }
     ensures { Decides (HasOf text.now (member_at row member)) result }
 {
-    match found(text, row, member) {
-        Value::At { from, to } => sorts::spells(
-            &text[from..to],
-            shapes::sort_of(row, member),
-            digits,
-        ),
-        Value::Refused(why) => false,
-    }
+    let Ok(value) = found(text, row, member) else {
+        return false;
+    };
+    sorts::spells(
+        &text[value.from..value.to],
+        shapes::sort_of(row, member),
+        digits,
+    )
 }
 
 // Where the value of a member of a row stands in a text.
-fn found(text: &[u8], row: u8, member: u8) -> Value
+fn found(text: &[u8], row: u8, member: u8) -> Result<Value, Refusal>
     requires { (row ≤ 23) × (member < length (shape_at row).members) }
     ensures { FindsValue text.now (member_at row member).name result }
 {
     let mut name = [0u8; 8];
-    match shapes::name_of(row, member, &mut name) {
-        Written::Bytes(n) => members::value_of(text, &name[0..n]),
-        Written::Refused(why) => Value::Refused(why),
-    }
+    let n = shapes::name_of(row, member, &mut name)?;
+    members::value_of(text, &name[0..n])
 }

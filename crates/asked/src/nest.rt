@@ -4,6 +4,7 @@ ghost use Rattle.digits.specs.Paper.Read.{Decides};
 ghost use Rattle.asked.specs.Work.Draft.{Drafts};
 ghost use Rattle.asked.specs.Work.Got.{Volts};
 
+use crate::values::Reason;
 use crate::{Draft, readings, strings, values, wholes};
 use messages::Message;
 use messages::nest::Response;
@@ -14,15 +15,15 @@ pub(crate) fn by_row(
     text: &[u8],
     digits: &mut [u8; strings::MOST],
     content: &mut [u8; strings::MOST],
-) -> Draft
+) -> Result<Draft, Reason>
     requires { (8 ≤ row) × (row ≤ 13) }
-    ensures { Drafts text.now row content.new result.message result.len result.state }
+    ensures { Drafts text.now row content.new result }
 {
     match row {
         8 => climate(text, digits),
         9 => state(text, digits, content),
-        10 => empty(Response::Break),
-        11 => empty(Response::End),
+        10 => Ok(empty(Response::Break)),
+        11 => Ok(empty(Response::End)),
         12 => chars(text, content),
         _ => other(text, digits, content),
     }
@@ -32,56 +33,56 @@ pub(crate) fn command(
     text: &[u8],
     digits: &mut [u8; strings::MOST],
     content: &mut [u8; strings::MOST],
-) -> Draft
-    ensures { Drafts text.now 7 content.new result.message result.len result.state }
+) -> Result<Draft, Reason>
+    ensures { Drafts text.now 7 content.new result }
 {
     let id = wholes::whole(values::value(text, b"id"), 0, 65535);
     let read = strings::hex(values::value(text, b"data"), digits, content);
-    Draft {
-        state: values::worse(id.state, read.state),
-        message: Message::Command {
-            id: id.value as u16,
-        },
-        len: read.len,
-    }
+    let (id, len) = values::both(id, read)?;
+    Ok(Draft {
+        message: Message::Command { id: id as u16 },
+        len: len,
+    })
 }
 
-fn climate(text: &[u8], digits: &mut [u8; strings::MOST]) -> Draft
-    ensures { Drafts text.now 8 [] result.message result.len result.state }
+fn climate(text: &[u8], digits: &mut [u8; strings::MOST]) -> Result<Draft, Reason>
+    ensures { Drafts text.now 8 [] result }
 {
     let temp = readings::reading(values::value(text, b"temp"), 2, -32768, 32767, digits);
     let hum = readings::reading(values::value(text, b"hum"), 1, 0, 65535, digits);
-    Draft {
-        state: values::worse(temp.state, hum.state),
+    let (temp, hum) = values::both(temp, hum)?;
+    Ok(Draft {
         message: Message::Response(Response::Climate {
-            temperature: temp.value as i16,
-            humidity: hum.value as u16,
+            temperature: temp as i16,
+            humidity: hum as u16,
         }),
         len: 0,
-    }
+    })
 }
 
 // A state's voltages must be those of its data: a voltage that no data have disagrees, and is not outside its limits.
-fn state(text: &[u8], digits: &mut [u8; strings::MOST], content: &mut [u8; strings::MOST]) -> Draft
-    ensures { Drafts text.now 9 content.new result.message result.len result.state }
+fn state(
+    text: &[u8],
+    digits: &mut [u8; strings::MOST],
+    content: &mut [u8; strings::MOST],
+) -> Result<Draft, Reason>
+    ensures { Drafts text.now 9 content.new result }
 {
     let vin = readings::reading(values::value(text, b"vin"), 2, 0, 65535, digits);
     let vop = readings::reading(values::value(text, b"vop"), 3, 0, 65535, digits);
     let vbat = readings::reading(values::value(text, b"vbat"), 3, 0, 65535, digits);
     let read = strings::hex(values::value(text, b"data"), digits, content);
-    let n = read.len;
+    let volts = values::both(vin, values::both(vop, vbat));
+    let (vin, (vop, vbat)) = values::firm(volts)?;
+    let len = read?;
     let all = &content[..];
-    let agrees = agree(&all[0..n], vin.value, vop.value, vbat.value);
-    let volts = values::firm(values::worse(vin.state, values::worse(vop.state, vbat.state)));
-    Draft {
-        state: if agrees {
-            values::worse(volts, read.state)
-        } else {
-            values::NONE
-        },
-        message: Message::Response(Response::State),
-        len: n,
+    if !agree(&all[0..len], vin, vop, vbat) {
+        return Err(Reason::NoValue);
     }
+    Ok(Draft {
+        message: Message::Response(Response::State),
+        len: len,
+    })
 }
 
 // Whether the voltages in a state's data are these.
@@ -112,39 +113,38 @@ fn word(low: u8, high: u8) -> i64
 
 // A response without members.
 fn empty(message: Response) -> Draft
-    ensures { (result.state ≡ 0) × (result.message ≡ Message.Response message) × (result.len ≡ 0) }
+    ensures { (result.message ≡ Message.Response message) × (result.len ≡ 0) }
 {
     Draft {
-        state: values::READ,
         message: Message::Response(message),
         len: 0,
     }
 }
 
-fn chars(text: &[u8], content: &mut [u8; strings::MOST]) -> Draft
-    ensures { Drafts text.now 12 content.new result.message result.len result.state }
+fn chars(text: &[u8], content: &mut [u8; strings::MOST]) -> Result<Draft, Reason>
+    ensures { Drafts text.now 12 content.new result }
 {
     let id = wholes::whole(values::value(text, b"id"), 0, 65535);
     let read = strings::chars(values::value(text, b"text"), content);
-    Draft {
-        state: values::worse(id.state, read.state),
-        message: Message::Response(Response::Text {
-            id: id.value as u16,
-        }),
-        len: read.len,
-    }
+    let (id, len) = values::both(id, read)?;
+    Ok(Draft {
+        message: Message::Response(Response::Text { id: id as u16 }),
+        len: len,
+    })
 }
 
-fn other(text: &[u8], digits: &mut [u8; strings::MOST], content: &mut [u8; strings::MOST]) -> Draft
-    ensures { Drafts text.now 13 content.new result.message result.len result.state }
+fn other(
+    text: &[u8],
+    digits: &mut [u8; strings::MOST],
+    content: &mut [u8; strings::MOST],
+) -> Result<Draft, Reason>
+    ensures { Drafts text.now 13 content.new result }
 {
     let id = wholes::whole(values::value(text, b"id"), 0, 65535);
     let read = strings::hex(values::value(text, b"data"), digits, content);
-    Draft {
-        state: values::worse(id.state, read.state),
-        message: Message::Response(Response::Other {
-            id: id.value as u16,
-        }),
-        len: read.len,
-    }
+    let (id, len) = values::both(id, read)?;
+    Ok(Draft {
+        message: Message::Response(Response::Other { id: id as u16 }),
+        len: len,
+    })
 }

@@ -1,8 +1,9 @@
 // Nibe: ask, reply, put, done, nibe.
 ghost use Rattle.std.specs.Prelude.{[], ◌≡◌, ◌≤◌};
 ghost use Rattle.asked.specs.Work.Draft.{Drafts};
-ghost use Rattle.asked.specs.Work.Got.{ReadsAll, valued_slots, valued_fields};
+ghost use Rattle.asked.specs.Work.Got.{mapped, ReadsAll, valued_slots, valued_fields};
 
+use crate::values::Reason;
 use crate::{Draft, readings, strings, values, wholes};
 use messages::Message;
 use messages::nibe::{Nibe, Valued};
@@ -13,9 +14,9 @@ pub(crate) fn by_row(
     text: &[u8],
     digits: &mut [u8; strings::MOST],
     content: &mut [u8; strings::MOST],
-) -> Draft
+) -> Result<Draft, Reason>
     requires { (14 ≤ row) × (row ≤ 18) }
-    ensures { Drafts text.now row content.new result.message result.len result.state }
+    ensures { Drafts text.now row content.new result }
 {
     match row {
         14 => ask(text),
@@ -26,87 +27,75 @@ pub(crate) fn by_row(
     }
 }
 
-fn ask(text: &[u8]) -> Draft
-    ensures { Drafts text.now 14 [] result.message result.len result.state }
+fn ask(text: &[u8]) -> Result<Draft, Reason>
+    ensures { Drafts text.now 14 [] result }
 {
-    let reg = wholes::whole(values::value(text, b"reg"), 0, 65535);
-    Draft {
-        state: reg.state,
+    let reg = wholes::whole(values::value(text, b"reg"), 0, 65535)?;
+    Ok(Draft {
         message: Message::Nibe(Nibe::Ask {
-            register: reg.value as u16,
+            register: reg as u16,
         }),
         len: 0,
-    }
+    })
 }
 
-fn reply(text: &[u8], digits: &mut [u8; strings::MOST]) -> Draft
-    ensures { Drafts text.now 15 [] result.message result.len result.state }
+fn reply(text: &[u8], digits: &mut [u8; strings::MOST]) -> Result<Draft, Reason>
+    ensures { Drafts text.now 15 [] result }
 {
-    let read = valued(text, digits);
-    let v = read.valued;
-    Draft {
-        state: read.state,
+    let v = valued(text, digits)?;
+    Ok(Draft {
         message: Message::Nibe(Nibe::Reply(v)),
         len: 0,
-    }
+    })
 }
 
-fn put(text: &[u8], digits: &mut [u8; strings::MOST]) -> Draft
-    ensures { Drafts text.now 16 [] result.message result.len result.state }
+fn put(text: &[u8], digits: &mut [u8; strings::MOST]) -> Result<Draft, Reason>
+    ensures { Drafts text.now 16 [] result }
 {
-    let read = valued(text, digits);
-    let v = read.valued;
-    Draft {
-        state: read.state,
+    let v = valued(text, digits)?;
+    Ok(Draft {
         message: Message::Nibe(Nibe::Put(v)),
         len: 0,
-    }
+    })
 }
 
-// A register with a value that was read.
-#[derive(Clone, Copy)]
-pub struct Register {
-    pub state: u8,
-    pub valued: Valued,
-}
-
-fn valued(text: &[u8], digits: &mut [u8; strings::MOST]) -> Register
-    ensures { ReadsAll text.now valued_slots (valued_fields result.valued) result.state }
+// A register with a value.
+fn valued(text: &[u8], digits: &mut [u8; strings::MOST]) -> Result<Valued, Reason>
+    ensures { ReadsAll text.now valued_slots (mapped valued_fields result) }
 {
     let reg = wholes::whole(values::value(text, b"reg"), 0, 65535);
     let width = wholes::whole(values::value(text, b"width"), 0, 255);
     let value = readings::reading(values::value(text, b"value"), 0, 0, 4294967295, digits);
-    Register {
-        state: values::worse(reg.state, values::worse(width.state, value.state)),
-        valued: Valued {
-            register: reg.value as u16,
-            width: width.value as u8,
-            value: value.value as u32,
-        },
-    }
+    let (reg, (width, value)) = values::both(reg, values::both(width, value))?;
+    Ok(Valued {
+        register: reg as u16,
+        width: width as u8,
+        value: value as u32,
+    })
 }
 
-fn done(text: &[u8]) -> Draft
-    ensures { Drafts text.now 17 [] result.message result.len result.state }
+fn done(text: &[u8]) -> Result<Draft, Reason>
+    ensures { Drafts text.now 17 [] result }
 {
-    let ok = values::truth(values::value(text, b"ok"));
-    Draft {
-        state: ok.state,
-        message: Message::Nibe(Nibe::Done { ok: ok.is }),
+    let ok = values::truth(values::value(text, b"ok"))?;
+    Ok(Draft {
+        message: Message::Nibe(Nibe::Done { ok: ok }),
         len: 0,
-    }
+    })
 }
 
-fn other(text: &[u8], digits: &mut [u8; strings::MOST], content: &mut [u8; strings::MOST]) -> Draft
-    ensures { Drafts text.now 18 content.new result.message result.len result.state }
+fn other(
+    text: &[u8],
+    digits: &mut [u8; strings::MOST],
+    content: &mut [u8; strings::MOST],
+) -> Result<Draft, Reason>
+    ensures { Drafts text.now 18 content.new result }
 {
     let cmd = wholes::whole(values::value(text, b"cmd"), 0, 255);
     let read = strings::hex(values::value(text, b"data"), digits, content);
-    Draft {
-        state: values::worse(cmd.state, read.state),
-        message: Message::Nibe(Nibe::Other {
-            command: cmd.value as u8,
-        }),
-        len: read.len,
-    }
+    let (cmd, len) = values::both(cmd, read)?;
+    Ok(Draft {
+        message: Message::Nibe(Nibe::Other { command: cmd as u8 }),
+        len: len,
+    })
 }

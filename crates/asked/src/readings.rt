@@ -2,21 +2,19 @@
 ghost use Rattle.std.specs.Prelude.{cond, ◌≡◌, ◌-◌, ◌≤◌, pos};
 ghost use Rattle.digits.specs.Paper.Ascii.{ascii};
 ghost use Rattle.digits.specs.Paper.Read.{Decides};
-ghost use Rattle.numbers.specs.Paper.Raw.{Raw, Between};
+ghost use Rattle.numbers.specs.Paper.Raw.{Raw};
 ghost use Rattle.numbers.specs.Paper.Single.{fits_single};
 ghost use Rattle.numbers.specs.Paper.Text as numerals;
 ghost use Rattle.jsontext.specs.Paper.Members.{IsString};
 ghost use Rattle.shapes.specs.Paper.Fields.{◌∶◌, plain, whole, reading};
 ghost use Rattle.asked.specs.Paper.Field.{Spells, Has};
 ghost use Rattle.shapes.specs.Paper.Shapes.{measured};
-ghost use Rattle.asked.specs.Work.Got.{Reads, between, FourMembers, pointed};
+ghost use Rattle.asked.specs.Work.Got.{mapped, Reads, between, FourMembers, pointed, beyond_of};
 
-use crate::wholes::WholeRead;
+use crate::values::Reason;
 use crate::{strings, values, wholes};
 use digits::slices;
-use numbers::single::Fit;
 use numbers::{single, text};
-use puts::Written;
 
 // 01's raw numbers.
 const LEAST_RAW: i64 = -2147483648;
@@ -33,46 +31,44 @@ pub(crate) fn reading(
     least: i64,
     most: i64,
     digits: &mut [u8; strings::MOST],
-) -> WholeRead
-    requires { (decimals ≤ 3) × Raw least × Raw most × Between least most (pos 0) }
-    ensures reads { Reads v.now (measured decimals) (between least most) (reading result.value decimals) result.state }
-    ensures between { Between least most result.value }
+) -> Result<i64, Reason>
+    requires { (decimals ≤ 3) × Raw least × Raw most }
+    ensures { Reads v.now (measured decimals) (between least most) (mapped (λ z. reading z decimals) result) }
 {
     if !has_four(v) {
-        return wholes::none(values::NONE);
+        return Err(Reason::NoValue);
     }
     if !has_decimals(v, decimals) {
-        return wholes::none(values::NONE);
+        return Err(Reason::NoValue);
     }
-    let single = values::truth(values::value(v, b"f32"));
-    if single.state != values::READ {
-        return wholes::none(values::NONE);
-    }
+    let single = values::truth(values::value(v, b"f32"))?;
     let written = values::value(v, b"text");
-    let raw = wholes::whole(values::value(v, b"raw"), LEAST_RAW, MOST_RAW);
-    if raw.state == values::NONE {
-        return wholes::none(values::NONE);
+    let raw = match wholes::whole(values::value(v, b"raw"), LEAST_RAW, MOST_RAW) {
+        Ok(raw) => raw,
+        Err(Reason::NoValue) => return Err(Reason::NoValue),
+        Err(Reason::Large) => {
+            let agrees = is_pointed(values::value(v, b"raw"), decimals, written, digits);
+            return Err(beyond(agrees));
+        }
+    };
+    if !fits_so(raw, single) {
+        return Err(Reason::NoValue);
     }
-    if raw.state == values::LARGE {
-        return beyond(is_pointed(values::value(v, b"raw"), decimals, written, digits));
+    if !is_text(raw, decimals, written) {
+        return Err(Reason::NoValue);
     }
-    if !fits_so(raw.value, single.is) {
-        return wholes::none(values::NONE);
-    }
-    if !is_text(raw.value, decimals, written) {
-        return wholes::none(values::NONE);
-    }
-    wholes::within(raw.value, least, most)
+    wholes::within(raw, least, most)
 }
 
-// The answer for a raw number out of 01's range: it is read, and not held, if its text agrees.
-fn beyond(agrees: bool) -> WholeRead
-    ensures { (result.state ≡ cond agrees 5 12) × (result.value ≡ pos 0) }
+// Why a raw number out of 01's range is not answered: it is read, and not held, if its text agrees.
+fn beyond(agrees: bool) -> Reason
+    ensures { result ≡ beyond_of agrees }
 {
     if agrees {
-        return wholes::none(values::LARGE);
+        Reason::Large
+    } else {
+        Reason::NoValue
     }
-    wholes::none(values::NONE)
 }
 
 // Whether a text is an object of four members, by the grammar.
@@ -90,11 +86,10 @@ fn has_decimals(v: &[u8], decimals: u32) -> bool
     requires { decimals ≤ 3 }
     ensures { Decides (Has Spells v.now (ascii "dec" ∶ plain (whole (pos decimals)))) result }
 {
-    let dec = wholes::whole(values::value(v, b"dec"), 0, 3);
-    if dec.state != values::READ {
+    let Ok(dec) = wholes::whole(values::value(v, b"dec"), 0, 3) else {
         return false;
-    }
-    dec.value == decimals as i64
+    };
+    dec == decimals as i64
 }
 
 // Whether f32 is said as it is of a raw number.
@@ -102,10 +97,7 @@ fn fits_so(raw: i64, is: bool) -> bool
     requires { Raw raw }
     ensures { Decides (is ≡ fits_single raw) result }
 {
-    match single::fits(raw) {
-        Fit::Is(b) => b == is,
-        Fit::Refused(why) => false,
-    }
+    single::fits(raw).unwrap_or(false) == is
 }
 
 // Whether a value is the string of the text of a raw number.
@@ -114,18 +106,14 @@ fn is_text(raw: i64, decimals: u32, v: &[u8]) -> bool
     ensures { Decides (IsString v.now (numerals.text raw decimals)) result }
 {
     let mut spelt = [0u8; 12];
-    let read = strings::chars(v, &mut spelt);
-    if read.state != values::READ {
+    let Ok(len) = strings::chars(v, &mut spelt) else {
         return false;
-    }
+    };
     let mut right = [0u8; 12];
-    match text::write(raw, decimals, &mut right) {
-        Written::Bytes(n) => {
-            let len = read.len;
-            slices::same(&spelt[0..len], &right[0..n])
-        }
-        Written::Refused(why) => false,
-    }
+    let Ok(n) = text::write(raw, decimals, &mut right) else {
+        return false;
+    };
+    slices::same(&spelt[0..len], &right[0..n])
 }
 
 // Whether a value is the string of a whole number's digits with a point before the last of them.
@@ -133,11 +121,9 @@ fn is_pointed(whole: &[u8], decimals: u32, v: &[u8], digits: &mut [u8; strings::
     requires { decimals ≤ 3 }
     ensures { Decides (IsString v.now (pointed decimals whole.now)) result }
 {
-    let read = strings::chars(v, digits);
-    if read.state != values::READ {
+    let Ok(len) = strings::chars(v, digits) else {
         return false;
-    }
-    let len = read.len;
+    };
     let all = &digits[..];
     is_pointed_so(whole, decimals as usize, &all[0..len])
 }

@@ -7,36 +7,30 @@ ghost use Rattle.asked.specs.Work.Rows.{RowOf, row_named};
 use crate::{strings, values, wholes};
 use digits::slices;
 use frames::kinds;
-use frames::kinds::{Kind, Resolved};
+use frames::kinds::Kind;
 
-// The row, from 1 on; 0 if the kind and the msg of the object that the text is belong to none.
-pub(crate) fn row(text: &[u8]) -> u8
+// The row, from 1 on, to which the kind and the msg of the object that the text is belong.
+pub(crate) fn row(text: &[u8]) -> Option<u8>
     ensures { RowOf text.now result }
 {
-    let kind = wholes::whole(values::value(text, b"kind"), 0, 255);
+    let Ok(kind) = wholes::whole(values::value(text, b"kind"), 0, 255) else {
+        return None;
+    };
     let mut name = [0u8; 8];
-    let msg = strings::chars(values::value(text, b"msg"), &mut name);
-    if kind.state != values::READ {
-        return 0;
-    }
-    if msg.state != values::READ {
-        return 0;
-    }
-    let n = msg.len;
-    named(kind.value as u8, &name[0..n])
+    let Ok(n) = strings::chars(values::value(text, b"msg"), &mut name) else {
+        return None;
+    };
+    named(kind as u8, &name[0..n])
 }
 
-// The row of a kind and a name; 0 for none.
-fn named(kind: u8, name: &[u8]) -> u8
+// The row of a kind and a name.
+fn named(kind: u8, name: &[u8]) -> Option<u8>
     ensures { result ≡ row_named kind name.now }
 {
-    match kinds::of(kind) {
-        Resolved::Is(known) => of_kind(known, name),
-        Resolved::Unknown => 0,
-    }
+    of_kind(kinds::of(kind)?, name)
 }
 
-fn of_kind(kind: Kind, name: &[u8]) -> u8
+fn of_kind(kind: Kind, name: &[u8]) -> Option<u8>
     ensures { result ≡ row_named (number_of kind) name.now }
 {
     match kind {
@@ -48,103 +42,103 @@ fn of_kind(kind: Kind, name: &[u8]) -> u8
     }
 }
 
-fn nikobus(name: &[u8]) -> u8
+fn nikobus(name: &[u8]) -> Option<u8>
     ensures { result ≡ row_named 1 name.now }
 {
     if slices::same(name, b"read") {
-        return 1;
+        return Some(1);
     }
     if slices::same(name, b"set") {
-        return 2;
+        return Some(2);
     }
     if slices::same(name, b"answer") {
-        return 3;
+        return Some(3);
     }
     if slices::same(name, b"press") {
-        return 4;
+        return Some(4);
     }
     if slices::same(name, b"tail") {
-        return 5;
+        return Some(5);
     }
     if slices::same(name, b"link") {
-        return 6;
+        return Some(6);
     }
-    0
+    None
 }
 
-fn command(name: &[u8]) -> u8
+fn command(name: &[u8]) -> Option<u8>
     ensures { result ≡ row_named 2 name.now }
 {
     if slices::same(name, b"command") {
-        return 7;
+        return Some(7);
     }
-    0
+    None
 }
 
-fn response(name: &[u8]) -> u8
+fn response(name: &[u8]) -> Option<u8>
     ensures { result ≡ row_named 3 name.now }
 {
     if slices::same(name, b"climate") {
-        return 8;
+        return Some(8);
     }
     if slices::same(name, b"state") {
-        return 9;
+        return Some(9);
     }
     if slices::same(name, b"break") {
-        return 10;
+        return Some(10);
     }
     if slices::same(name, b"end") {
-        return 11;
+        return Some(11);
     }
     if slices::same(name, b"text") {
-        return 12;
+        return Some(12);
     }
     if slices::same(name, b"response") {
-        return 13;
+        return Some(13);
     }
-    0
+    None
 }
 
-fn nibe(name: &[u8]) -> u8
+fn nibe(name: &[u8]) -> Option<u8>
     ensures { result ≡ row_named 4 name.now }
 {
     if slices::same(name, b"ask") {
-        return 14;
+        return Some(14);
     }
     if slices::same(name, b"reply") {
-        return 15;
+        return Some(15);
     }
     if slices::same(name, b"put") {
-        return 16;
+        return Some(16);
     }
     if slices::same(name, b"done") {
-        return 17;
+        return Some(17);
     }
     if slices::same(name, b"nibe") {
-        return 18;
+        return Some(18);
     }
-    0
+    None
 }
 
-fn homiq(name: &[u8]) -> u8
+fn homiq(name: &[u8]) -> Option<u8>
     ensures { result ≡ row_named 5 name.now }
 {
     if slices::same(name, b"output") {
-        return 19;
+        return Some(19);
     }
     if slices::same(name, b"input") {
-        return 20;
+        return Some(20);
     }
     if slices::same(name, b"shutter") {
-        return 21;
+        return Some(21);
     }
     if slices::same(name, b"beat") {
-        return 22;
+        return Some(22);
     }
     if slices::same(name, b"homiq") {
-        return 23;
+        return Some(23);
     }
-    0
+    None
 }
 
 // The kind of a row.

@@ -15,7 +15,7 @@ pub(crate) fn spells(v: &[u8], sort: Sort, digits: &mut [u8; strings::MOST]) -> 
     let mut room = [0u8; 256];
     match sort {
         Sort::Nothing => false,
-        Sort::Number => wholes::whole(v, 0, 0).state != values::NONE,
+        Sort::Number => values::is_spelt(wholes::whole(v, 0, 0)),
         Sort::Bytes(n) => {
             let n = n as usize;
             are_bytes(v, digits, &mut room[0..n])
@@ -24,11 +24,11 @@ pub(crate) fn spells(v: &[u8], sort: Sort, digits: &mut [u8; strings::MOST]) -> 
             let n = n as usize;
             are_digits(v, &mut room[0..n])
         }
-        Sort::Content => strings::hex(v, digits, &mut room).state != values::NONE,
-        Sort::Text => strings::chars(v, &mut room).state != values::NONE,
-        Sort::Truth => values::truth(v).state != values::NONE,
+        Sort::Content => values::is_spelt(strings::hex(v, digits, &mut room)),
+        Sort::Text => values::is_spelt(strings::chars(v, &mut room)),
+        Sort::Truth => values::is_spelt(values::truth(v)),
         Sort::Reading(decimals) => {
-            readings::reading(v, decimals as u32, 0, 0, digits).state != values::NONE
+            values::is_spelt(readings::reading(v, decimals as u32, 0, 0, digits))
         }
     }
 }
@@ -38,8 +38,7 @@ fn are_bytes(v: &[u8], digits: &mut [u8; strings::MOST], room: &mut [u8]) -> boo
     ensures { Decides (Spelt v.now (bytes (length room.old))) result }
 {
     let n = room.len();
-    let read = strings::hex(v, digits, room);
-    values::exact(read.state, read.len, n) != values::NONE
+    values::exact(strings::hex(v, digits, room), n).is_ok()
 }
 
 // Whether it is as many hex digits as the room has.
@@ -51,5 +50,5 @@ fn are_digits(v: &[u8], room: &mut [u8]) -> bool
     if !strings::are_digits(room) {
         return false;
     }
-    values::exact(read.state, read.len, n) != values::NONE
+    values::exact(read, n).is_ok()
 }

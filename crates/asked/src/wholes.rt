@@ -1,63 +1,47 @@
 // Whole numbers, as 01 spells them.
 ghost use Rattle.std.specs.Prelude.{◌≡◌, pos};
 ghost use Rattle.digits.specs.Paper.Read.{Decides};
-ghost use Rattle.numbers.specs.Paper.Raw.{Raw, Between};
+ghost use Rattle.numbers.specs.Paper.Raw.{Raw};
 ghost use Rattle.shapes.specs.Paper.Fields.{plain, whole};
 ghost use Rattle.shapes.specs.Paper.Shapes.{number};
-ghost use Rattle.asked.specs.Work.Got.{Reads, between, Within, SpellsWhole, SpellsPositive};
+ghost use Rattle.asked.specs.Work.Got.{mapped, Reads, between, Within, SpellsWhole, SpellsPositive};
 
-use crate::values;
+use crate::values::Reason;
 use numbers::text;
-use numbers::text::Reading;
-
-// A number that was read; 0 unless the state is 0.
-#[derive(Clone, Copy)]
-pub struct WholeRead {
-    pub state: u8,
-    pub value: i64,
-}
 
 // A whole number from `least` to `most`.
-pub(crate) fn whole(v: &[u8], least: i64, most: i64) -> WholeRead
-    requires { Raw least × Raw most × Between least most (pos 0) }
-    ensures reads { Reads v.now number (between least most) (plain (whole result.value)) result.state }
-    ensures between { Between least most result.value }
+pub(crate) fn whole(v: &[u8], least: i64, most: i64) -> Result<i64, Reason>
+    requires { Raw least × Raw most }
+    ensures { Reads v.now number (between least most) (mapped (λ z. plain (whole z)) result) }
 {
-    let long = is_whole(v);
     match text::read(v) {
-        Reading::Is(raw, decimals) => {
-            if decimals != 0 {
-                return none(values::NONE);
+        Ok(read) => {
+            if read.decimals != 0 {
+                return Err(Reason::NoValue);
             }
-            within(raw, least, most)
+            within(read.raw, least, most)
         }
-        Reading::Refused(why) => none(if long { values::LARGE } else { values::NONE }),
+        Err(why) => {
+            if is_whole(v) {
+                Err(Reason::Large)
+            } else {
+                Err(Reason::NoValue)
+            }
+        }
     }
 }
 
 // A number, if it is in the range.
-pub(crate) fn within(raw: i64, least: i64, most: i64) -> WholeRead
-    ensures { Within raw least most result.value result.state }
+pub(crate) fn within(raw: i64, least: i64, most: i64) -> Result<i64, Reason>
+    ensures { Within raw least most result }
 {
     if raw < least {
-        return none(values::LARGE);
+        return Err(Reason::Large);
     }
     if most < raw {
-        return none(values::LARGE);
+        return Err(Reason::Large);
     }
-    WholeRead {
-        state: values::READ,
-        value: raw,
-    }
-}
-
-pub(crate) fn none(state: u8) -> WholeRead
-    ensures { (result.state ≡ state) × (result.value ≡ pos 0) }
-{
-    WholeRead {
-        state: state,
-        value: 0,
-    }
+    Ok(raw)
 }
 
 // Whether a text is a whole number of any size.
@@ -86,15 +70,13 @@ fn is_positive(d: &[u8]) -> bool
     if d[0] < b'1' {
         return false;
     }
-    let mut i = 0;
-    while i < d.len() {
-        if d[i] < b'0' {
+    for c in d {
+        if *c < b'0' {
             return false;
         }
-        if b'9' < d[i] {
+        if b'9' < *c {
             return false;
         }
-        i += 1;
     }
     true
 }

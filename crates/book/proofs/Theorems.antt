@@ -14,17 +14,15 @@ use Rattle.digits.proofs.Laws.Refusals.{answered, cause-at, cause-of, one-first}
 use Rattle.lines.proofs.Laws.Types.{in-types}
 use Rattle.lines.proofs.Theorems.{has-line}
 use Rattle.puts.specs.Paper.Right.{WroteRight, wrote, refused}
-use Rattle.puts.specs.Paper.Wrote.{written_refusal, written_count}
-use Rattle.puts.specs.declared.Written.{Written}
+use Rattle.puts.specs.Paper.Wrote.{written_refusal, written_count, Written}
 use Rattle.puts.proofs.Laws.Right.{written-right, rest-kept}
 use Rattle.sheet.specs.Paper.Map.{sheet_in}
 use Rattle.sheet.specs.Paper.Sheet.{Lookup}
 use Rattle.book.specs.Paper.Answers.{Counts, Opens, EntryOf, LocatesEntry, location_ends, HandsFrame, EntryLine, WritesEntryLine, BookLines, ListCause, no-book, short, WritesBookLines, Adds, WritesAdded}
 use Rattle.book.specs.Paper.Book.{Entry, head, entry_bytes, entries, book, counted, trailer, Within, Book, EntryAt}
 use Rattle.book.specs.declared.Located.{Located}
-use Rattle.book.specs.declared.Located.TheVariants.{Is}
-use Rattle.book.specs.declared.Opened.{Opened}
-use Rattle.book.specs.declared.Opened.TheVariants.{Count}
+use Rattle.digits.specs.declared.refusal.Refusal.{Refusal}
+use Rattle.std.specs.Prelude.{Result, Ok}
 use Rattle.book.proofs.Laws.BookLines as lines
 use Rattle.book.proofs.Laws.Entries as its
 use Rattle.book.proofs.Laws.Layout as layout
@@ -64,10 +62,10 @@ last-added es e w = record { all = es; valid = a-book (front-within es e w); new
 -- ---- OPENING AND THE ENTRIES GIVE BACK WHAT WAS ADDED
 
 -- opening answers the count
-pub opens-count : {s : List ℕ} {es : List Entry} → Book s es → (r : Opened) → Opens s r → r ≡ Count (length es)
-opens-count {s} {es} b r a = unique.open-one r (Count (length es)) a there
+pub opens-count : {s : List ℕ} {es : List Entry} → Book s es → (r : Result ℕ Refusal) → Opens s r → r ≡ Ok (length es)
+opens-count {s} {es} b r a = unique.open-one r (Ok (length es)) a there
   where
-    there : Opens s (Count (length es))
+    there : Opens s (Ok (length es))
     there = refusals.answers {v = length es} (its.open-0 b) (record { all = es; valid = b; is = refl })
 
 -- every number below it has an entry
@@ -87,12 +85,12 @@ module _ {s : List ℕ} {es : List Entry} {number : ℕ} {e : Entry} {at : ℕ} 
   unfolding told
   frame-inside = its.told-frame told
 
-  there : LocatesEntry s number (Is e.kind at (at + length (head e)) (at + length (entry_bytes e)))
+  there : LocatesEntry s number (Ok (record { kind = e.kind; offset = at; from = at + length (head e); to = at + length (entry_bytes e) }))
   there = refusals.answers (its.entry-0 b (omega (arith, its.numbered_below b n))) told
 
   -- and is told as it was added
-  pub entry-back : (r : Located) → LocatesEntry s number r → r ≡ Is e.kind at (at + length (head e)) (at + length (entry_bytes e))
-  entry-back r a = unique.entry-one r (Is e.kind at (at + length (head e)) (at + length (entry_bytes e))) a there
+  pub entry-back : (r : Result Located Refusal) → LocatesEntry s number r → r ≡ Ok (record { kind = e.kind; offset = at; from = at + length (head e); to = at + length (entry_bytes e) })
+  entry-back r a = unique.entry-one r (Ok (record { kind = e.kind; offset = at; from = at + length (head e); to = at + length (entry_bytes e) })) a there
 
 -- with the frame that it was added with, as that part of the book
 pub frame_back : {s : Bor (List ℕ)} {es : List Entry} {number : ℕ} {e : Entry} {at : ℕ} → Book s.now es → EntryAt es number e at
@@ -126,8 +124,8 @@ module _ {s room later : List ℕ} {es : List Entry} {e : Entry} (r : Written) (
       let a = written-right w z in
       subst (λ (us : List Entry). Book (take (written_count r) later) (us ++ e ∷ [])) (one.one-book a.valid b) a.new
 
-  pub added-opens : (o : Opened) → Opens (take (written_count r) later) o → o ≡ Count (length es + 1)
-  added-opens o a = opens-count added-book o a ∙ ap Count (length-append es (e ∷ []))
+  pub added-opens : (o : Result ℕ Refusal) → Opens (take (written_count r) later) o → o ≡ Ok (length es + 1)
+  added-opens o a = opens-count added-book o a ∙ ap Ok (length-append es (e ∷ []))
 
 -- ---- THE LINES OF A BOOK, by the sheet that there is
 

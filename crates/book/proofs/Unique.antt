@@ -6,21 +6,19 @@ use mathlib.Core.Path.{◌≡◌, refl, sym, ap, ap₂, ◌∙◌, subst}
 use Prim.Native.Nat.{ℕ, ◌+◌}
 use denote.Ref.{Bor}
 use lib.ListN.{length}
+use Rattle.std.specs.Prelude.{Result, Ok, Err}
 use Rattle.digits.specs.declared.refusal.Refusal.{Refusal}
 use Rattle.digits.proofs.Laws.Handed.{one-part}
 use Rattle.digits.proofs.Laws.Refusals.{same_answer, one_answer}
 use Rattle.lines.proofs.Laws.ByText.{one-line-by-text}
 use Rattle.lines.proofs.Theorems.{one_line}
-use Rattle.puts.specs.declared.Written.{Written}
+use Rattle.puts.specs.Paper.Wrote.{Written}
 use Rattle.puts.proofs.Laws.Right.{one-wrote}
 use Rattle.sheet.specs.Paper.Sheet.{Lookup}
 use Rattle.book.specs.Paper.Answers.{Counts, opened_refusal, opened_count, Opens, Location, EntryOf, located_refusal, located_value, LocatesEntry, location_ends, HandsFrame, Adds, WritesAdded}
 use Rattle.book.specs.Paper.Answers.{EntryLine, WritesEntryLine, EntryLineByText, WritesEntryLineByText, WritesBookLines, WritesBookLinesByText}
 use Rattle.book.specs.Paper.Book.{Entry, head, entry_bytes, book, EntryAt}
 use Rattle.book.specs.declared.Located.{Located}
-use Rattle.book.specs.declared.Located.TheVariants.{Is, Refused as NotLocated}
-use Rattle.book.specs.declared.Opened.{Opened}
-use Rattle.book.specs.declared.Opened.TheVariants.{Count, Refused}
 use Rattle.book.proofs.Laws.BookLines.{one-book-lines}
 use Rattle.book.proofs.Laws.ByText.{the-line-by-text, one-lines-by-text}
 use Rattle.book.proofs.Laws.EntryLines.{the-line}
@@ -31,14 +29,14 @@ use Rattle.book.proofs.Laws.One.{one-book, one-numbered}
 pub counts-one : {s : List ℕ} (m n : ℕ) → Counts s m → Counts s n → m ≡ n
 counts-one m n a b = a.is ∙ ap (λ (es : List Entry). length es) (one-book a.valid b.valid) ∙ sym b.is
 
-opened-cases : (P : Opened → Type 0) → ((n : ℕ) → P (Count n)) → ((why : Refusal) → P (Refused why)) → (r : Opened) → P r
-opened-cases P f g (Count n) = f n
-opened-cases P f g (Refused why) = g why
+result-cases : {A : Type 0} (P : Result A Refusal → Type 0) → ((v : A) → P (Ok v)) → ((why : Refusal) → P (Err why)) → (r : Result A Refusal) → P r
+result-cases P f g (Ok v) = f v
+result-cases P f g (Err why) = g why
 
-opened-answer : (r q : Opened) → opened_refusal r ≡ opened_refusal q → opened_count r ≡ opened_count q → r ≡ q
-opened-answer = same_answer Count Refused opened_refusal opened_count (λ n. refl) (λ why. refl) (λ n. refl) opened-cases
+opened-answer : (r q : Result ℕ Refusal) → opened_refusal r ≡ opened_refusal q → opened_count r ≡ opened_count q → r ≡ q
+opened-answer = same_answer Ok Err opened_refusal opened_count (λ n. refl) (λ why. refl) (λ n. refl) result-cases
 
-pub open-one : {s : List ℕ} (r q : Opened) → Opens s r → Opens s q → r ≡ q
+pub open-one : {s : List ℕ} (r q : Result ℕ Refusal) → Opens s r → Opens s q → r ≡ q
 open-one r q a b = let e = one_answer counts-one a b in opened-answer r q e.0 e.1
 
 -- ---- book::entry
@@ -59,14 +57,10 @@ told-one {s} {number} u v a b =
     same : (k k' o o' x x' y y' : ℕ) → k ≡ k' → o ≡ o' → x ≡ x' → y ≡ y' → told k o x y ≡ told k' o' x' y'
     same k k' o o' x x' y y' c p q r = rw (c, p, q, r)
 
-located-cases : (P : Located → Type 0) → ((v : Location) → P (Is v.kind v.offset v.from v.to)) → ((why : Refusal) → P (NotLocated why)) → (r : Located) → P r
-located-cases P f g (Is k o x y) = f (told k o x y)
-located-cases P f g (NotLocated why) = g why
+located-answer : (r q : Result Located Refusal) → located_refusal r ≡ located_refusal q → located_value r ≡ located_value q → r ≡ q
+located-answer = same_answer Ok Err located_refusal located_value (λ v. refl) (λ why. refl) (λ v. refl) result-cases
 
-located-answer : (r q : Located) → located_refusal r ≡ located_refusal q → located_value r ≡ located_value q → r ≡ q
-located-answer = same_answer (λ (v : Location). Is v.kind v.offset v.from v.to) NotLocated located_refusal located_value (λ v. refl) (λ why. refl) (λ v. refl) located-cases
-
-pub entry-one : {s : List ℕ} {number : ℕ} (r q : Located) → LocatesEntry s number r → LocatesEntry s number q → r ≡ q
+pub entry-one : {s : List ℕ} {number : ℕ} (r q : Result Located Refusal) → LocatesEntry s number r → LocatesEntry s number q → r ≡ q
 entry-one r q a b = let e = one_answer told-one a b in located-answer r q e.0 e.1
 
 -- ---- book::frame

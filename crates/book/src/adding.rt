@@ -7,7 +7,6 @@ ghost use Rattle.book.specs.Work.Writing.{HasPlace, PutsAdded};
 use super::layout;
 use digits::low_first;
 use digits::refusal::Refusal;
-use frames::FramePayload;
 use puts::Written;
 
 // Writes the new book of a valid one, which has `count` entries.
@@ -15,18 +14,14 @@ pub(crate) fn write(book: &[u8], count: usize, kind: u8, frame: &[u8], room: &mu
     requires { Counts book.now count }
     ensures { WritesAdded book.now (record { kind = kind; frame = frame.now }) room.old result room.new }
 {
-    match frames::one_frame(kind, frame) {
-        FramePayload::Is { from, to } => {
-            if !has_place(count, book.len(), frame.len()) {
-                return Written::Refused(Refusal::OutOfLimits);
-            }
-            if room.len() < book.len() + (frame.len() + layout::ADDED) {
-                return Written::Refused(Refusal::NoRoom);
-            }
-            Written::Bytes(put(book, count, kind, frame, room))
-        }
-        FramePayload::Refused(why) => Written::Refused(why),
+    frames::one_frame(kind, frame)?;
+    if !has_place(count, book.len(), frame.len()) {
+        return Err(Refusal::OutOfLimits);
     }
+    if room.len() < book.len() + (frame.len() + layout::ADDED) {
+        return Err(Refusal::NoRoom);
+    }
+    Ok(put(book, count, kind, frame, room))
 }
 
 // Whether a book of `count` entries and `size` bytes has place for one more, with a frame of `frame` bytes.

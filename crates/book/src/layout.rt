@@ -102,7 +102,7 @@ pub(crate) fn two(s: &[u8], at: usize) -> usize
     requires { at + 2 ≤ length s.now }
     ensures { (result < 65536) × NumberAt s.now at 2 result }
 {
-    s[at] as usize + 256 * s[at + 1] as usize
+    u16::from_le_bytes([s[at], s[at + 1]]) as usize
 }
 
 // The number of four bytes at a place.
@@ -110,5 +110,5 @@ fn four(s: &[u8], at: usize) -> usize
     requires { at + 4 ≤ length s.now }
     ensures { (result < 4294967296) × NumberAt s.now at 4 result }
 {
-    two(s, at) + 65536 * two(s, at + 2)
+    u32::from_le_bytes([s[at], s[at + 1], s[at + 2], s[at + 3]]) as usize
 }

@@ -1,17 +1,14 @@
 // The lines of all entries of a book, by the sheet that a map is; the empty map is no sheet.
-ghost use Rattle.std.specs.Prelude.{◌≡◌};
 ghost use Rattle.frames.specs.Paper.OneFrame.{OneFrame};
-ghost use Rattle.lines.specs.Paper.Answers.{ended_place};
 ghost use Rattle.sheet.specs.Paper.Map.{sheet_in};
 ghost use Rattle.book.specs.Paper.Answers.{Counts, WritesBookLines};
 ghost use Rattle.book.specs.Work.Reading.{Noting};
 ghost use Rattle.book.specs.Work.Writing.{Lists, PutsOne, Most, SizedLines, Fits};
 
+use super::opening::Places;
 use super::{contents, layout};
 use digits::refusal::Refusal;
 use frames::kinds;
-use frames::kinds::Resolved;
-use lines::Ended;
 use puts::Written;
 
 // The bound on the lines' length: `MOST_A_BYTE` bytes for each byte of the book and `MOST_AN_ENTRY` for each entry; by a sheet, more.
@@ -25,7 +22,7 @@ const MOST_BY_A_SHEET: usize = 26;
 pub(crate) fn write(
     book: &[u8],
     count: usize,
-    places: &[usize],
+    places: &Places,
     map: &[u8],
     room: &mut [u8],
 ) -> Written
@@ -33,13 +30,13 @@ pub(crate) fn write(
     ensures { WritesBookLines (sheet_in map.now) book.now room.old result room.new }
 {
     if !fits(book, count, places, map, room.len()) {
-        return Written::Refused(Refusal::NoRoom);
+        return Err(Refusal::NoRoom);
     }
-    Written::Bytes(put(book, count, places, map, room))
+    Ok(put(book, count, places, map, room))
 }
 
 // Whether a room of this length has room for the lines. They are measured only if it might not.
-fn fits(book: &[u8], count: usize, places: &[usize], map: &[u8], room: usize) -> bool
+fn fits(book: &[u8], count: usize, places: &Places, map: &[u8], room: usize) -> bool
     requires { Noting book.now count places.now }
     ensures { Fits (sheet_in map.now) book.now room result }
 {
@@ -61,7 +58,7 @@ fn most(book: &[u8], count: usize, map: &[u8]) -> usize
 }
 
 // How long the lines are: the writer in a room too short.
-fn size(book: &[u8], count: usize, places: &[usize], map: &[u8]) -> usize
+fn size(book: &[u8], count: usize, places: &Places, map: &[u8]) -> usize
     requires { Noting book.now count places.now }
     ensures { SizedLines (sheet_in map.now) book.now result }
 {
@@ -70,23 +67,21 @@ fn size(book: &[u8], count: usize, places: &[usize], map: &[u8]) -> usize
 }
 
 // Puts the lines, entry after entry, as far as the room goes, and answers the place behind them.
-fn put(book: &[u8], count: usize, places: &[usize], map: &[u8], room: &mut [u8]) -> usize
+fn put(book: &[u8], count: usize, places: &Places, map: &[u8], room: &mut [u8]) -> usize
     requires { Noting book.now count places.now }
     ensures { Lists (sheet_in map.now) book.now room.old room.new result }
 {
     let mut at = 0;
     let mut next = 0;
-    let mut i = 0;
-    while i < count {
+    for i in 0..count {
         let head = layout::head_at(book, at);
         let kind = head.kind;
         let from = head.from;
         let behind = head.to;
-        let start = places[i];
-        let stop = places[layout::MOST_ENTRIES + i];
+        let start = places.starts[i];
+        let stop = places.stops[i];
         next = put_line(kind, &book[from..behind], start, stop, at, map, room, next);
         at = behind;
-        i += 1;
     }
     next
 }
@@ -106,21 +101,7 @@ fn put_line(
     requires { OneFrame kind frame.now (record { from = start; to = stop }) }
     ensures { PutsOne (sheet_in map.now) kind frame.now at room.old room.new to result }
 {
-    match kinds::of(kind) {
-        Resolved::Is(known) => {
-            let tag = contents::tag(known, frame);
-            end_of(lines::put_content(tag, &frame[start..stop], at, frame.len(), map, room, to))
-        }
-        Resolved::Unknown => 0,
-    }
-}
-
-// Where a line ends.
-fn end_of(ended: Ended) -> usize
-    ensures { result ≡ ended_place ended }
-{
-    match ended {
-        Ended::At(behind) => behind,
-        Ended::Refused(why) => 0,
-    }
+    let known = kinds::of(kind).unwrap();
+    let tag = contents::tag(known, frame);
+    lines::put_content(tag, &frame[start..stop], at, frame.len(), map, room, to).unwrap()
 }

@@ -11,7 +11,7 @@ use Rattle.layouts.specs.Paper.Nikobus as nikobuses
 use Rattle.layouts.specs.Paper.Nikobus.{nikobus}
 use Rattle.layouts.specs.declared.nest.Direction.{Direction}
 use Rattle.puts.proofs.Unique.{one_written}
-use Rattle.puts.specs.declared.Written.{Written}
+use Rattle.puts.specs.Paper.Wrote.{Written}
 use Rattle.builds.specs.Paper.Builds.{Builds, BuildsHomiq}
 use Rattle.builds.proofs.Laws.Homiq.{one-bytes}
 use Rattle.puts.proofs.Laws.Right.{one-wrote}

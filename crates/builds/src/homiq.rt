@@ -16,12 +16,15 @@ pub fn frame(payload: &[u8], room: &mut [u8]) -> Written
     ensures { BuildsHomiq payload.now room.old result room.new }
 {
     if LONGEST < payload.len() {
-        return Written::Refused(Refusal::OutOfLimits);
+        return Err(Refusal::OutOfLimits);
     }
     let mut whole = [0u8; 64];
     let n = put_frame(payload, &mut whole);
-    if homiq::frame(&whole[0..n]).len != n {
-        return Written::Refused(Refusal::OutOfLimits);
+    let Ok(found) = homiq::frame(&whole[0..n]) else {
+        return Err(Refusal::OutOfLimits);
+    };
+    if found.len != n {
+        return Err(Refusal::OutOfLimits);
     }
     puts::front(&whole[0..n], room)
 }

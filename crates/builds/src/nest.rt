@@ -28,14 +28,14 @@ fn framed(preamble: &[u8], id: u16, payload: &[u8], room: &mut [u8]) -> Written
     ensures { Builds (nest_with preamble.now) (nest_of id payload.now) room.old result room.new }
 {
     if 1024 < payload.len() {
-        return Written::Refused(Refusal::OutOfLimits);
+        return Err(Refusal::OutOfLimits);
     }
     let len = preamble.len() + 4 + payload.len() + 2;
     if room.len() < len {
-        return Written::Refused(Refusal::NoRoom);
+        return Err(Refusal::NoRoom);
     }
     put_frame(preamble, id, payload, room);
-    Written::Bytes(len)
+    Ok(len)
 }
 
 // The bytes of a frame, as far as the room goes.

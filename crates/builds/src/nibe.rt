@@ -16,17 +16,17 @@ pub fn frame(command: u8, content: &[u8], room: &mut [u8]) -> Written
     ensures { Builds nibe (nibe_of command content.now) room.old result room.new }
 {
     if !nibe::is_command(command) {
-        return Written::Refused(Refusal::OutOfLimits);
+        return Err(Refusal::OutOfLimits);
     }
     if 255 < content.len() {
-        return Written::Refused(Refusal::OutOfLimits);
+        return Err(Refusal::OutOfLimits);
     }
     let len = content.len() + 4;
     if room.len() < len {
-        return Written::Refused(Refusal::NoRoom);
+        return Err(Refusal::NoRoom);
     }
     put_frame(command, content, room);
-    Written::Bytes(len)
+    Ok(len)
 }
 
 // The bytes of a frame, as far as the room goes.

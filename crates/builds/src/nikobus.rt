@@ -18,17 +18,17 @@ pub fn link(payload: &[u8], room: &mut [u8]) -> Written
 {
     let n = payload.len();
     if n < 1 {
-        return Written::Refused(Refusal::OutOfLimits);
+        return Err(Refusal::OutOfLimits);
     }
     if 122 < n {
-        return Written::Refused(Refusal::OutOfLimits);
+        return Err(Refusal::OutOfLimits);
     }
     let len = n * 2 + 10;
     if room.len() < len {
-        return Written::Refused(Refusal::NoRoom);
+        return Err(Refusal::NoRoom);
     }
     put_link(payload, room);
-    Written::Bytes(len)
+    Ok(len)
 }
 
 // The bytes of a link, if the room has a place for them all. (CRC8 covers the characters before it, as they stand in the room.)
@@ -52,13 +52,13 @@ pub fn press(digits: &[u8], room: &mut [u8]) -> Written
     ensures { Builds nikobus (press digits.now) room.old result room.new }
 {
     if digits.len() != 6 {
-        return Written::Refused(Refusal::OutOfLimits);
+        return Err(Refusal::OutOfLimits);
     }
     if !nikobus::all_digits(digits) {
-        return Written::Refused(Refusal::OutOfLimits);
+        return Err(Refusal::OutOfLimits);
     }
     let whole = [
-        35, 78, digits[0], digits[1], digits[2], digits[3], digits[4], digits[5], 13,
+        b'#', b'N', digits[0], digits[1], digits[2], digits[3], digits[4], digits[5], b'\r',
     ];
     puts::front(&whole, room)
 }

@@ -1,46 +1,59 @@
-// Answers: the number of a form, of those in crates/calls_write/src/forms.rt, and the values that it has.
+// Answers, of the forms in crates/calls_write/src/forms.rt.
 use digits::refusal;
 use digits::refusal::Refusal;
-use layouts::Test;
+use frames::kinds::Kind;
+use frames::{Found, FramePayload};
+use layouts::{Failure, Frame};
 
-pub(crate) type Answer = [u64; 7];
+#[derive(Clone, Copy, Debug, PartialEq, Eq)]
+pub(crate) enum Answer {
+    Refused(Refusal),
+    Number(u64),
+    Payload(FramePayload),
+    Found(Found),
+    // so many bytes at the front of the room
+    Bytes(usize),
+    Truth(bool),
+    Kind(Kind),
+    Why(Option<Failure>),
+    AtHead(Result<Frame, Failure>),
+}
 
-pub(crate) fn truth(b: bool) -> Answer {
-    if b {
-        return [8, 0, 0, 0, 0, 0, 0];
+impl Answer {
+    // The number of the form, and the values. A kind, a direction and a test are given by their places in the lists of forms.rt, which are in the
+    // order of their enums, behind `none`.
+    pub(crate) fn words(self) -> [u64; 7] {
+        match self {
+            Answer::Refused(why) => [1, refusal::number(why) as u64, 0, 0, 0, 0, 0],
+            Answer::Number(n) => [3, n, 0, 0, 0, 0, 0],
+            Answer::Payload(p) => [4, p.from as u64, p.to as u64, 0, 0, 0, 0],
+            Answer::Found(f) => [
+                6,
+                f.start as u64,
+                f.len as u64,
+                f.from as u64,
+                f.to as u64,
+                0,
+                0,
+            ],
+            Answer::Bytes(n) => [7, n as u64, 0, 0, 0, 0, 0],
+            Answer::Truth(true) => [8, 0, 0, 0, 0, 0, 0],
+            Answer::Truth(false) => [9, 0, 0, 0, 0, 0, 0],
+            Answer::Kind(kind) => [kind as u64 + 17, 0, 0, 0, 0, 0, 0],
+            Answer::Why(None) => [92, 0, 0, 0, 0, 0, 0],
+            Answer::Why(Some(f)) => {
+                let [test, found, expected] = failed(f);
+                [92, test, found, expected, 0, 0, 0]
+            }
+            Answer::AtHead(Ok(f)) => [93, f.len as u64, f.from as u64, f.to as u64, 0, 0, 0],
+            Answer::AtHead(Err(f)) => {
+                let [test, found, expected] = failed(f);
+                [93, 0, 0, 0, test, found, expected]
+            }
+        }
     }
-    [9, 0, 0, 0, 0, 0, 0]
 }
 
-pub(crate) fn number(n: u64) -> Answer {
-    [3, n, 0, 0, 0, 0, 0]
-}
-
-// Bytes stand at the front of the room.
-pub(crate) fn bytes(s: &[u8], room: &mut [u8]) -> Answer {
-    [7, puts::bytes(s, room, 0) as u64, 0, 0, 0, 0, 0]
-}
-
-// How many bytes of the room follow: those that are answered, or as many as before.
-pub(crate) fn room(r: Answer, before: u64) -> u64 {
-    if r[0] == 7 {
-        return r[1];
-    }
-    before
-}
-
-pub(crate) fn refused(why: Refusal) -> Answer {
-    [1, refusal::number(why) as u64, 0, 0, 0, 0, 0]
-}
-
-// The place that a test has in the list of their names.
-pub(crate) fn test(t: Test) -> u64 {
-    match t {
-        Test::None => 0,
-        Test::Start => 1,
-        Test::Length => 2,
-        Test::Fields => 3,
-        Test::First => 4,
-        Test::Second => 5,
-    }
+fn failed(f: Failure) -> [u64; 3] {
+    [f.test as u64 + 1, f.found as u64, f.expected as u64]
 }

@@ -1,64 +1,40 @@
 // The functions of `builds` and `frames`.
-use super::answer;
 use super::answer::Answer;
-use super::layout_calls::direction;
-use builds;
+use super::request::Request;
 use digits::refusal::Refusal;
-use frames::kinds::{Kind, Resolved};
-use frames::{Found, FramePayload, Verdict, kinds};
+use frames::kinds;
+use frames::kinds::Kind;
 use puts::Written;
 
-pub(crate) fn build(function: u64, x: u64, y: u64, s: &[u8], room: &mut [u8]) -> Answer {
-    written(built(function, x, y, s, room))
+pub(crate) fn build(r: Request<'_>, room: &mut [u8]) -> Result<Answer, Refusal> {
+    Ok(Answer::Number(built(r, room)? as u64))
 }
 
-fn built(function: u64, x: u64, y: u64, s: &[u8], room: &mut [u8]) -> Written {
-    match function {
-        701 => builds::nikobus::link(s, room),
-        702 => builds::nikobus::press(s, room),
-        703 => builds::homiq::frame(s, room),
+fn built(r: Request<'_>, room: &mut [u8]) -> Written {
+    match r.function {
+        701 => builds::nikobus::link(r.s, room),
+        702 => builds::nikobus::press(r.s, room),
+        703 => builds::homiq::frame(r.s, room),
         704 => builds::nikobus::tail(room),
-        705 => builds::nest::frame(direction(x), (y % 65_536) as u16, s, room),
-        _ => builds::nibe::frame((x % 256) as u8, s, room),
+        705 => builds::nest::frame(r.x.direction(), r.y.u16(), r.s, room),
+        _ => builds::nibe::frame(r.x.u8(), r.s, room),
     }
 }
 
-fn written(r: Written) -> Answer {
-    match r {
-        Written::Bytes(n) => answer::number(n as u64),
-        Written::Refused(why) => answer::refused(why),
-    }
-}
-
-pub(crate) fn call(function: u64, x: u64, place: usize, s: &[u8], room: &mut [u8]) -> Answer {
-    let n = (x % 256) as u8;
-    match function {
-        801 => answer::truth(kinds::known(n)),
-        802 => resolved(kinds::of(n)),
-        803 => answer::number(kinds::number(named(x)) as u64),
-        804 => found(frames::search(n, s, place)),
-        805 => answer::bytes(frames::frame(n, s, place), room),
-        806 => answer::bytes(frames::payload(n, s, place), room),
-        807 => frame_payload(frames::one_frame(n, s)),
-        _ => why(frames::why(n, s, place)),
-    }
-}
-
-fn resolved(r: Resolved) -> Answer {
-    match r {
-        Resolved::Is(kind) => [kind_form(kind), 0, 0, 0, 0, 0, 0],
-        Resolved::Unknown => answer::refused(Refusal::NoKind),
-    }
-}
-
-fn kind_form(kind: Kind) -> u64 {
-    match kind {
-        Kind::Nikobus => 17,
-        Kind::NestCommand => 18,
-        Kind::NestResponse => 19,
-        Kind::Nibe => 20,
-        Kind::Homiq => 21,
-    }
+pub(crate) fn call(r: Request<'_>, room: &mut [u8]) -> Result<Answer, Refusal> {
+    let kind = r.x.u8();
+    let place = r.y.usize();
+    let answer = match r.function {
+        801 => Answer::Truth(kinds::known(kind)),
+        802 => Answer::Kind(kinds::of(kind).ok_or(Refusal::NoKind)?),
+        803 => Answer::Number(kinds::number(named(r.x.0)) as u64),
+        804 => Answer::Found(frames::search(kind, r.s, place)?),
+        805 => Answer::Bytes(puts::bytes(frames::frame(kind, r.s, place), room, 0)),
+        806 => Answer::Bytes(puts::bytes(frames::payload(kind, r.s, place), room, 0)),
+        807 => Answer::Payload(frames::one_frame(kind, r.s)?),
+        _ => Answer::Why(frames::why(kind, r.s, place)?),
+    };
+    Ok(answer)
 }
 
 // By the place that the request's word has in the list of names.
@@ -69,43 +45,5 @@ fn named(n: u64) -> Kind {
         2 => Kind::NestResponse,
         3 => Kind::Nibe,
         _ => Kind::Homiq,
-    }
-}
-
-fn found(r: Found) -> Answer {
-    match r {
-        Found::At {
-            start,
-            len,
-            from,
-            to,
-        } => [6, start as u64, len as u64, from as u64, to as u64, 0, 0],
-        Found::Refused(why) => answer::refused(why),
-    }
-}
-
-fn frame_payload(r: FramePayload) -> Answer {
-    match r {
-        FramePayload::Is { from, to } => [4, from as u64, to as u64, 0, 0, 0, 0],
-        FramePayload::Refused(why) => answer::refused(why),
-    }
-}
-
-fn why(r: Verdict) -> Answer {
-    match r {
-        Verdict::Is {
-            test,
-            found,
-            expected,
-        } => [
-            92,
-            answer::test(test),
-            found as u64,
-            expected as u64,
-            0,
-            0,
-            0,
-        ],
-        Verdict::Refused(why) => answer::refused(why),
     }
 }

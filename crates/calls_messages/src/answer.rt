@@ -1,65 +1,123 @@
-// Answers: the number of a form, of those in crates/calls_write/src/forms.rt, and the values that it has.
+// Answers, of the forms in crates/calls_write/src/forms.rt.
+use super::message;
+use asked::Asked;
+use asked::lacks::Lack;
+use book::Located;
 use digits::refusal;
 use digits::refusal::Refusal;
+use lines::{Listed, Measured};
+use messages::nest::Volts;
+use messages::{Decoded, FoundMessage, Message};
+use numbers::panel::Climate;
+use shapes::Sort;
+use std::num;
 
-pub(crate) type Answer = [u64; 8];
-
-pub(crate) fn refused(why: Refusal) -> Answer {
-    [1, refusal::number(why) as u64, 0, 0, 0, 0, 0, 0]
+#[derive(Clone, Copy, Debug, PartialEq)]
+pub(crate) enum Answer {
+    // not one: the record asks for nothing that there is
+    NoRequest,
+    Refused(Refusal),
+    Done,
+    Number(u64),
+    Volts(Volts),
+    Listed(Listed),
+    Measured(Measured),
+    Located(Located),
+    // so many bytes at the front of the room
+    Bytes(usize),
+    Climate(Climate),
+    Message(Message),
+    Decoded(Decoded),
+    Found(FoundMessage),
+    Asked(Asked),
+    Lack(Option<Lack>),
+    Sort(Sort),
 }
 
-pub(crate) fn number(n: u64) -> Answer {
-    [3, n, 0, 0, 0, 0, 0, 0]
-}
+pub(crate) type Values = [u64; 8];
 
-// An answer of a form with one value at most.
-pub(crate) fn one(form: u64, a: u64) -> Answer {
-    [form, a, 0, 0, 0, 0, 0, 0]
-}
-
-pub(crate) fn three(a: u64, b: u64, c: u64) -> Answer {
-    [5, a, b, c, 0, 0, 0, 0]
-}
-
-pub(crate) fn four(a: u64, b: u64, c: u64, d: u64) -> Answer {
-    [6, a, b, c, d, 0, 0, 0]
-}
-
-// Bytes stand at the front of the room.
-pub(crate) fn bytes(s: &[u8], room: &mut [u8]) -> Answer {
-    [7, puts::bytes(s, room, 0) as u64, 0, 0, 0, 0, 0, 0]
-}
-
-// How many bytes of the room follow: those that are answered, or as many as before.
-pub(crate) fn room(r: Answer, before: u64) -> u64 {
-    if r[0] == 7 {
-        return r[1];
+impl Answer {
+    // The number of the form, and the values.
+    pub(crate) fn words(self) -> Values {
+        match self {
+            Answer::NoRequest => of(0, &[]),
+            Answer::Refused(why) => of(1, &[refusal::number(why) as u64]),
+            Answer::Done => of(2, &[]),
+            Answer::Number(n) => of(3, &[n]),
+            Answer::Volts(v) => of(5, &[v.vin as u64, v.vop as u64, v.vbat as u64]),
+            Answer::Listed(l) => of(5, &[l.start as u64, l.len as u64, l.behind as u64]),
+            Answer::Measured(m) => of(5, &[m.start as u64, m.len as u64, m.size as u64]),
+            Answer::Located(l) => of(
+                6,
+                &[l.kind as u64, l.offset as u64, l.from as u64, l.to as u64],
+            ),
+            Answer::Bytes(n) => of(7, &[n as u64]),
+            Answer::Climate(c) => of(14, &[single(c.temperature), single(c.humidity)]),
+            Answer::Message(m) => said(22, m, [0; 4]),
+            Answer::Decoded(d) => said(45, d.message, [d.from as u64, d.to as u64, 0, 0]),
+            Answer::Found(f) => said(
+                68,
+                f.message,
+                [f.start as u64, f.len as u64, f.from as u64, f.to as u64],
+            ),
+            Answer::Asked(a) => said(94, a.message, [a.kind as u64, a.len as u64, 0, 0]),
+            Answer::Lack(lack) => lacking(lack),
+            Answer::Sort(sort) => sorted(sort),
+        }
     }
-    before
+}
+
+// An answer of a form with so many values.
+fn of(form: u64, values: &[u64]) -> Values {
+    let mut words = [form, 0, 0, 0, 0, 0, 0, 0];
+    for (word, value) in words.iter_mut().skip(1).zip(values) {
+        *word = *value;
+    }
+    words
 }
 
 // A message, and what may stand beside it: the form of its row, counted from the one before the first.
-pub(crate) fn said(before: u64, message: [u64; 4], beside: [u64; 4]) -> Answer {
-    [
-        before.wrapping_add(message[0]),
-        message[1],
-        message[2],
-        message[3],
-        beside[0],
-        beside[1],
-        beside[2],
-        beside[3],
-    ]
+fn said(before: u64, m: Message, beside: [u64; 4]) -> Values {
+    let [row, a, b, c] = message::said(m);
+    let [d, e, f, g] = beside;
+    [before.wrapping_add(row), a, b, c, d, e, f, g]
+}
+
+// What a command lacks.
+fn lacking(lack: Option<Lack>) -> Values {
+    match lack {
+        None => of(119, &[]),
+        Some(Lack::Text) => of(120, &[]),
+        Some(Lack::Object) => of(121, &[]),
+        Some(Lack::Kind { there }) => of(122, &[there as u64]),
+        Some(Lack::Msg { there }) => of(123, &[there as u64]),
+        Some(Lack::Member { row, member, there }) => {
+            of(124, &[row as u64, member as u64, there as u64])
+        }
+        Some(Lack::Extra) => of(125, &[]),
+        Some(Lack::Volts) => of(126, &[]),
+    }
+}
+
+// The sort of a member's value.
+fn sorted(sort: Sort) -> Values {
+    match sort {
+        Sort::Nothing => of(119, &[]),
+        Sort::Number => of(127, &[]),
+        Sort::Bytes(n) => of(128, &[n as u64]),
+        Sort::Digits(n) => of(129, &[n as u64]),
+        Sort::Content => of(130, &[]),
+        Sort::Text => of(120, &[]),
+        Sort::Truth => of(131, &[]),
+        Sort::Reading(decimals) => of(132, &[decimals as u64]),
+    }
 }
 
 // A float's bits. A double holds every single.
-pub(crate) fn single(x: f32) -> u64 {
-    bits(std::num::f32_to_f64_with_nan(x))
+fn single(x: f32) -> u64 {
+    bits(num::f32_to_f64_with_nan(x))
 }
 
 pub(crate) fn bits(x: f64) -> u64 {
-    if x == x {
-        return f64::to_bits(x);
-    }
-    0
+    if x == x { f64::to_bits(x) } else { 0 }
 }

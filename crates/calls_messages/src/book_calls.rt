@@ -1,57 +1,32 @@
 // The functions of `book` and `list`.
-use super::answer;
 use super::answer::Answer;
-use super::line_calls::written;
-use book::{Located, Opened};
+use super::request::Request;
+use digits::refusal::Refusal;
 use puts::Written;
 
-pub(crate) fn call(function: u64, x: u64, first: &[u8], s: &[u8], room: &mut [u8]) -> Answer {
-    let number = x as usize;
-    match function {
-        1201 => opened(book::open(s)),
-        1202 => located(book::entry(s, number)),
-        1203 => answer::bytes(book::frame(s, number), room),
-        _ => written(write(function, x, first, s, room)),
-    }
+pub(crate) fn call(r: &Request<'_>, room: &mut [u8]) -> Result<Answer, Refusal> {
+    let number = r.numbers[0].usize();
+    let answer = match r.function {
+        1201 => Answer::Number(book::open(r.s)? as u64),
+        1202 => Answer::Located(book::entry(r.s, number)?),
+        1203 => Answer::Bytes(puts::bytes(book::frame(r.s, number), room, 0)),
+        _ => Answer::Number(write(r, number, room)? as u64),
+    };
+    Ok(answer)
 }
 
-fn write(function: u64, x: u64, first: &[u8], s: &[u8], room: &mut [u8]) -> Written {
-    match function {
-        1204 => book::line(s, x as usize, room),
-        1205 => book::list(s, room),
-        1206 => book::add(first, (x % 256) as u8, s, room),
-        1301 => list::write(s, room),
-        _ => by_sheet(function, x as usize, first, s, room),
-    }
-}
-
-// By a sheet or by a map.
-fn by_sheet(function: u64, number: usize, first: &[u8], sheet: &[u8], room: &mut [u8]) -> Written {
-    match function {
-        1207 => book::line_with(first, number, sheet, room),
-        1208 => book::line_mapped(first, number, sheet, room),
-        1209 => book::list_with(first, sheet, room),
-        1210 => book::list_mapped(first, sheet, room),
-        1302 => list::write_with(first, sheet, room),
-        _ => list::write_mapped(first, sheet, room),
-    }
-}
-
-fn opened(r: Opened) -> Answer {
-    match r {
-        Opened::Count(n) => answer::number(n as u64),
-        Opened::Refused(why) => answer::refused(why),
-    }
-}
-
-fn located(r: Located) -> Answer {
-    match r {
-        Located::Is {
-            kind,
-            offset,
-            from,
-            to,
-        } => answer::four(kind as u64, offset as u64, from as u64, to as u64),
-        Located::Refused(why) => answer::refused(why),
+// What answers how many bytes it wrote. By a sheet or by a map, these are the last bytes.
+fn write(r: &Request<'_>, number: usize, room: &mut [u8]) -> Written {
+    match r.function {
+        1204 => book::line(r.s, number, room),
+        1205 => book::list(r.s, room),
+        1206 => book::add(r.first, r.kind(), r.s, room),
+        1207 => book::line_with(r.first, number, r.s, room),
+        1208 => book::line_mapped(r.first, number, r.s, room),
+        1209 => book::list_with(r.first, r.s, room),
+        1210 => book::list_mapped(r.first, r.s, room),
+        1301 => list::write(r.s, room),
+        1302 => list::write_with(r.first, r.s, room),
+        _ => list::write_mapped(r.first, r.s, room),
     }
 }

@@ -8,10 +8,12 @@ mod book_calls;
 mod line_calls;
 mod message;
 mod message_calls;
+mod record;
+mod request;
 
 use answer::Answer;
-use digits::low_first;
-use digits::low_first::Number;
+use request::Request;
+use std::io;
 use std::io::{Read, Write};
 
 fn main(rt: HostRuntime) {
@@ -27,143 +29,43 @@ fn pass_all(
     record: &mut [u8; 131184],
     room: &mut [u8; 2097202],
 ) {
-    let mut turns = u64::MAX;
-    while 0 < turns {
-        if !pass(from, to, record, room) {
+    for _ in 0..u64::MAX {
+        if pass(from, to, record, room).is_err() {
             return;
         }
-        turns -= 1;
     }
 }
 
-// Reads a record, answers it if it is for this program, and passes it on; whether there was one.
-fn pass(from: &mut impl Read, to: &mut impl Write, record: &mut [u8], room: &mut [u8]) -> bool {
-    if !read(from, record, 0, 256) {
-        return false;
+// Reads a record, answers it if it is for this program, and passes it on. It fails if there is none.
+fn pass(
+    from: &mut impl Read,
+    to: &mut impl Write,
+    record: &mut [u8],
+    room: &mut [u8],
+) -> io::Result<()> {
+    let mut words = record::read(from, record, room)?;
+    if let Some(lent) = room.get_mut(..words[12] as usize) {
+        if let Some(answer) = answered(request::of(&words, record), lent) {
+            // of the room those bytes follow that are answered, or as many as before
+            if let Answer::Bytes(n) = answer {
+                words[13] = n as u64;
+            }
+            for (word, value) in words.iter_mut().zip(answer.words()) {
+                *word = value;
+            }
+        }
     }
-    let size = number(record, 9) as usize;
-    if !read(from, record, 256, size) {
-        return false;
-    }
-    let lent = number(record, 13) as usize;
-    if !read(from, room, 0, lent) {
-        return false;
-    }
-    answered(record, room);
-    write(to, record, size) && write(to, room, number(record, 13) as usize)
+    record::write(&words, to, record, room)
 }
 
-fn answered(record: &mut [u8], room: &mut [u8]) {
-    let function = number(record, 0);
-    let split = number(record, 10) as usize;
-    let end = number(record, 11) as usize;
-    let lent = number(record, 12) as usize;
-    if !for_this(function) {
-        return;
-    }
-    if room.len() < lent {
-        return;
-    }
-    let r = call(
-        function,
-        &values(record),
-        part(record, 112, split),
-        part(record, split, end),
-        &mut room[0..lent],
-    );
-    put(answer::room(r, number(record, 13)), record, 104);
-    put_all(r, record);
-}
-
-// Whether the function is of a library that this program has.
-fn for_this(function: u64) -> bool {
-    match function / 100 {
-        9..=13 => true,
-        16 | 17 => true,
-        _ => false,
-    }
-}
-
-fn put_all(r: Answer, record: &mut [u8]) {
-    let a = put(r[0], record, 0);
-    let b = put(r[1], record, a);
-    let c = put(r[2], record, b);
-    let d = put(r[3], record, c);
-    let e = put(r[4], record, d);
-    let f = put(r[5], record, e);
-    let g = put(r[6], record, f);
-    put(r[7], record, g);
-}
-
-fn values(record: &[u8]) -> [u64; 8] {
-    [
-        number(record, 1),
-        number(record, 2),
-        number(record, 3),
-        number(record, 4),
-        number(record, 5),
-        number(record, 6),
-        number(record, 7),
-        number(record, 8),
-    ]
-}
-
-fn call(function: u64, values: &[u64; 8], first: &[u8], s: &[u8], room: &mut [u8]) -> Answer {
-    match function / 100 {
-        9 => message_calls::call(function, values, first, s, room),
-        10 | 11 => line_calls::call(function, values, first, s, room),
-        16 | 17 => asked_calls::call(function, values, s, room),
-        _ => book_calls::call(function, values[0], first, s, room),
-    }
-}
-
-// Reads the bytes between two places. A read that fails is the end of the input.
-fn read(from: &mut impl Read, s: &mut [u8], start: usize, end: usize) -> bool {
-    if end <= start {
-        return true;
-    }
-    if s.len() < end {
-        return false;
-    }
-    from.read_exact(&mut s[start..end]).is_ok()
-}
-
-fn write(to: &mut impl Write, s: &[u8], n: usize) -> bool {
-    to.write_all(part(s, 0, n)).is_ok()
-}
-
-// The bytes between two places.
-fn part(s: &[u8], from: usize, to: usize) -> &[u8] {
-    if to < from {
-        return &s[0..0];
-    }
-    if s.len() < to {
-        return &s[0..0];
-    }
-    &s[from..to]
-}
-
-// A word of a record.
-fn number(record: &[u8], word: usize) -> u64 {
-    if 13 < word {
-        return 0;
-    }
-    let low = half(part(record, 8 * word, 8 * word + 4));
-    let high = half(part(record, 8 * word + 4, 8 * word + 8));
-    low as u64 + 4_294_967_296 * (high as u64)
-}
-
-fn half(s: &[u8]) -> u32 {
-    match low_first::number_of(s) {
-        Number::Is(n) => n,
-        Number::Width => 0,
-    }
-}
-
-// Puts a word at a place.
-fn put(n: u64, record: &mut [u8], at: usize) -> usize {
-    let low = low_first::four((n % 4_294_967_296) as u32);
-    let high = low_first::four((n / 4_294_967_296) as u32);
-    let next = puts::bytes(&low, record, at);
-    puts::bytes(&high, record, next)
+// The answer, if the function is of a library that this program has.
+fn answered(r: Request<'_>, room: &mut [u8]) -> Option<Answer> {
+    let answer = match r.function / 100 {
+        9 => message_calls::call(&r, room),
+        10 | 11 => line_calls::call(&r, room),
+        12 | 13 => book_calls::call(&r, room),
+        16 | 17 => asked_calls::call(&r, room),
+        _ => return None,
+    };
+    Some(answer.unwrap_or_else(Answer::Refused))
 }

@@ -1,7 +1,6 @@
-// Messages, out of the numbers of a record and into those of an answer, and the tags of contents, out of the numbers of a record.
-ghost use Rattle.std.specs.Prelude.{◌<◌};
-
+// Messages, out of the numbers of a request and into those of an answer, and the tags of contents, out of the numbers of a request.
 use super::answer;
+use super::request::Request;
 use messages::homiq::Homiq;
 use messages::nest::Response;
 use messages::nibe::{Nibe, Valued};
@@ -10,122 +9,90 @@ use messages::{Message, Tag};
 
 // The message whose row is the second of the numbers, and whose fields stand behind it; a row is its number in the table of
 // crates/calls_read/src/request.rt.
-pub(crate) fn of(values: &[u64; 8], six: &[u8]) -> Message {
-    let row = values[1];
-    if row < 7 {
-        return Message::Nikobus(nikobus(row, values, six));
+pub(crate) fn of(r: &Request<'_>) -> Message {
+    match r.numbers[1].0 {
+        0..=6 => Message::Nikobus(nikobus(r)),
+        7 => Message::Command {
+            id: r.numbers[2].u16(),
+        },
+        8..=13 => Message::Response(response(r)),
+        14..=18 => Message::Nibe(nibe(r)),
+        _ => Message::Homiq(homiq(r)),
     }
-    if row == 7 {
-        return Message::Command {
-            id: (values[2] % 65_536) as u16,
-        };
-    }
-    if row < 14 {
-        return Message::Response(response(values));
-    }
-    if row < 19 {
-        return Message::Nibe(nibe(row, values));
-    }
-    Message::Homiq(homiq(row))
 }
 
-fn nikobus(row: u64, values: &[u64; 8], six: &[u8]) -> Nikobus {
-    match row {
+fn nikobus(r: &Request<'_>) -> Nikobus {
+    match r.numbers[1].0 {
         1 => Nikobus::Read {
-            group: (values[2] % 256) as u8,
-            address: (values[3] % 65_536) as u16,
+            group: r.numbers[2].u8(),
+            address: r.numbers[3].u16(),
         },
         2 => Nikobus::Set {
-            group: (values[2] % 256) as u8,
-            address: (values[3] % 65_536) as u16,
-            out: six_of(six),
+            group: r.numbers[2].u8(),
+            address: r.numbers[3].u16(),
+            out: six(r.first),
         },
         3 => Nikobus::Answer {
-            address: (values[2] % 65_536) as u16,
-            third: (values[3] % 256) as u8,
-            out: six_of(six),
+            address: r.numbers[2].u16(),
+            third: r.numbers[3].u8(),
+            out: six(r.first),
         },
-        4 => Nikobus::Press(six_of(six)),
+        4 => Nikobus::Press(six(r.first)),
         5 => Nikobus::Tail,
         _ => Nikobus::Link,
     }
 }
 
-fn six_of(s: &[u8]) -> Six {
-    if s.len() != 6 {
-        return none();
-    }
-    Six {
-        a: s[0],
-        b: s[1],
-        c: s[2],
-        d: s[3],
-        e: s[4],
-        f: s[5],
-    }
+// A message has six bytes where it has any.
+fn six(s: &[u8]) -> Six {
+    let [a, b, c, d, e, f] = s.as_array::<6>().copied().unwrap_or_default();
+    Six { a, b, c, d, e, f }
 }
 
-fn none() -> Six {
-    Six {
-        a: 0,
-        b: 0,
-        c: 0,
-        d: 0,
-        e: 0,
-        f: 0,
-    }
-}
-
-pub(crate) fn response(values: &[u64; 8]) -> Response {
-    match values[1] {
+pub(crate) fn response(r: &Request<'_>) -> Response {
+    match r.numbers[1].0 {
         8 => Response::Climate {
-            temperature: signed(values[2]),
-            humidity: (values[3] % 65_536) as u16,
+            temperature: r.numbers[2].i16(),
+            humidity: r.numbers[3].u16(),
         },
         9 => Response::State,
         10 => Response::Break,
         11 => Response::End,
         12 => Response::Text {
-            id: (values[2] % 65_536) as u16,
+            id: r.numbers[2].u16(),
         },
         _ => Response::Other {
-            id: (values[2] % 65_536) as u16,
+            id: r.numbers[2].u16(),
         },
     }
 }
 
-// Of a number below zero the other bits are those of a number that is not.
-fn signed(n: u64) -> i16 {
-    if n < 32_768 {
-        return n as i16;
-    }
-    !(((u64::MAX - n) % 32_768) as i16)
-}
-
-fn nibe(row: u64, values: &[u64; 8]) -> Nibe {
-    match row {
+fn nibe(r: &Request<'_>) -> Nibe {
+    match r.numbers[1].0 {
         14 => Nibe::Ask {
-            register: (values[2] % 65_536) as u16,
+            register: r.numbers[2].u16(),
         },
-        15 => Nibe::Reply(valued(values)),
-        16 => Nibe::Put(valued(values)),
-        17 => Nibe::Done { ok: values[2] == 1 },
+        15 => Nibe::Reply(valued(r)),
+        16 => Nibe::Put(valued(r)),
+        17 => Nibe::Done {
+            ok: r.numbers[2].truth(),
+        },
         _ => Nibe::Other {
-            command: (values[2] % 256) as u8,
+            command: r.numbers[2].u8(),
         },
     }
 }
 
-fn valued(values: &[u64; 8]) -> Valued {
+fn valued(r: &Request<'_>) -> Valued {
     Valued {
-        register: (values[2] % 65_536) as u16,
-        width: (values[3] % 256) as u8,
-        value: (values[4] % 4_294_967_296) as u32,
+        register: r.numbers[2].u16(),
+        width: r.numbers[3].u8(),
+        value: r.numbers[4].u32(),
     }
 }
 
-fn homiq(row: u64) -> Homiq {
-    match row {
+fn homiq(r: &Request<'_>) -> Homiq {
+    match r.numbers[1].0 {
         19 => Homiq::Output,
         20 => Homiq::Input,
         21 => Homiq::Shutter,
@@ -135,19 +102,19 @@ fn homiq(row: u64) -> Homiq {
 }
 
 // The tag whose row is the second of the numbers, and whose field is the third; a row is its number in the table there.
-pub(crate) fn tag(values: &[u64; 8]) -> Tag {
-    match values[1] {
+pub(crate) fn tag(r: &Request<'_>) -> Tag {
+    match r.numbers[1].0 {
         1 => Tag::Link,
         2 => Tag::Press,
         3 => Tag::Tail,
         4 => Tag::Command {
-            id: (values[2] % 65_536) as u16,
+            id: r.numbers[2].u16(),
         },
         5 => Tag::Response {
-            id: (values[2] % 65_536) as u16,
+            id: r.numbers[2].u16(),
         },
         6 => Tag::Nibe {
-            command: (values[2] % 256) as u8,
+            command: r.numbers[2].u8(),
         },
         _ => Tag::Homiq,
     }
@@ -185,14 +152,7 @@ fn said_nikobus(message: Nikobus) -> [u64; 4] {
 
 // Six bytes as a number, low byte first.
 fn said_six(s: Six) -> u64 {
-    let low = three(s.a, s.b, s.c);
-    low + 16_777_216 * three(s.d, s.e, s.f)
-}
-
-fn three(a: u8, b: u8, c: u8) -> u64
-    ensures { result < 16777216 }
-{
-    a as u64 + 256 * (b as u64) + 65536 * (c as u64)
+    u64::from_le_bytes([s.a, s.b, s.c, s.d, s.e, s.f, 0, 0])
 }
 
 fn said_response(message: Response) -> [u64; 4] {
@@ -214,13 +174,9 @@ fn said_nibe(message: Nibe) -> [u64; 4] {
         Nibe::Ask { register } => [14, register as u64, 0, 0],
         Nibe::Reply(v) => said_valued(15, v),
         Nibe::Put(v) => said_valued(16, v),
-        Nibe::Done { ok } => [17, said_truth(ok), 0, 0],
+        Nibe::Done { ok } => [17, ok as u64, 0, 0],
         Nibe::Other { command } => [18, command as u64, 0, 0],
     }
-}
-
-pub(crate) fn said_truth(b: bool) -> u64 {
-    if b { 1 } else { 0 }
 }
 
 fn said_valued(row: u64, v: Valued) -> [u64; 4] {

@@ -4,10 +4,13 @@
 
 mod functions;
 mod request;
-mod table;
+mod types;
 mod word;
 
-use digits::low_first;
+ghost use Rattle.std.specs.Prelude.{◌≤◌, length, IfOk, IfSome};
+
+use request::Request;
+use std::io;
 use std::io::{Read, Write};
 
 fn main(rt: HostRuntime) {
@@ -24,7 +27,7 @@ fn main(rt: HostRuntime) {
 }
 
 // The longest line and its LF, the words and the bytes of one request, and the longest room that is lent, as it is lent. They are taken by
-// their types, so that no proof has to count them.
+// their types, so that no proof has to count them. The status tells nothing: a record that could not be written is the last.
 fn with_rooms(
     source: &mut impl Read,
     to: &mut impl Write,
@@ -32,222 +35,131 @@ fn with_rooms(
     record: &mut [u8; 131184],
     room: &[u8; 2097202],
 ) {
-    read_all(source, to, input, record, room);
+    let _ = read_all(source, &mut Records { to, record, room }, input);
 }
 
-// How far the reading is. The front of the input has the first bytes of a line that is not complete: how many, whether the line began
-// before them and is too long, and whether there may be more.
+// How far the reading is. The front of the input has the first bytes of a line that is not complete: how many, and whether the line began
+// before them and is too long.
 #[derive(Clone, Copy)]
 struct Reading {
     have: usize,
     over: bool,
-    more: bool,
 }
 
 fn read_all(
     source: &mut impl Read,
-    to: &mut impl Write,
+    records: &mut Records<'_, impl Write>,
     input: &mut [u8],
-    record: &mut [u8],
-    room: &[u8],
-) {
-    let mut turns = u64::MAX;
+) -> io::Result<()> {
     let mut reading = Reading {
         have: 0,
         over: false,
-        more: true,
     };
-    while turns > 0 && reading.more {
-        reading = next(reading, source, to, input, record, room);
-        turns -= 1;
+    for _ in 0..u64::MAX {
+        let Some(end) = read_behind(reading.have, source, input) else {
+            return last(reading, records, input);
+        };
+        reading = complete(end, reading.over, records, input)?;
     }
+    Ok(())
 }
 
-// Reads what there is, behind what is there already, and the requests that are complete then.
-fn next(
-    reading: Reading,
-    source: &mut impl Read,
-    to: &mut impl Write,
-    input: &mut [u8],
-    record: &mut [u8],
-    room: &[u8],
-) -> Reading {
-    let have = reading.have;
-    let n = read_behind(have, source, input);
-    if n == 0 {
-        return last(reading, to, input, record, room);
-    }
-    complete(n, reading.over, to, input, record, room)
-}
-
-// How many bytes there are with those that are read now; 0 if none are. A read that fails is the end of the input.
-fn read_behind(have: usize, source: &mut impl Read, input: &mut [u8]) -> usize {
-    if input.len() < have {
-        return 0;
-    }
+// How many bytes there are with those that are read now, if any are. A read that fails is the end of the input.
+fn read_behind(have: usize, source: &mut impl Read, input: &mut [u8]) -> Option<usize>
+    requires { have ≤ length input.old }
+    ensures { IfSome result (λ end. end ≤ length input.new) }
+{
     match source.read(&mut input[have..]) {
-        Ok(0) => 0,
-        Ok(n) => have + n,
-        Err(_) => 0,
+        Ok(0) | Err(_) => None,
+        Ok(n) => Some(have + n),
     }
 }
 
 // The last line needs no LF.
-fn last(
-    reading: Reading,
-    to: &mut impl Write,
-    input: &[u8],
-    record: &mut [u8],
-    room: &[u8],
-) -> Reading {
-    let have = reading.have;
-    if input.len() < have {
-        return ended();
+fn last(reading: Reading, records: &mut Records<'_, impl Write>, input: &[u8]) -> io::Result<()>
+    requires { reading.have ≤ length input.now }
+{
+    if reading.over {
+        return records.refuse();
     }
-    if have == 0 {
-        if !reading.over {
-            return ended();
-        }
+    if reading.have == 0 {
+        return Ok(());
     }
-    line(reading.over, to, &input[0..have], record, room);
-    ended()
+    records.line(&input[..reading.have])
 }
 
-fn ended() -> Reading {
-    Reading {
-        have: 0,
-        over: false,
-        more: false,
-    }
-}
-
-// What was taken of the input: up to where, whether the line that begins there is too long, and whether its records could be written.
-#[derive(Clone, Copy)]
-struct Taken {
-    from: usize,
-    over: bool,
-    written: bool,
-}
-
+// Takes each complete line, and moves what is left to the front. If that fills the input, it is of a line that is too long.
 fn complete(
     end: usize,
     over: bool,
-    to: &mut impl Write,
+    records: &mut Records<'_, impl Write>,
     input: &mut [u8],
-    record: &mut [u8],
-    room: &[u8],
-) -> Reading {
-    if input.len() < end {
-        return ended();
-    }
-    let taken = each(over, to, &input[0..end], record, room);
-    if !taken.written {
-        return ended();
-    }
-    let left = to_front(input, taken.from, end);
-    if left == input.len() {
-        return Reading {
-            have: 0,
-            over: true,
-            more: true,
-        };
-    }
-    Reading {
-        have: left,
-        over: taken.over,
-        more: true,
-    }
+) -> io::Result<Reading>
+    requires { end ≤ length input.old }
+    ensures { IfOk result (λ reading. reading.have ≤ length input.new) }
+{
+    let Some(last) = input[..end].iter().rposition(|b| *b == b'\n') else {
+        let full = end == input.len();
+        return Ok(Reading {
+            have: if full { 0 } else { end },
+            over: over || full,
+        });
+    };
+    each(over, records, &input[..last])?;
+    input.copy_within(last + 1..end, 0);
+    Ok(Reading {
+        have: end - (last + 1),
+        over: false,
+    })
 }
 
-// Takes each complete line.
-fn each(over: bool, to: &mut impl Write, text: &[u8], record: &mut [u8], room: &[u8]) -> Taken {
-    let mut from = 0;
-    let mut long = over;
-    let mut written = true;
-    while from < text.len() {
-        let rest = &text[from..];
-        let n = table::until(rest, b'\n');
-        if rest.len() <= n {
-            return Taken {
-                from: from,
-                over: long,
-                written: written,
-            };
-        }
-        written = line(long, to, &rest[0..n], record, room) && written;
-        long = false;
-        from = from + n + 1;
-    }
-    Taken {
-        from: from,
-        over: long,
-        written: written,
-    }
-}
-
-// Writes the record of a line.
-fn line(over: bool, to: &mut impl Write, line: &[u8], record: &mut [u8], room: &[u8]) -> bool {
-    let mut words = [0, 0, 0, 0, 0, 0, 0, 0, 0, 256, 112, 112, 200_000, 0];
-    take(over, line, &mut words, record);
-    put_all(&words, record);
-    let size = words[9];
-    let lent = words[13];
-    write(to, record, size) && write(to, room, lent)
-}
-
-// Reads a request. A line that is too long is none.
-fn take(over: bool, line: &[u8], words: &mut [u64; 14], record: &mut [u8]) {
+// Takes lines, of which the first may be too long.
+fn each(over: bool, records: &mut Records<'_, impl Write>, text: &[u8]) -> io::Result<()> {
+    let mut lines = text.split(|b| *b == b'\n');
     if over {
-        return;
+        lines.next();
+        records.refuse()?;
     }
-    if record.len() < 112 {
-        return;
+    for line in lines {
+        records.line(line)?;
     }
-    functions::read(line, words, &mut record[112..]);
+    Ok(())
 }
 
-// Puts the words to the front of the record.
-fn put_all(words: &[u64; 14], record: &mut [u8]) {
-    let mut at = 0;
-    let mut i = 0;
-    while i < 14 {
-        at = put(words[i], record, at);
-        i += 1;
+// Where records are written to, one after the other, in one place; and the room that is lent.
+#[derive(Drop)]
+struct Records<'a, W> {
+    to: &'a mut W,
+    record: &'a mut [u8],
+    room: &'a [u8],
+}
+
+impl<W: Write> Records<'_, W> {
+    // Writes the record of a line.
+    fn line(&mut self, line: &[u8]) -> io::Result<()> {
+        let store = self.record.get_mut(112..).unwrap_or_default();
+        let request = request::read(line, store);
+        self.write(request)
+    }
+
+    // Writes the record of a line that is too long.
+    fn refuse(&mut self) -> io::Result<()> {
+        self.write(Request::none())
+    }
+
+    fn write(&mut self, request: Request) -> io::Result<()> {
+        let record = &mut *self.record;
+        let to = &mut *self.to;
+        let (head, _) = record.as_chunks_mut::<8>();
+        for (place, word) in head.iter_mut().zip(request.words()) {
+            *place = word.to_le_bytes();
+        }
+        to.write_all(front(record, request.size()))?;
+        to.write_all(front(self.room, request.follow()))
     }
 }
 
-fn put(n: u64, record: &mut [u8], at: usize) -> usize {
-    let low = low_first::four((n % 4_294_967_296) as u32);
-    let high = low_first::four((n / 4_294_967_296) as u32);
-    let next = puts::bytes(&low, record, at);
-    puts::bytes(&high, record, next)
-}
-
-// Writes the first n bytes.
-fn write(to: &mut impl Write, s: &[u8], n: u64) -> bool {
-    let k = n as usize;
-    if s.len() < k {
-        return false;
-    }
-    to.write_all(&s[0..k]).is_ok()
-}
-
-// Moves the bytes between two places to the front; how many they are.
-fn to_front(s: &mut [u8], from: usize, end: usize) -> usize {
-    if s.len() < end {
-        return 0;
-    }
-    if end < from {
-        return 0;
-    }
-    let n = end - from;
-    if from == 0 {
-        return n;
-    }
-    let mut i = 0;
-    while i < n {
-        s[i] = s[from + i];
-        i += 1;
-    }
-    n
+// The first n bytes.
+fn front(s: &[u8], n: usize) -> &[u8] {
+    s.get(..n).unwrap_or_default()
 }

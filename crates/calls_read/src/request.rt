@@ -1,4 +1,4 @@
-// A request's arguments, read as the row of its function says, into a record.
+// A request's arguments, read as its function says, into a record.
 //
 // A record is fourteen words of eight bytes, low byte first; then the bytes of the request; then the room. The words are
 //
@@ -11,295 +11,244 @@
 //
 // Each number has the next of the eight words. A message or a tag is its row, always in the second of them, and its fields, from the third
 // on; what follows it stands from the sixth on. Bytes stand in the record: at most two arguments are bytes, and most often the last alone.
-ghost use Rattle.std.specs.Prelude.{◌+◌, ◌≤◌, ◌<◌, length};
+use super::types::Type;
+use super::word::Words;
+use super::{functions, word};
 
-use super::word::Value;
-use super::{table, word};
-use digits::slices;
-
-// How far the reading is: the place in the line, the next word, and how many bytes of the store are taken. A request that is wrong goes
-// on at a place behind all lines.
+// What stands in a record: the function, its numbers, where the last bytes that were given begin and end, counted from the first byte of the
+// request, and the length of the room, if one is shown.
 #[derive(Clone, Copy)]
-struct Cursor {
-    at: usize,
-    slot: usize,
+pub(crate) struct Request {
+    function: u64,
+    numbers: [u64; 8],
+    last: usize,
+    used: usize,
+    room: Option<usize>,
+}
+
+impl Request {
+    pub(crate) fn none() -> Request {
+        Request {
+            function: 0,
+            numbers: [0; 8],
+            last: 0,
+            used: 0,
+            room: None,
+        }
+    }
+
+    // The length of the record without the room.
+    pub(crate) fn size(&self) -> usize {
+        self.end().max(256)
+    }
+
+    // How many bytes of the room follow.
+    pub(crate) fn follow(&self) -> usize {
+        self.room.unwrap_or(0)
+    }
+
+    pub(crate) fn words(&self) -> [u64; 14] {
+        let n = self.numbers;
+        [
+            self.function,
+            n[0],
+            n[1],
+            n[2],
+            n[3],
+            n[4],
+            n[5],
+            n[6],
+            n[7],
+            self.size() as u64,
+            112u64.saturating_add(self.last as u64),
+            self.end() as u64,
+            self.room.unwrap_or(200_000) as u64,
+            self.follow() as u64,
+        ]
+    }
+
+    fn end(&self) -> usize {
+        self.used.saturating_add(112)
+    }
+}
+
+// Reads a request, and its bytes to the front of the store. A line that is none is function 0 with what stands before its wrong word.
+pub(crate) fn read(line: &[u8], store: &mut [u8]) -> Request {
+    let mut reading = Reading {
+        request: Request::none(),
+        next: 0,
+        used: 0,
+    };
+    match reading.line(line, store) {
+        Some(function) => Request {
+            function,
+            used: reading.used,
+            ..reading.request
+        },
+        None => reading.request,
+    }
+}
+
+// The messages, a row each: the name, and the types of the fields.
+static MESSAGES: [(&str, &[Type]); 23] = [
+    ("read", &[Type::U8, Type::U16]),
+    ("set", &[Type::U8, Type::U16, Type::Six]),
+    ("answer", &[Type::U16, Type::U8, Type::Six]),
+    ("press", &[Type::Six]),
+    ("tail", &[]),
+    ("link", &[]),
+    ("command", &[Type::U16]),
+    ("climate", &[Type::I16, Type::U16]),
+    ("state", &[]),
+    ("break", &[]),
+    ("end", &[]),
+    ("text", &[Type::U16]),
+    ("response", &[Type::U16]),
+    ("ask", &[Type::U16]),
+    ("reply", &[Type::U16, Type::U8, Type::U32]),
+    ("put", &[Type::U16, Type::U8, Type::U32]),
+    ("done", &[Type::Bool]),
+    ("nibe", &[Type::U8]),
+    ("output", &[]),
+    ("input", &[]),
+    ("shutter", &[]),
+    ("beat", &[]),
+    ("homiq", &[]),
+];
+
+// The tags of contents, likewise.
+static TAGS: [(&str, &[Type]); 7] = [
+    ("link", &[]),
+    ("press", &[]),
+    ("tail", &[]),
+    ("command", &[Type::U16]),
+    ("response", &[Type::U16]),
+    ("nibe", &[Type::U8]),
+    ("homiq", &[]),
+];
+
+// How far the reading is: what has been read, the place of the next number, and how many bytes of the store are taken.
+#[derive(Clone, Copy)]
+struct Reading {
+    request: Request,
+    next: usize,
     used: usize,
 }
 
-// Reads a request whose function stands in a table. If it does not, or the arguments are others, the function stays 0.
-pub(crate) fn read(rows: &[u8], line: &[u8], words: &mut [u64; 14], store: &mut [u8]) {
-    let name = table::until(line, b' ');
-    let types = table::words(table::find(&line[0..name], rows), rows);
-    if types.len() == 0 {
-        return;
-    }
-    let number = word_behind(types, 0);
-    let start = Cursor {
-        at: name,
-        slot: 1,
-        used: 0,
-    };
-    let end = arguments(&types[1 + number.len()..], line, start, words, store);
-    if end.at != line.len() {
-        return;
-    }
-    finish(number, end.used, words)
-}
-
-fn finish(number: &[u8], used: usize, words: &mut [u64; 14]) {
-    if 131_072 < used {
-        return;
-    }
-    let end = 112 + used as u64;
-    if 256 < end {
-        words[9] = end;
-    }
-    words[11] = end;
-    if let Value::Is(n) = word::unsigned(number, 9_999) {
-        words[0] = n;
-    }
-}
-
-// Reads the arguments of these types. If one is a message or a tag, its name and fields stand there.
-fn arguments(
-    types: &[u8],
-    line: &[u8],
-    start: Cursor,
-    words: &mut [u64; 14],
-    store: &mut [u8],
-) -> Cursor {
-    let n = first_named(types);
-    if types.len() <= n {
-        return each(types, line, start, words, store);
-    }
-    if n == 0 {
-        return wrong();
-    }
-    let before = each(&types[0..n - 1], line, start, words, store);
-    let rest = &types[n..];
-    let size = table::until(rest, b' ');
-    let read = named(&rest[0..size], line, before, words, store);
-    each(&rest[size..], line, read, words, store)
-}
-
-// Where the first type begins whose values have a name, and fields behind it: `Message` or `Tag`. No other type has these letters.
-fn first_named(types: &[u8]) -> usize {
-    let message = table::until(types, b'M');
-    table::until(&types[0..message], b'T')
-}
-
-// Reads a message or a tag, as the type says.
-fn named(kind: &[u8], line: &[u8], c: Cursor, words: &mut [u64; 14], store: &mut [u8]) -> Cursor {
-    if slices::same(kind, b"Tag") {
-        return tag(line, c, words, store);
-    }
-    message(line, c, words, store)
-}
-
-// Reads a tag, by the rows of its names.
-fn tag(line: &[u8], c: Cursor, words: &mut [u64; 14], store: &mut [u8]) -> Cursor {
-    let rows = b"\
-        link\n\
-        press\n\
-        tail\n\
-        command u16\n\
-        response u16\n\
-        nibe u8\n\
-        homiq\n";
-    of_row(rows, line, c, words, store)
-}
-
-// Reads a message, by the rows of the table.
-fn message(line: &[u8], c: Cursor, words: &mut [u64; 14], store: &mut [u8]) -> Cursor {
-    let rows = b"\
-        read u8 u16\n\
-        set u8 u16 six\n\
-        answer u16 u8 six\n\
-        press six\n\
-        tail\n\
-        link\n\
-        command u16\n\
-        climate i16 u16\n\
-        state\n\
-        break\n\
-        end\n\
-        text u16\n\
-        response u16\n\
-        ask u16\n\
-        reply u16 u8 u32\n\
-        put u16 u8 u32\n\
-        done bool\n\
-        nibe u8\n\
-        output\n\
-        input\n\
-        shutter\n\
-        beat\n\
-        homiq\n";
-    of_row(rows, line, c, words, store)
-}
-
-fn of_row(rows: &[u8], line: &[u8], c: Cursor, words: &mut [u64; 14], store: &mut [u8]) -> Cursor {
-    let name = argument(line, c.at);
-    let row = table::find(name, rows);
-    if row.number == 0 {
-        return wrong();
-    }
-    words[2] = row.number as u64;
-    let start = Cursor {
-        at: behind(c.at, name),
-        slot: 3,
-        used: c.used,
-    };
-    let end = each(table::words(row, rows), line, start, words, store);
-    Cursor {
-        at: end.at,
-        slot: 6,
-        used: end.used,
-    }
-}
-
-// Reads an argument for each type.
-fn each(
-    types: &[u8],
-    line: &[u8],
-    start: Cursor,
-    words: &mut [u64; 14],
-    store: &mut [u8],
-) -> Cursor {
-    let mut c = start;
-    let mut i = 0;
-    while i < types.len() {
-        let kind = word_behind(types, i);
-        c = one(kind, line, c, words, store);
-        i = i + 1 + kind.len();
-    }
-    c
-}
-
-// The word behind the space at a place.
-fn word_behind(s: &[u8], at: usize) -> &[u8]
-    requires { at < length s.now }
-    ensures { at + 1 + length result.now ≤ length s.now }
-{
-    let rest = &s[at + 1..];
-    let n = table::until(rest, b' ');
-    &rest[0..n]
-}
-
-// The next argument of a line; empty, which no argument is, if there is none.
-fn argument(line: &[u8], at: usize) -> &[u8] {
-    if line.len() <= at {
-        return &line[0..0];
-    }
-    if line[at] != b' ' {
-        return &line[0..0];
-    }
-    word_behind(line, at)
-}
-
-// The place behind an argument and the space before it.
-fn behind(at: usize, word: &[u8]) -> usize {
-    if usize::MAX - 1 - word.len() < at {
-        return usize::MAX;
-    }
-    at + 1 + word.len()
-}
-
-fn one(kind: &[u8], line: &[u8], c: Cursor, words: &mut [u64; 14], store: &mut [u8]) -> Cursor {
-    let word = argument(line, c.at);
-    let next = Cursor {
-        at: behind(c.at, word),
-        slot: c.slot,
-        used: c.used,
-    };
-    let n = table::number(
-        kind,
-        b"u8\nu16\nu32\nu64\nusize\ni16\ni32\ni64\nbool\nDirection\nDecimals\nRefusal\nKind\nroom\nbytes\nfour\nsix\n",
-    );
-    match n {
-        14 => room(word, next, words),
-        15 => bytes(word, next, words, store),
-        16 => so_many(4, c.used, bytes(word, next, words, store)),
-        17 => so_many(6, c.used, bytes(word, next, words, store)),
-        _ => plain(n, word, next, words),
-    }
-}
-
-// Takes a value of one slot.
-fn plain(kind: usize, word: &[u8], c: Cursor, words: &mut [u64; 14]) -> Cursor {
-    match word::of(kind, word) {
-        Value::Is(v) => stored(v, c, words),
-        Value::Wrong => wrong(),
-    }
-}
-
-fn stored(v: u64, c: Cursor, words: &mut [u64; 14]) -> Cursor {
-    let slot = c.slot;
-    if 8 < slot {
-        return wrong();
-    }
-    words[slot] = v;
-    Cursor {
-        at: c.at,
-        slot: slot + 1,
-        used: c.used,
-    }
-}
-
-fn room(word: &[u8], c: Cursor, words: &mut [u64; 14]) -> Cursor {
-    match word::unsigned(word, 2_097_202) {
-        Value::Is(n) => {
-            words[12] = n;
-            words[13] = n;
-            c
+impl Reading {
+    // Takes a line; the number of its function, if it is a request.
+    fn line(&mut self, line: &[u8], store: &mut [u8]) -> Option<u64> {
+        let mut words = Words::of(line);
+        let function = functions::find(words.next()?)?;
+        for t in function.types() {
+            self.argument(*t, &mut words, store)?;
         }
-        Value::Wrong => wrong(),
+        match words.next() {
+            Some(_) => None,
+            None => Some(function.number()),
+        }
+    }
+
+    // Takes an argument of a type.
+    fn argument(&mut self, t: Type, words: &mut Words<'_>, store: &mut [u8]) -> Option<()> {
+        match t {
+            Type::Message => self.named(&MESSAGES, words, store),
+            Type::Tag => self.named(&TAGS, words, store),
+            _ => self.plain(t, words, store),
+        }
+    }
+
+    // Takes a message or a tag, whose rows these are.
+    fn named(
+        &mut self,
+        rows: &[(&str, &[Type])],
+        words: &mut Words<'_>,
+        store: &mut [u8],
+    ) -> Option<()> {
+        let name = words.next()?;
+        let row = rows.iter().position(|r| r.0.as_bytes() == name)?;
+        let (_, types) = rows[row];
+        self.next = 1;
+        self.number(row as u64 + 1)?;
+        for t in types {
+            self.plain(*t, words, store)?;
+        }
+        self.next = 5;
+        Some(())
+    }
+
+    // Takes a word as a value of a type that needs no other. One that is missing is empty, as no value is.
+    fn plain(&mut self, t: Type, words: &mut Words<'_>, store: &mut [u8]) -> Option<()> {
+        let word = words.next().unwrap_or_default();
+        match t {
+            Type::U8 => self.number(word::unsigned(word, 255)?),
+            Type::U16 => self.number(word::unsigned(word, 65_535)?),
+            Type::U32 => self.number(word::unsigned(word, 4_294_967_295)?),
+            Type::U64 | Type::Usize => self.number(word::unsigned(word, u64::MAX)?),
+            Type::I16 => self.number(word::signed(word, 1 << 15)?),
+            Type::I32 => self.number(word::signed(word, 1 << 31)?),
+            Type::I64 => self.number(word::signed(word, 1 << 63)?),
+            Type::Bool => self.number(word::place(word, &["false", "true"])?),
+            Type::Direction => self.number(word::place(word, &["command", "response"])?),
+            Type::Decimals => self.number(word::place(word, &["0", "1", "2", "3"])?),
+            Type::Refusal => self.number(word::place(word, &REFUSALS)?),
+            Type::Kind => self.number(word::place(word, &KINDS)?),
+            Type::Room => self.room(word),
+            Type::Bytes => {
+                self.bytes(word, store)?;
+                Some(())
+            }
+            Type::Four => self.so_many(4, word, store),
+            Type::Six => self.so_many(6, word, store),
+            Type::Message | Type::Tag => None,
+        }
+    }
+
+    fn number(&mut self, n: u64) -> Option<()> {
+        let place = self.request.numbers.get_mut(self.next)?;
+        *place = n;
+        self.next += 1;
+        Some(())
+    }
+
+    fn room(&mut self, word: &[u8]) -> Option<()> {
+        let n = word::unsigned(word, 2_097_202)?;
+        self.request.room = Some(n as usize);
+        Some(())
+    }
+
+    // Takes bytes, to the store behind those that are there; how many they are.
+    fn bytes(&mut self, word: &[u8], store: &mut [u8]) -> Option<usize> {
+        let from = self.used;
+        self.request.last = from;
+        let n = word::bytes(word, store.get_mut(from..)?)?;
+        self.used = from.checked_add(n)?;
+        Some(n)
+    }
+
+    // Takes so many bytes.
+    fn so_many(&mut self, n: usize, word: &[u8], store: &mut [u8]) -> Option<()> {
+        if self.bytes(word, store)? == n {
+            Some(())
+        } else {
+            None
+        }
     }
 }
 
-// Takes bytes, to the store behind those that are there.
-fn bytes(word: &[u8], c: Cursor, words: &mut [u64; 14], store: &mut [u8]) -> Cursor {
-    let used = c.used;
-    if 131_072 < used {
-        return wrong();
-    }
-    if store.len() < used {
-        return wrong();
-    }
-    words[10] = 112 + used as u64;
-    match word::bytes(word, &mut store[used..]) {
-        Value::Is(n) => more(n, c),
-        Value::Wrong => wrong(),
-    }
-}
+static REFUSALS: [&str; 12] = [
+    "NoFrame",
+    "Kind",
+    "Place",
+    "Room",
+    "Limits",
+    "Above",
+    "Form",
+    "Book",
+    "NoRegister",
+    "BadSheet",
+    "NotInGrammar",
+    "BadMembers",
+];
 
-fn more(n: u64, c: Cursor) -> Cursor {
-    let used = c.used;
-    if usize::MAX - used < n as usize {
-        return wrong();
-    }
-    Cursor {
-        at: c.at,
-        slot: c.slot,
-        used: used + n as usize,
-    }
-}
-
-// The bytes that were taken must be so many.
-fn so_many(n: usize, used: usize, c: Cursor) -> Cursor {
-    if c.used < used {
-        return wrong();
-    }
-    if c.used - used != n {
-        return wrong();
-    }
-    c
-}
-
-fn wrong() -> Cursor {
-    Cursor {
-        at: usize::MAX,
-        slot: 0,
-        used: 0,
-    }
-}
+static KINDS: [&str; 5] = ["nikobus", "nest-command", "nest-response", "nibe", "homiq"];

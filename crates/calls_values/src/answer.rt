@@ -1,58 +1,92 @@
-// Answers: the number of a form, of those in crates/calls_write/src/forms.rt, and the values that it has.
+// Answers, of the forms in crates/calls_write/src/forms.rt.
+use checks::rule::{BitOrder, Rule};
 use digits::refusal;
 use digits::refusal::Refusal;
+use jsontext::faults as text_faults;
+use numbers::panel;
+use numbers::text::Reading;
+use sheet::{Typed, faults as sheet_faults};
+use std::num;
 
-pub(crate) type Answer = [u64; 4];
-
-pub(crate) fn number(n: u64) -> Answer {
-    [3, n, 0, 0]
+#[derive(Clone, Copy, Debug, PartialEq)]
+pub(crate) enum Answer {
+    // not one: the record asks for nothing that there is
+    NoRequest,
+    Refused(Refusal),
+    Number(u64),
+    // two places
+    Part { from: usize, to: usize },
+    // so many bytes at the front of the room
+    Bytes(usize),
+    Truth(bool),
+    Signed(i64),
+    Reading(Reading),
+    Shown(panel::Value),
+    Climate(panel::Climate),
+    Rule(Rule),
+    Type(Typed),
+    SheetFault(Option<sheet_faults::Fault>),
+    TextFault(Option<text_faults::Fault>),
 }
 
-pub(crate) fn refused(why: Refusal) -> Answer {
-    [1, refusal::number(why) as u64, 0, 0]
-}
-
-// Bytes stand at the front of the room.
-pub(crate) fn bytes(s: &[u8], room: &mut [u8]) -> Answer {
-    [7, puts::bytes(s, room, 0) as u64, 0, 0]
-}
-
-// How many bytes of the room follow: those that are answered, or as many as before.
-pub(crate) fn room(r: Answer, before: u64) -> u64 {
-    if r[0] == 7 {
-        return r[1];
+impl From<u64> for Answer {
+    fn from(n: u64) -> Answer {
+        Answer::Number(n)
     }
-    before
 }
 
-pub(crate) fn truth(b: bool) -> Answer {
-    if b {
-        return [8, 0, 0, 0];
+impl Answer {
+    // The number of the form, and the values. A test of a sheet and what a text lacks are given by their places in the lists of forms.rt, which
+    // are in the order of their enums, behind `none`, and behind `long`.
+    pub(crate) fn words(self) -> [u64; 4] {
+        match self {
+            Answer::NoRequest => [0; 4],
+            Answer::Refused(why) => [1, refusal::number(why) as u64, 0, 0],
+            Answer::Number(n) => [3, n, 0, 0],
+            Answer::Part { from, to } => [4, from as u64, to as u64, 0],
+            Answer::Bytes(n) => [7, n as u64, 0, 0],
+            Answer::Truth(true) => [8, 0, 0, 0],
+            Answer::Truth(false) => [9, 0, 0, 0],
+            Answer::Signed(n) => [10, signed(n), 0, 0],
+            Answer::Reading(r) => [11, signed(r.raw), r.decimals as u64, 0],
+            Answer::Shown(panel::Value::Single(x)) => [12, single(x), 0, 0],
+            Answer::Shown(panel::Value::Double(x)) => [13, bits(x), 0, 0],
+            Answer::Climate(c) => [14, single(c.temperature), single(c.humidity), 0],
+            Answer::Rule(r) => [
+                order(r.order),
+                r.width as u64,
+                r.poly as u64,
+                r.start as u64,
+            ],
+            Answer::Type(t) => [22, t.width as u64, t.signed as u64, t.decimals as u64],
+            Answer::SheetFault(None) => [94, 0, 0, 0],
+            Answer::SheetFault(Some(f)) => [94, f.line as u64, f.test as u64 + 1, 0],
+            Answer::TextFault(None) => [118, 0, 0, 0],
+            Answer::TextFault(Some(text_faults::Fault::Long)) => [118, 0, 1, 0],
+            Answer::TextFault(Some(text_faults::Fault::At { lack, at })) => {
+                [118, at as u64, lack as u64 + 2, 0]
+            }
+        }
     }
-    [9, 0, 0, 0]
 }
 
-// A signed number, and a number. A signed number is written as the float that it is: 53 digits are more than any has.
-pub(crate) fn reading(raw: i64, decimals: u32) -> Answer {
-    [11, signed(raw), decimals as u64, 0]
+fn order(order: BitOrder) -> u64 {
+    match order {
+        BitOrder::HighBitFirst => 15,
+        BitOrder::LowBitFirst => 16,
+    }
 }
 
-pub(crate) fn signed_number(raw: i64) -> Answer {
-    [10, signed(raw), 0, 0]
-}
-
-fn signed(z: i64) -> u64 {
-    bits(std::num::nearest_i64_to_f64(z))
+// A signed number is written as the float that it is: 53 digits are more than any has.
+fn signed(n: i64) -> u64 {
+    bits(num::nearest_i64_to_f64(n))
 }
 
 // A double holds every single.
-pub(crate) fn single(x: f32) -> u64 {
-    bits(std::num::f32_to_f64_with_nan(x))
+fn single(x: f32) -> u64 {
+    bits(num::f32_to_f64_with_nan(x))
 }
 
-pub(crate) fn bits(x: f64) -> u64 {
-    if x == x {
-        return f64::to_bits(x);
-    }
-    0
+fn bits(x: f64) -> u64 {
+    if x == x { f64::to_bits(x) } else { 0 }
 }

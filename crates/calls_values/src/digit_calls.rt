@@ -1,83 +1,56 @@
 // The functions of `digits`.
 use super::answer::Answer;
-use super::{answer, value};
-use digits::decimal::Natural;
-use digits::hex::{Byte, Word};
-use digits::low_first::Number;
+use super::request::Request;
 use digits::refusal::Refusal;
 use digits::{decimal, hex, low_first, refusal, slices};
 
-pub(crate) fn call(
-    function: u64,
-    x: u64,
-    y: u64,
-    first: &[u8],
-    s: &[u8],
-    room: &mut [u8],
-) -> Answer {
-    match function {
-        103 => answer::bytes(&hex::two_digits(value::small(x)), room),
-        105 => answer::bytes(&hex::four_digits(value::word(x)), room),
-        107 => decimal_digits(x, room),
-        109 => answer::bytes(&low_first::one(value::small(x)), room),
-        110 => answer::bytes(&low_first::two(value::word(x)), room),
-        111 => answer::bytes(&low_first::four(value::long(x)), room),
-        115 => answer::bytes(&low_first::eight(x), room),
-        _ => in_words(function, x, y, first, s),
-    }
+pub(crate) fn call(r: Request<'_>, room: &mut [u8]) -> Result<Answer, Refusal> {
+    let n = match r.function {
+        103 => puts::bytes(&hex::two_digits(r.x.u8()), room, 0),
+        105 => puts::bytes(&hex::four_digits(r.x.u16()), room, 0),
+        107 => decimal_digits(r.x.0, room),
+        109 => puts::bytes(&low_first::one(r.x.u8()), room, 0),
+        110 => puts::bytes(&low_first::two(r.x.u16()), room, 0),
+        111 => puts::bytes(&low_first::four(r.x.u32()), room, 0),
+        115 => puts::bytes(&low_first::eight(r.x.0), room, 0),
+        _ => return in_words(r),
+    };
+    Ok(Answer::Bytes(n))
+}
+
+fn decimal_digits(n: u64, room: &mut [u8]) -> usize {
+    let d = decimal::digits(n);
+    puts::bytes(d.chars.get(d.from..).unwrap_or_default(), room, 0)
 }
 
 // What answers no bytes.
-fn in_words(function: u64, x: u64, y: u64, first: &[u8], s: &[u8]) -> Answer {
-    match function {
-        101 => answer::number(hex::digit(value::small(x)) as u64),
-        102 => byte(hex::value(value::small(x))),
-        104 => byte(hex::byte_of(value::small(x), value::small(y))),
-        106 => word(s),
-        108 => natural(decimal::number_of(s)),
-        112 => number(low_first::number_of(s)),
-        113 => answer::truth(slices::same(first, s)),
-        _ => answer::number(refusal::number(named(x)) as u64),
+fn in_words(r: Request<'_>) -> Result<Answer, Refusal> {
+    match r.function {
+        101 => Ok(Answer::Number(hex::digit(r.x.u8()) as u64)),
+        102 => number(hex::value(r.x.u8()), Refusal::OutOfLimits),
+        104 => number(hex::byte_of(r.x.u8(), r.y.u8()), Refusal::OutOfLimits),
+        106 => word(r.s),
+        108 => number(decimal::number_of(r.s), Refusal::BadForm),
+        112 => number(low_first::number_of(r.s), Refusal::BadForm),
+        113 => Ok(Answer::Truth(slices::same(r.first, r.s))),
+        _ => Ok(Answer::Number(refusal::number(named(r.x.0)) as u64)),
     }
 }
 
-fn byte(r: Byte) -> Answer {
-    match r {
-        Byte::Is(v) => answer::number(v as u64),
-        Byte::NoDigit => answer::refused(Refusal::OutOfLimits),
-    }
+// A number, or else a refusal.
+fn number<T>(n: Option<T>, why: Refusal) -> Result<Answer, Refusal>
+where
+    T: Into<u64> + Drop,
+{
+    Ok(Answer::Number(n.ok_or(why)?.into()))
 }
 
 // A request has four bytes here.
-fn word(s: &[u8]) -> Answer {
-    if s.len() != 4 {
-        return [0, 0, 0, 0];
+fn word(s: &[u8]) -> Result<Answer, Refusal> {
+    match s.as_array::<4>() {
+        Some(four) => number(hex::word_of(*four), Refusal::OutOfLimits),
+        None => Ok(Answer::NoRequest),
     }
-    match hex::word_of([s[0], s[1], s[2], s[3]]) {
-        Word::Is(v) => answer::number(v as u64),
-        Word::NoDigit => answer::refused(Refusal::OutOfLimits),
-    }
-}
-
-fn natural(r: Natural) -> Answer {
-    match r {
-        Natural::Is(v) => answer::number(v as u64),
-        Natural::NoNumber => answer::refused(Refusal::BadForm),
-    }
-}
-
-fn number(r: Number) -> Answer {
-    match r {
-        Number::Is(v) => answer::number(v as u64),
-        Number::Width => answer::refused(Refusal::BadForm),
-    }
-}
-
-fn decimal_digits(n: u64, room: &mut [u8]) -> Answer {
-    let d = decimal::digits(n);
-    let chars = d.chars;
-    let from = d.from;
-    answer::bytes(&chars[from..20], room)
 }
 
 // By the number that the request's word has in the list of names.

@@ -1,52 +1,22 @@
 // The functions of `jsontext`.
-use super::answer;
 use super::answer::Answer;
-use super::put_calls::written;
-use jsontext::faults::{Fault, Lack};
+use super::request::Request;
+use digits::refusal::Refusal;
 use jsontext::members;
-use jsontext::members::{Many, Value};
 
-pub(crate) fn call(function: u64, first: &[u8], s: &[u8], room: &mut [u8]) -> Answer {
-    match function {
-        1501 => answer::truth(jsontext::accepts(s)),
-        1502 => many(members::count(s)),
-        1503 => value(members::value_of(first, s)),
-        1505 => fault(jsontext::fault(s)),
-        _ => written(members::characters(s, room)),
-    }
-}
-
-fn many(r: Many) -> Answer {
-    match r {
-        Many::Is(n) => answer::number(n as u64),
-        Many::Refused(why) => answer::refused(why),
-    }
-}
-
-fn value(r: Value) -> Answer {
-    match r {
-        Value::At { from: from, to: to } => [4, from as u64, to as u64, 0],
-        Value::Refused(why) => answer::refused(why),
-    }
-}
-
-// A place, and what must stand there, by its place in the list of crates/calls_write/src/forms.rt.
-fn fault(f: Fault) -> Answer {
-    match f {
-        Fault::None => [118, 0, 0, 0],
-        Fault::Long => [118, 0, 1, 0],
-        Fault::At { lack: lack, at: at } => [118, at as u64, lack_number(lack), 0],
-    }
-}
-
-fn lack_number(l: Lack) -> u64 {
-    match l {
-        Lack::Value => 2,
-        Lack::Depth => 3,
-        Lack::Name => 4,
-        Lack::OtherName => 5,
-        Lack::Colon => 6,
-        Lack::Comma => 7,
-        Lack::End => 8,
-    }
+pub(crate) fn call(r: Request<'_>, room: &mut [u8]) -> Result<Answer, Refusal> {
+    let answer = match r.function {
+        1501 => Answer::Truth(jsontext::accepts(r.s)),
+        1502 => Answer::Number(members::count(r.s)? as u64),
+        1503 => {
+            let value = members::value_of(r.first, r.s)?;
+            Answer::Part {
+                from: value.from,
+                to: value.to,
+            }
+        }
+        1505 => Answer::TextFault(jsontext::fault(r.s)),
+        _ => Answer::Number(members::characters(r.s, room)? as u64),
+    };
+    Ok(answer)
 }

@@ -4,8 +4,7 @@
 mod float;
 mod forms;
 
-use digits::low_first;
-use digits::low_first::Number;
+use std::io;
 use std::io::{Read, Write};
 
 fn main(rt: HostRuntime) {
@@ -30,73 +29,48 @@ fn write_all(
     room: &mut [u8; 2097202],
     out: &mut [u8; 4194816],
 ) {
-    let mut turns = u64::MAX;
-    while 0 < turns {
-        if !next(from, to, record, room, out) {
+    for _ in 0..u64::MAX {
+        if next(from, to, record, room, out).is_err() {
             return;
         }
-        turns -= 1;
     }
 }
 
-// Reads a record and writes its line; whether there was one.
+// Reads a record and writes its line. It fails if there is none.
 fn next(
     from: &mut impl Read,
     to: &mut impl Write,
     record: &mut [u8],
     room: &mut [u8],
     out: &mut [u8],
-) -> bool {
-    if !read(from, record, 0, 256) {
-        return false;
-    }
-    let end = number(record, 9) as usize;
-    if !read(from, record, 256, end) {
-        return false;
-    }
-    let lent = number(record, 13) as usize;
-    if !read(from, room, 0, lent) {
-        return false;
-    }
-    let n = forms::line(record, part(room, 0, lent), out);
-    to.write_all(part(out, 0, n)).is_ok()
+) -> io::Result<()> {
+    read(from, record, 0, 256)?;
+    let words = words(record);
+    read(from, record, 256, words[9] as usize)?;
+    let lent = words[13] as usize;
+    read(from, room, 0, lent)?;
+    let n = forms::line(&words, room.get(..lent).unwrap_or_default(), out);
+    to.write_all(out.get(..n).unwrap_or_default())
 }
 
-// Reads the bytes between two places. A read that fails is the end of the input.
-fn read(from: &mut impl Read, s: &mut [u8], start: usize, end: usize) -> bool {
+// Reads the bytes between two places.
+fn read(from: &mut impl Read, s: &mut [u8], start: usize, end: usize) -> io::Result<()> {
     if end <= start {
-        return true;
+        return Ok(());
     }
-    if s.len() < end {
-        return false;
+    match s.get_mut(start..end) {
+        Some(bytes) => from.read_exact(bytes),
+        None => Err(io::ErrorKind::InvalidData.into()),
     }
-    from.read_exact(&mut s[start..end]).is_ok()
 }
 
-// The bytes between two places.
-fn part(s: &[u8], from: usize, to: usize) -> &[u8] {
-    if to < from {
-        return &s[0..0];
+// The words of a record.
+fn words(record: &[u8]) -> [u64; 14] {
+    let mut words = [0; 14];
+    for (word, bytes) in words.iter_mut().zip(record.chunks_exact(8)) {
+        if let Some(bytes) = bytes.first_chunk() {
+            *word = u64::from_le_bytes(*bytes);
+        }
     }
-    if s.len() < to {
-        return &s[0..0];
-    }
-    &s[from..to]
-}
-
-// A word of a record.
-fn number(record: &[u8], word: usize) -> u64 {
-    if 13 < word {
-        return 0;
-    }
-    let low = half(part(record, 8 * word, 8 * word + 4));
-    let high = half(part(record, 8 * word + 4, 8 * word + 8));
-    low as u64 + 4_294_967_296 * (high as u64)
-}
-
-fn half(s: &[u8]) -> u32 {
-    match low_first::number_of(s) {
-        Number::Is(n) => n,
-        Number::Width => 0,
-    }
+    words
 }

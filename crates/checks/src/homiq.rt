@@ -4,11 +4,12 @@ ghost use Rattle.checks.specs.Paper.Check.{feed, check};
 ghost use Rattle.checks.specs.Paper.Buses.{homiq_crc};
 ghost use Rattle.checks.specs.Paper.Rules.{check_of};
 
-use super::bitwise::low8;
+use super::bitwise;
+use super::bitwise::Low8;
 use super::rule::{BitOrder, Rule};
 
 // The state of the CRC, over the six fields joined without separators.
-#[derive(Clone, Copy)]
+#[derive(Clone, Copy, Debug, PartialEq, Eq)]
 pub struct Crc {
     pub value: u8,
 }
@@ -46,7 +47,7 @@ impl Crc {
         ensures { result.value ≡ feed homiq_crc self.value (b ∷ []) }
     {
         Self {
-            value: low8::byte(self.value, Self::POLY, b),
+            value: bitwise::byte(Low8(self.value), Low8(Self::POLY), b).0,
         }
     }
 
@@ -55,7 +56,7 @@ impl Crc {
         ensures { result.value ≡ feed homiq_crc self.value s.now }
     {
         Self {
-            value: low8::bytes(self.value, Self::POLY, s),
+            value: bitwise::bytes(Low8(self.value), Low8(Self::POLY), s).0,
         }
     }
 

@@ -4,11 +4,12 @@ ghost use Rattle.checks.specs.Paper.Check.{feed, check};
 ghost use Rattle.checks.specs.Paper.Buses.{nest_crc};
 ghost use Rattle.checks.specs.Paper.Rules.{check_of};
 
-use super::bitwise::high16;
+use super::bitwise;
+use super::bitwise::High16;
 use super::rule::{BitOrder, Rule};
 
 // The state of the CRC, over id, length and payload.
-#[derive(Clone, Copy)]
+#[derive(Clone, Copy, Debug, PartialEq, Eq)]
 pub struct Crc {
     pub value: u16,
 }
@@ -46,7 +47,7 @@ impl Crc {
         ensures { result.value ≡ feed nest_crc self.value (b ∷ []) }
     {
         Self {
-            value: high16::byte(self.value, Self::POLY, b),
+            value: bitwise::byte(High16(self.value), High16(Self::POLY), b).0,
         }
     }
 
@@ -55,7 +56,7 @@ impl Crc {
         ensures { result.value ≡ feed nest_crc self.value s.now }
     {
         Self {
-            value: high16::bytes(self.value, Self::POLY, s),
+            value: bitwise::bytes(High16(self.value), High16(Self::POLY), s).0,
         }
     }
 

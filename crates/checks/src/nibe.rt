@@ -7,7 +7,7 @@ ghost use Rattle.checks.specs.Paper.Rules.{check_of};
 use super::rule::{BitOrder, Rule};
 
 // The state of the XOR, over the length and the data; the start mark and the command are not covered.
-#[derive(Clone, Copy)]
+#[derive(Clone, Copy, Debug, PartialEq, Eq)]
 pub struct Xor {
     pub value: u8,
 }
@@ -71,10 +71,8 @@ fn over(v: u8, s: &[u8]) -> u8
     ensures { result ≡ feed nibe_xor v s.now }
 {
     let mut r = v;
-    let mut i = 0;
-    while i < s.len() {
-        r = r ^ s[i];
-        i += 1;
+    for b in s {
+        r = r ^ *b;
     }
     r
 }

@@ -4,11 +4,12 @@ ghost use Rattle.checks.specs.Paper.Check.{feed, check};
 ghost use Rattle.checks.specs.Paper.Buses.{nikobus_crc16, nikobus_crc8};
 ghost use Rattle.checks.specs.Paper.Rules.{check_of};
 
-use super::bitwise::{high8, high16};
+use super::bitwise;
+use super::bitwise::{High8, High16};
 use super::rule::{BitOrder, Rule};
 
 // The state of CRC16, over the payload's bytes.
-#[derive(Clone, Copy)]
+#[derive(Clone, Copy, Debug, PartialEq, Eq)]
 pub struct Crc16 {
     pub value: u16,
 }
@@ -46,7 +47,7 @@ impl Crc16 {
         ensures { result.value ≡ feed nikobus_crc16 self.value (b ∷ []) }
     {
         Self {
-            value: high16::byte(self.value, Self::POLY, b),
+            value: bitwise::byte(High16(self.value), High16(Self::POLY), b).0,
         }
     }
 
@@ -55,7 +56,7 @@ impl Crc16 {
         ensures { result.value ≡ feed nikobus_crc16 self.value s.now }
     {
         Self {
-            value: high16::bytes(self.value, Self::POLY, s),
+            value: bitwise::bytes(High16(self.value), High16(Self::POLY), s).0,
         }
     }
 
@@ -68,7 +69,7 @@ impl Crc16 {
 }
 
 // The state of CRC8, over the characters from `$` to the end of the CRC16.
-#[derive(Clone, Copy)]
+#[derive(Clone, Copy, Debug, PartialEq, Eq)]
 pub struct Crc8 {
     pub value: u8,
 }
@@ -106,7 +107,7 @@ impl Crc8 {
         ensures { result.value ≡ feed nikobus_crc8 self.value (b ∷ []) }
     {
         Self {
-            value: high8::byte(self.value, Self::POLY, b),
+            value: bitwise::byte(High8(self.value), High8(Self::POLY), b).0,
         }
     }
 
@@ -115,7 +116,7 @@ impl Crc8 {
         ensures { result.value ≡ feed nikobus_crc8 self.value s.now }
     {
         Self {
-            value: high8::bytes(self.value, Self::POLY, s),
+            value: bitwise::bytes(High8(self.value), High8(Self::POLY), s).0,
         }
     }
 

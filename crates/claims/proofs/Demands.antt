@@ -1,6 +1,7 @@
 -- THE THREE DEMANDS. What is claimed stands in specs/Paper: Row (demand 1, of one function), Demands (2 and 3); here it is proved, by
 -- what each crate has proved. The rows, which tie the claims to the functions, are in Table.
 -- Assumes nothing.
+use Rattle.std.specs.Prelude.{Ok, Err, Result}
 use mathlib.Core.Bool.{true, true≢false, false≢true}
 use mathlib.Core.List.{List, [], ◌∷◌, ◌++◌, map}
 use mathlib.Core.Path.{◌≡◌, refl, sym, ◌∙◌, subst}
@@ -13,13 +14,11 @@ use Rattle.digits.specs.Paper.Refusals.{refusal_number, refusal_order}
 use Rattle.digits.specs.declared.refusal.Refusal.{Refusal}
 use Rattle.digits.specs.declared.refusal.Refusal.TheVariants.{NoFrame}
 use Rattle.numbers.proofs.Theorems.Text.{exact, written-then-read, read-then-written}
-use Rattle.puts.specs.Paper.Wrote.{written_refusal, written_count}
-use Rattle.puts.specs.declared.Written.{Written}
+use Rattle.puts.specs.Paper.Wrote.{written_refusal, written_count, Written}
 use Rattle.layouts.specs.Paper.Chars.{one_of}
 use Rattle.frames.specs.Paper.Kinds.{known, Frame}
 use Rattle.frames.specs.Paper.Search.{SearchCause, no-frame, no_kind, no_place, Searches}
 use Rattle.frames.specs.declared.Found.{Found}
-use Rattle.frames.specs.declared.Found.TheVariants.{At, Refused}
 use Rattle.frames.proofs.Demand as frames-demand
 use Rattle.frames.proofs.Theorems.{one-length}
 use Rattle.frames.proofs.Laws.Kinds.{frame-known}
@@ -27,7 +26,6 @@ use Rattle.frames.proofs.Laws.Runs as runs
 use Rattle.messages.specs.Paper.Answers.{DecodeCause, no_kind as unknown, no-message, Said, Decodes}
 use Rattle.messages.specs.Paper.Says.{Says}
 use Rattle.messages.specs.declared.Decoded.{Decoded}
-use Rattle.messages.specs.declared.Decoded.TheVariants.{Is, Refused as NoMessage}
 use Rattle.messages.specs.declared.Message.{Message as Coded}
 use Rattle.messages.proofs.Laws.Cases.{said_in}
 use Rattle.messages.proofs.Laws.Decode.{is-frame}
@@ -121,26 +119,26 @@ in_order = refl
 -- ---- DEMAND 2
 
 -- a known kind and a place in the buffer leave the search one refusal
-searched : {k place : ℕ} {s : List ℕ} → known k ≡ true → place ≤ length s → (r : Found) → Searches k s place r → LeftmostOrNone k s place r
-searched kind inside (At start len from to) a = leftmost (runs.leftmost a)
-searched {k} {place} {s} kind inside (Refused why) a = of (refusal_number why) (cause-at (cause-of a) (some_number why)) refl
+searched : {k place : ℕ} {s : List ℕ} → known k ≡ true → place ≤ length s → (r : Result Found Refusal) → Searches k s place r → LeftmostOrNone k s place r
+searched kind inside (Ok v) a = leftmost (runs.leftmost a)
+searched {k} {place} {s} kind inside (Err why) a = of (refusal_number why) (cause-at (cause-of a) (some_number why)) refl
   where
-    of : (n : ℕ) → SearchCause k s place n → n ≡ refusal_number why → LeftmostOrNone k s place (Refused why)
-    of n (no-frame h) e = subst (λ (p : Refusal). LeftmostOrNone k s place (Refused p)) (one-refusal NoFrame why e) (none-exists h)
+    of : (n : ℕ) → SearchCause k s place n → n ≡ refusal_number why → LeftmostOrNone k s place (Err why)
+    of n (no-frame h) e = subst (λ (p : Refusal). LeftmostOrNone k s place (Err p)) (one-refusal NoFrame why e) (none-exists h)
     of n (no_kind h) e = absurd (false≢true (sym h ∙ kind))
     of n (no_place h) e = absurd (omega (arith, h, inside))
 
 -- a frame is never refused by the decoder
-decoded : {k : ℕ} {f : List ℕ} → Frame k f → (r : Decoded) → Decodes k f r → (e : Coded) × DecodedAs k f e r
-decoded h (Is e from to) a = (e, record { from = from; to = to; answer = refl; said = said_in a })
-decoded {k} {f} h (NoMessage why) a = absurd (never (cause-at (cause-of a) (some_number why)))
+decoded : {k : ℕ} {f : List ℕ} → Frame k f → (r : Result Decoded Refusal) → Decodes k f r → (e : Coded) × DecodedAs k f e r
+decoded h (Ok v) a = (v.message, record { from = v.from; to = v.to; answer = refl; said = said_in a })
+decoded {k} {f} h (Err why) a = absurd (never (cause-at (cause-of a) (some_number why)))
   where
     never : {n : ℕ} → DecodeCause k f n → ⊥
     never (unknown e) = true≢false (sym (frame-known h) ∙ e)
     never (no-message f) = let m = has-message h in f m.0 m.1
 
 -- what the encoder has written is decoded to what was encoded
-same : {k : ℕ} (e : Coded) (s room later : List ℕ) (r : Written) → Encodes k e s room r later → written_refusal r ≡ 0 → (d : Decoded)
+same : {k : ℕ} (e : Coded) (s room later : List ℕ) (r : Written) → Encodes k e s room r later → written_refusal r ≡ 0 → (d : Result Decoded Refusal)
     → Decodes k (take (written_count r) later) d → (a : DecodedAs k (take (written_count r) later) e d) × Says e s a.said.message
 same e s room later r w z d a =
     let x = encoded-decodes e s room later r w z d a in (record { from = x.0; to = x.1; answer = x.2; said = x.3 }, x.4)

@@ -1,6 +1,7 @@
 -- THE EDGES OF THE LIMITS, all in one statement. Of most facts a test tells whether they are right, as their definitions have it, and the
 -- test is computed: a definition with another number is refused here.
 -- Assumes nothing.
+use Rattle.std.specs.Prelude.{Err, Result}
 use mathlib.Core.Bool.{Bool, true, false, not, ◌&&◌, ◌||◌}
 use mathlib.Core.List.{List, [], ◌∷◌, ◌++◌}
 use mathlib.Core.Logic.{◌⊎◌, inl, inr, ⊎_elim}
@@ -13,6 +14,7 @@ use lib.Dec.{T, eqb, leb, ltb, leb→le, le→leb, ltb→lt, lt→ltb, eqb→eq,
 use lib.IntN.{ℤ}
 use lib.ListN.{length, replicate, length-append, length-replicate}
 use lib.Signed.{le_z, ◌≤ℤ◌}
+use Rattle.digits.specs.declared.refusal.Refusal.{Refusal}
 use Rattle.digits.specs.Paper.Ascii.{ascii}
 use Rattle.digits.specs.Paper.Bits.{lows}
 use Rattle.digits.specs.Paper.Bytes.{Bytes}
@@ -52,7 +54,6 @@ use Rattle.frames.specs.Paper.Search.{FrameAt, found_refusal, Searches}
 use Rattle.frames.specs.Work.Frames.{len_at}
 use Rattle.frames.specs.Work.Seek.{searched, resolved, among, seek, seek_among}
 use Rattle.frames.specs.declared.Found.{Found}
-use Rattle.frames.specs.declared.Found.TheVariants.{Refused}
 use Rattle.frames.specs.declared.kinds.Kind.{Kind}
 use Rattle.frames.specs.declared.kinds.Kind.TheVariants.{Nikobus, NestCommand, NestResponse, Nibe, Homiq}
 use Rattle.frames.proofs.Laws.Places.{at_place, stands, frame-alone, alone-frame, positive}
@@ -375,12 +376,12 @@ of-numbers = holds-all number_edges tt
 
 -- ---- places, inputs and books: by the laws, since a long list is not computed
 
-at-end : (place : ℕ) {r : Found} → searched 4 (0xC0 ∷ []) place ≡ r → Searches 4 (0xC0 ∷ []) place r
+at-end : (place : ℕ) {r : Result Found Refusal} → searched 4 (0xC0 ∷ []) place ≡ r → Searches 4 (0xC0 ∷ []) place r
 at-end place e = subst (Searches 4 (0xC0 ∷ []) place) e (an-answer 4 (0xC0 ∷ []) place)
 
 -- another answer than the right one
-not-this : Searches 4 (0xC0 ∷ []) 2 (Refused NoPlace) → Searches 4 (0xC0 ∷ []) 2 (Refused NoFrame) → ⊥
-not-this a b = let e : ◌≡◌ {A = ℕ} 3 1 = ap found_refusal (one_answer (Refused NoPlace) (Refused NoFrame) a b) in omega (arith, e)
+not-this : Searches 4 (0xC0 ∷ []) 2 (Err NoPlace) → Searches 4 (0xC0 ∷ []) 2 (Err NoFrame) → ⊥
+not-this a b = let e : ◌≡◌ {A = ℕ} 3 1 = ap found_refusal (one_answer (Err NoPlace) (Err NoFrame) a b) in omega (arith, e)
 
 -- an input of so many bytes behind its first two
 of-kind-1 : (n : ℕ) → Input (whole_input n)

@@ -1,11 +1,13 @@
 -- THE KNOWN POINTS (a) to (l), all in one statement, and those of document 02 in another. Each crate's own Known has its part, computed from the definitions.
 -- Assumes nothing.
+use Rattle.std.specs.Prelude.{Ok, Err, Result}
 use mathlib.Core.List.{List, [], ◌∷◌, ◌++◌}
 use mathlib.Core.Path.{◌≡◌, refl, sym, ap, ◌∙◌, subst}
 use Prim.Native.Nat.{ℕ, ◌+◌}
 use native.Mathlib.Omega.{arith}
 use lib.Dec.{lit≤}
 use lib.ListN.{length}
+use Rattle.digits.specs.declared.refusal.Refusal.{Refusal}
 use Rattle.digits.specs.Paper.Ascii.{ascii}
 use Rattle.digits.specs.Paper.Bytes.{part}
 use Rattle.digits.specs.Paper.LowFirst.{low_byte_first}
@@ -19,7 +21,6 @@ use Rattle.frames.specs.Paper.Kinds.{Frame}
 use Rattle.frames.specs.Paper.Search.{Searches}
 use Rattle.frames.specs.Work.Seek.{searched}
 use Rattle.frames.specs.declared.Found.{Found}
-use Rattle.frames.specs.declared.Found.TheVariants.{At, Refused}
 use Rattle.frames.proofs.Laws.Runs.{leftmost, none_found}
 use Rattle.frames.proofs.Theorems.{an-answer}
 use Rattle.frames.proofs.Known as frames
@@ -29,7 +30,7 @@ use Rattle.book.proofs.Known as books
 use Rattle.claims.specs.Paper.Points.{AllHold, points, later_points}
 
 -- what is computed is the one right answer of the search
-answer : (k : ℕ) (s : List ℕ) {r : Found} → searched k s 0 ≡ r → Searches k s 0 r
+answer : (k : ℕ) (s : List ℕ) {r : Result Found Refusal} → searched k s 0 ≡ r → Searches k s 0 r
 answer k s e = subst (Searches k s 0) e (an-answer k s 0)
 
 -- all of f, as the search has it
@@ -37,10 +38,10 @@ all_of : {f : List ℕ} {len : ℕ} → len ≡ length f → part 0 (0 + len) f 
 all_of {f} {len} e = let n : 0 + len ≡ length f = omega (arith, e) in ap (λ (m : ℕ). part 0 m f) n ∙ part-all f
 
 -- a frame that the search finds at 0 with the whole length, and none where it finds none
-whole : {k : ℕ} {f : List ℕ} {len from to : ℕ} → Searches k f 0 (At 0 len from to) → len ≡ length f → Frame k f
+whole : {k : ℕ} {f : List ℕ} {len from to : ℕ} → Searches k f 0 (Ok (record { start = 0; len = len; from = from; to = to })) → len ≡ length f → Frame k f
 whole {k} {f} a e = subst (Frame k) (all_of e) (leftmost a).stands.frame
 
-no-frame : {k : ℕ} {f : List ℕ} → Searches k f 0 (Refused NoFrame) → Frame k f → ⊥
+no-frame : {k : ℕ} {f : List ℕ} → Searches k f 0 (Err NoFrame) → Frame k f → ⊥
 no-frame {k} {f} a h = none_found a 0 (length f) (lit≤ tt) (record { inside = omega arith; frame = subst (Frame k) (sym (all_of refl)) h })
 
 -- (g)

@@ -1,5 +1,6 @@
 -- For each public function and each number that it refuses with: arguments with that cause.
 -- Assumes nothing.
+use Rattle.std.specs.Prelude.{Err}
 use mathlib.Core.Bool.{Bool, true, false, not}
 use mathlib.Core.List.{List, [], ◌∷◌, ◌++◌}
 use mathlib.Core.Logic.{◌⊎◌, inl, inr}
@@ -20,7 +21,6 @@ use Rattle.digits.proofs.Laws.Decimal.{length_some}
 use Rattle.digits.proofs.Laws.Hex.{digit-upper, byte-parts, word-parts}
 use Rattle.digits.proofs.Laws.LowFirst.{no-width}
 use Rattle.digits.specs.declared.refusal.Refusal.TheVariants.{NoFrame}
-use Rattle.frames.specs.declared.Found.TheVariants.{Refused}
 use Rattle.numbers.specs.Paper.Answers.{ValueCause, BytesCause, RangeCause, TextCause}
 use Rattle.numbers.specs.Paper.Text.{text, text_of, sign, fraction, below_zero}
 use Rattle.puts.specs.Paper.Wrote.{RoomCause}
@@ -229,7 +229,7 @@ unknown : known 0 ≡ false
 unfolding known one_of
 unknown = refl
 
-no_more : Searches 4 (0xC0 ∷ []) 1 (Refused NoFrame)
+no_more : Searches 4 (0xC0 ∷ []) 1 (Err NoFrame)
 no_more = subst (Searches 4 (0xC0 ∷ []) 1) frames-known.at-the-end (an-answer 4 (0xC0 ∷ []) 1)
 
 no-frame : {k : ℕ} → Frame k [] → ⊥

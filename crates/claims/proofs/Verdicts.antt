@@ -1,5 +1,6 @@
 -- What the verdicts of `why` come to.
 -- Assumes nothing.
+use mathlib.Core.Path.{refl}
 use Rattle.frames.proofs.Theorems as frames
 use Rattle.claims.specs.Paper.Verdicts.{Verdicts}
 
@@ -13,7 +14,7 @@ verdicts =
       a-verdict = frames.a-verdict;
       one-verdict = frames.one-verdict;
       laid = frames.laid-begun;
-      first-differ = frames.first-differ;
-      second-differ = frames.second-differ;
-      else-zeros = frames.else-zeros;
+      first-differ = λ w. frames.first-differ w refl;
+      second-differ = λ w. frames.second-differ w refl;
+      else-zeros = λ w. frames.else-zeros w;
     }

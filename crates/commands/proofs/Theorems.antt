@@ -12,8 +12,7 @@ use Rattle.digits.specs.Paper.Bytes.{part}
 use Rattle.digits.specs.Paper.LowFirst.{Width}
 use Rattle.digits.specs.Paper.Refusals.{refusal_order, First, here, after}
 use Rattle.digits.proofs.Laws.Refusals.{cause-at, cause-of, some_number}
-use Rattle.puts.specs.declared.Written.{Written}
-use Rattle.puts.specs.Paper.Wrote.{written_refusal, written_count}
+use Rattle.puts.specs.Paper.Wrote.{written_refusal, written_count, Written}
 use Rattle.puts.specs.Paper.Right.{WroteRight, wrote, refused}
 use Rattle.puts.proofs.Laws.Right.{first_of, written-right}
 use Rattle.layouts.specs.Paper.Chars.{one_of}
@@ -30,7 +29,8 @@ use Rattle.messages.specs.Paper.Table.{content_of, bytes, HasWidth, in-reply, in
 use Rattle.messages.specs.Work.Homiq.{which_of}
 use Rattle.messages.specs.Work.Look.{look}
 use Rattle.messages.specs.declared.Decoded.{Decoded}
-use Rattle.messages.specs.declared.Decoded.TheVariants.{Is, Refused}
+use Rattle.std.specs.Prelude.{Result, Ok, Err}
+use Rattle.digits.specs.declared.refusal.Refusal.{Refusal}
 use Rattle.messages.specs.declared.Message.{Message as Coded}
 use Rattle.messages.proofs.Laws.Cases.{said_in}
 use Rattle.messages.proofs.Laws.Decode.{stands-in}
@@ -82,23 +82,27 @@ never-refused : {k no : ℕ} {f : List ℕ} {m : Message} → Stands k f m → D
 never-refused s (decodes.no_kind h) = true≢false (sym (frame-known s.frame) ∙ h)
 never-refused {m = m} s (decodes.no-message h) = h m s
 
+-- an answer of the decoder
+abbrev pub decoded_as : Coded → ℕ → ℕ → Result Decoded Refusal
+decoded_as e from to = Ok (record { message = e; from = from; to = to })
+
 -- AN ENCODED MESSAGE DECODES TO ITSELF: the decoder answers the case that was encoded, and its message is the one
-pub same-message : {k : ℕ} (e : Coded) (s : List ℕ) (m : Message) → Good m → number_of (kind_of (content_of m)) ≡ k → Says e s m → (r : Decoded) → Decodes k (bytes m) r
-    → (from : ℕ) × (to : ℕ) × (r ≡ Is e from to) × (said : Said k (bytes m) e from to) × (said.message ≡ m)
-same-message {k} e s m g kind says (Is d from to) a =
+pub same-message : {k : ℕ} (e : Coded) (s : List ℕ) (m : Message) → Good m → number_of (kind_of (content_of m)) ≡ k → Says e s m → (r : Result Decoded Refusal)
+    → Decodes k (bytes m) r → (from : ℕ) × (to : ℕ) × (r ≡ decoded_as e from to) × (said : Said k (bytes m) e from to) × (said.message ≡ m)
+same-message {k} e s m g kind says (Ok v) a =
     let said = said_in a in
     let n = said.message in
     let q : n ≡ m = one-message-of n m said.stands (bytes-stand g kind refl) in
-    let same : d ≡ e = one-case d e (payload_in (content_of n)) s m (subst (Says d (payload_in (content_of n))) q said.says) says in
-    let back : Said k (bytes m) e from to = record {
+    let same : v.message ≡ e = one-case v.message e (payload_in (content_of n)) s m (subst (Says v.message (payload_in (content_of n))) q said.says) says in
+    let back : Said k (bytes m) e v.from v.to = record {
       message = n;
       stands = said.stands;
       says = subst (λ (x : Coded). Says x (payload_in (content_of n)) n) same said.says;
       from_is = said.from_is;
       to_is = said.to_is;
     } in
-    (from, to, ap (λ (x : Coded). Is x from to) same, back, q)
-same-message e s m g kind says (Refused why) a = absurd (never-refused (bytes-stand g kind refl) (cause-at (cause-of a) (some_number why)))
+    (v.from, v.to, ap (λ (x : Coded). decoded_as x v.from v.to) same, back, q)
+same-message e s m g kind says (Err why) a = absurd (never-refused (bytes-stand g kind refl) (cause-at (cause-of a) (some_number why)))
 
 -- ---- the same of what a call to `encode` has written
 
@@ -122,8 +126,8 @@ of-the-kind {k} {n} e s f z = go (ℕ_discrete (number_of (kind_in e)) k)
 
 -- THE BYTES THAT `encode` WRITES DECODE TO WHAT WAS ENCODED: to the case itself, and the message is the one that it says with its content
 pub encoded-decodes : {k : ℕ} (e : Coded) (s room later : List ℕ) (r : Written) → Encodes k e s room r later → written_refusal r ≡ 0
-    → (d : Decoded) → Decodes k (take (written_count r) later) d
-    → (from : ℕ) × (to : ℕ) × (d ≡ Is e from to) × (said : Said k (take (written_count r) later) e from to) × Says e s said.message
+    → (d : Result Decoded Refusal) → Decodes k (take (written_count r) later) d
+    → (from : ℕ) × (to : ℕ) × (d ≡ decoded_as e from to) × (said : Said k (take (written_count r) later) e from to) × Says e s said.message
 encoded-decodes {k} e s room later r w z d a =
     let b = written-right w z in
     let m = b.message in

@@ -10,8 +10,8 @@ ghost use Rattle.commands.specs.Work.Homiq.{Laid, Answered, relaid, exchanged};
 
 use builds::homiq;
 use digits::refusal::Refusal;
+use frames::kinds;
 use frames::kinds::Kind;
-use frames::{FramePayload, kinds};
 use messages::homiq::{Homiq, field};
 use puts::Written;
 
@@ -26,10 +26,10 @@ pub(crate) fn write(message: Homiq, content: &[u8], room: &mut [u8]) -> Written
 pub(crate) fn acknowledge(frame: &[u8], room: &mut [u8]) -> Written
     ensures { Acknowledges frame.now room.old result room.new }
 {
-    match frames::one_frame(kinds::number(Kind::Homiq), frame) {
-        FramePayload::Is { from, to } => answer(&frame[from..to], room),
-        FramePayload::Refused(why) => Written::Refused(Refusal::OutOfLimits),
-    }
+    let Ok(payload) = frames::one_frame(kinds::number(Kind::Homiq), frame) else {
+        return Err(Refusal::OutOfLimits);
+    };
+    answer(&frame[payload.from..payload.to], room)
 }
 
 // Writes the acknowledgement of the frame with this payload, whose last character is its type. The acknowledgement's payload is as long.
@@ -40,7 +40,7 @@ fn answer(payload: &[u8], room: &mut [u8]) -> Written
     ensures { Answered payload.now room.old result room.new }
 {
     if payload[payload.len() - 1] == b'a' {
-        return Written::Refused(Refusal::OutOfLimits);
+        return Err(Refusal::OutOfLimits);
     }
     let mut reply = [0u8; 64];
     exchange(payload, &mut reply);

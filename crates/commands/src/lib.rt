@@ -16,7 +16,7 @@ ghost use Rattle.commands.specs.Work.Answers.{WidthIn, WritesMeant, WritesMessag
 use digits::refusal::Refusal;
 use frames::kinds;
 use frames::kinds::Kind;
-use messages::{Message, Standing};
+use messages::Message;
 use puts::Written;
 
 // Writes the frame of a message from the front of the room. Refusals: 2 for a kind that is not known. 7 for a width that is not 1, 2 or
@@ -26,13 +26,13 @@ pub fn encode(kind: u8, message: Message, content: &[u8], room: &mut [u8]) -> Wr
     ensures { Encodes kind message content.now room.old result room.new }
 {
     if !kinds::known(kind) {
-        return Written::Refused(Refusal::NoKind);
+        return Err(Refusal::NoKind);
     }
     if !has_width(message) {
-        return Written::Refused(Refusal::BadForm);
+        return Err(Refusal::BadForm);
     }
     if kinds::number(kind_of(message)) != kind {
-        return Written::Refused(Refusal::OutOfLimits);
+        return Err(Refusal::OutOfLimits);
     }
     write_allowed(message, content, room)
 }
@@ -41,10 +41,8 @@ pub fn encode(kind: u8, message: Message, content: &[u8], room: &mut [u8]) -> Wr
 fn write_allowed(message: Message, content: &[u8], room: &mut [u8]) -> Written
     ensures { WritesMeant (Says message content.now) room.old result room.new }
 {
-    match messages::allowed(message, content) {
-        Standing::Good => write(message, content, room),
-        Standing::Refused(why) => Written::Refused(why),
-    }
+    messages::allowed(message, content)?;
+    write(message, content, room)
 }
 
 // Writes the frame of a message within its limits; of another nothing is promised, and nothing is tested here.
@@ -73,11 +71,8 @@ fn has_width(message: Message) -> bool
     ensures { Decides (WidthIn message) result }
 {
     match message {
-        Message::Nikobus(m) => true,
-        Message::Command { id } => true,
-        Message::Response(m) => true,
         Message::Nibe(m) => nibe::has_width(m),
-        Message::Homiq(m) => true,
+        _ => true,
     }
 }
 
@@ -86,10 +81,10 @@ fn kind_of(message: Message) -> Kind
     ensures { result ≡ kind_in message }
 {
     match message {
-        Message::Nikobus(m) => Kind::Nikobus,
-        Message::Command { id } => Kind::NestCommand,
-        Message::Response(m) => Kind::NestResponse,
-        Message::Nibe(m) => Kind::Nibe,
-        Message::Homiq(m) => Kind::Homiq,
+        Message::Nikobus(_) => Kind::Nikobus,
+        Message::Command { .. } => Kind::NestCommand,
+        Message::Response(_) => Kind::NestResponse,
+        Message::Nibe(_) => Kind::Nibe,
+        Message::Homiq(_) => Kind::Homiq,
     }
 }

@@ -1,6 +1,4 @@
 // Nest: messages into frames.
-ghost use Rattle.std.specs.Prelude.{◌≡◌};
-ghost use Rattle.numbers.specs.Paper.ByteValues.{value_bytes};
 ghost use Rattle.messages.specs.Paper.Message.{command, climate};
 ghost use Rattle.messages.specs.Paper.Says.{of_response};
 ghost use Rattle.messages.specs.Work.Answers.{Only};
@@ -10,7 +8,6 @@ use builds::nest;
 use digits::low_first;
 use layouts::nest::Direction;
 use messages::nest::Response;
-use numbers::byte_values;
 use puts::Written;
 
 // Writes the frame of a command.
@@ -40,16 +37,7 @@ pub(crate) fn write(message: Response, payload: &[u8], room: &mut [u8]) -> Writt
 fn write_climate(temperature: i16, humidity: u16, room: &mut [u8]) -> Written
     ensures { WritesMessage (Only (climate temperature humidity)) room.old result room.new }
 {
-    let t = signed_bytes(temperature);
+    let t = temperature.to_le_bytes();
     let h = low_first::two(humidity);
     nest::frame(Direction::Response, 0x0002, &[t[0], t[1], h[0], h[1]], room)
-}
-
-// A number of 16 bits in two's complement, low byte first.
-fn signed_bytes(z: i16) -> [u8; 2]
-    ensures { result ≡ value_bytes 2 z }
-{
-    let mut two = [0u8; 2];
-    byte_values::write(z as i64, 2, true, &mut two);
-    two
 }

@@ -1,5 +1,5 @@
 // Nibe: messages into frames.
-ghost use Rattle.std.specs.Prelude.{◌≡◌, cond};
+ghost use Rattle.std.specs.Prelude.{◌≡◌};
 ghost use Rattle.digits.specs.Paper.LowFirst.{Width};
 ghost use Rattle.digits.specs.Paper.Read.{Decides};
 ghost use Rattle.layouts.specs.Paper.Made.{nibe_of};
@@ -13,7 +13,7 @@ ghost use Rattle.commands.specs.Work.Answers.{WritesMessage, NibeWidth};
 use builds::nibe;
 use digits::low_first;
 use digits::refusal::Refusal;
-use messages::nibe::Nibe;
+use messages::nibe::{Nibe, Valued};
 use puts::Written;
 
 // Whether the width of a message's value is 1, 2 or 4.
@@ -21,27 +21,15 @@ pub(crate) fn has_width(message: Nibe) -> bool
     ensures { Decides (NibeWidth message) result }
 {
     match message {
-        Nibe::Ask { register } => true,
-        Nibe::Reply(v) => is_width(v.width),
-        Nibe::Put(v) => is_width(v.width),
-        Nibe::Done { ok } => true,
-        Nibe::Other { command } => true,
+        Nibe::Reply(v) | Nibe::Put(v) => is_width(v.width),
+        _ => true,
     }
 }
 
 fn is_width(width: u8) -> bool
     ensures { Decides (Width width) result }
 {
-    if width == 1 {
-        return true;
-    }
-    if width == 2 {
-        return true;
-    }
-    if width == 4 {
-        return true;
-    }
-    false
+    matches!(width, 1 | 2 | 4)
 }
 
 // Writes the frame of a message with these data beside it.
@@ -50,22 +38,22 @@ pub(crate) fn write(message: Nibe, content: &[u8], room: &mut [u8]) -> Written
 {
     match message {
         Nibe::Ask { register } => nibe::frame(0x69, &low_first::two(register), room),
-        Nibe::Reply(v) => write_valued(0x6A, v.register, v.width, v.value, room),
-        Nibe::Put(v) => write_valued(0x6B, v.register, v.width, v.value, room),
-        Nibe::Done { ok } => nibe::frame(0x6C, &[bit_of(ok)], room),
+        Nibe::Reply(v) => write_valued(0x6A, v, room),
+        Nibe::Put(v) => write_valued(0x6B, v, room),
+        Nibe::Done { ok } => nibe::frame(0x6C, &[u8::from(ok)], room),
         Nibe::Other { command } => nibe::frame(command, content, room),
     }
 }
 
 // Writes the frame of a register and a value of 1, 2 or 4 bytes. (Nothing is built for a wider one.)
-fn write_valued(command: u8, register: u16, width: u8, value: u32, room: &mut [u8]) -> Written
-    ensures { Width width → Builds paper.nibe (nibe_of command (valued register width value)) room.old result room.new }
+fn write_valued(command: u8, v: Valued, room: &mut [u8]) -> Written
+    ensures { Width v.width → Builds paper.nibe (nibe_of command (valued v.register v.width v.value)) room.old result room.new }
 {
-    if 4 < width {
-        return Written::Refused(Refusal::BadForm);
+    if 4 < v.width {
+        return Err(Refusal::BadForm);
     }
-    let content = valued_bytes(register, value);
-    nibe::frame(command, &content[0..width as usize + 2], room)
+    let content = valued_bytes(v.register, v.value);
+    nibe::frame(command, &content[0..v.width as usize + 2], room)
 }
 
 // A register and a value as four bytes, of which a narrower value's are the first.
@@ -75,10 +63,4 @@ fn valued_bytes(register: u16, value: u32) -> [u8; 6]
     let a = low_first::two(register);
     let v = low_first::four(value);
     [a[0], a[1], v[0], v[1], v[2], v[3]]
-}
-
-fn bit_of(ok: bool) -> u8
-    ensures { result ≡ cond ok 0x01 0x00 }
-{
-    if ok { 1 } else { 0 }
 }

@@ -9,7 +9,7 @@ ghost use Rattle.commands.specs.Work.Answers.{WritesMessage};
 ghost use Rattle.commands.specs.Work.Nikobus.{Unhexed};
 
 use builds::nikobus;
-use digits::hex::Byte;
+use digits::refusal::Refusal;
 use digits::{hex, low_first};
 use messages::nikobus::{Nikobus, Six};
 use puts::Written;
@@ -75,30 +75,25 @@ fn write_link(digits: &[u8], room: &mut [u8]) -> Written
     ensures { WritesMessage (SaysNikobus Link digits.now) room.old result room.new }
 {
     let mut bytes = [0u8; 122];
-    let n = values(digits, &mut bytes);
+    let Some(n) = values(digits, &mut bytes) else {
+        return Err(Refusal::OutOfLimits);
+    };
     nikobus::link(&bytes[0..n], room)
 }
 
-// Puts the bytes that digits are at the front of the room, and answers how many; 0 if the digits are not those of bytes, or of too many.
-fn values(digits: &[u8], room: &mut [u8]) -> usize
+// Puts the bytes that digits are at the front of the room, and answers how many; `None` if the digits are not those of bytes, or of too
+// many.
+fn values(digits: &[u8], room: &mut [u8]) -> Option<usize>
     ensures { Unhexed digits.now (length room.old) result room.new }
 {
     let n = digits.len() / 2;
-    if digits.len() % 2 != 0 {
-        return 0;
+    if digits.len() % 2 != 0 || room.len() < n {
+        return None;
     }
-    if room.len() < n {
-        return 0;
+    for i in 0..n {
+        room[i] = hex::byte_of(digits[i * 2], digits[i * 2 + 1])?;
     }
-    let mut i = 0;
-    while i < n {
-        match hex::byte_of(digits[i * 2], digits[i * 2 + 1]) {
-            Byte::Is(b) => room[i] = b,
-            Byte::NoDigit => return 0,
-        }
-        i += 1;
-    }
-    n
+    Some(n)
 }
 
 // The code of a group.

@@ -6,21 +6,15 @@ ghost use Rattle.digits.specs.Work.Decimal.{guess};
 
 use super::slices;
 
-// The digits of a number: they are the characters from `from` on, and the characters before are 0.
-#[derive(Clone, Copy)]
+// The digits of a number: they are the characters from `from` on, and the characters before are 0. (An array with a place
+// in it, not a String: the library uses no heap.)
+#[derive(Clone, Copy, Debug, PartialEq, Eq)]
 pub struct Decimal {
     pub chars: [u8; 20],
     pub from: usize,
 }
 
-// What decimal digits are read as: a number of 32 bits, or `NoNumber` if no such number is written so.
-#[derive(Clone, Copy)]
-pub enum Natural {
-    Is(u32),
-    NoNumber,
-}
-
-// The digits of n.
+// The digits of n. (A loop by its condition, since how many digits there are shows only as they are made.)
 pub fn digits(n: u64) -> Decimal
     ensures { AtEnd 20 (decimal n) result.chars result.from }
 {
@@ -37,23 +31,23 @@ pub fn digits(n: u64) -> Decimal
 }
 
 // The number whose digits are the characters of s.
-pub fn number_of(s: &[u8]) -> Natural
+pub fn number_of(s: &[u8]) -> Option<u32>
     ensures { ReadsDecimal s.now result }
 {
     if 10 < s.len() {
-        return Natural::NoNumber;
+        return None;
     }
     let n = guessed(s);
     if 0xFFFF_FFFF < n {
-        return Natural::NoNumber;
+        return None;
     }
     let d = digits(n);
     let chars = d.chars;
     let from = d.from;
     if slices::same(&chars[from..20], s) {
-        return Natural::Is(n as u32);
+        return Some(n as u32);
     }
-    Natural::NoNumber
+    None
 }
 
 // The number that the characters of s make if each is taken for a digit. (`0` is 48, so adding 2 makes the character of a digit end in
@@ -63,10 +57,8 @@ fn guessed(s: &[u8]) -> u64
     ensures { result ≡ guess 0 s.now }
 {
     let mut n: u64 = 0;
-    let mut i = 0;
-    while i < s.len() {
-        n = n * 10 + (s[i] as u64 + 2) % 10;
-        i += 1;
+    for c in s {
+        n = n * 10 + (*c as u64 + 2) % 10;
     }
     n
 }

@@ -3,20 +3,6 @@ ghost use Rattle.std.specs.Prelude.{◌≡◌, ◌%◌};
 ghost use Rattle.digits.specs.Paper.Hex.{hex_digit, hex_byte, hex_word};
 ghost use Rattle.digits.specs.Paper.Answers.{ReadsDigit, ReadsByte, ReadsWord};
 
-// What two hex digits are read as: a byte, or `NoDigit` if one of them is no digit.
-#[derive(Clone, Copy)]
-pub enum Byte {
-    Is(u8),
-    NoDigit,
-}
-
-// What four hex digits are read as: a number of 16 bits, or `NoDigit`.
-#[derive(Clone, Copy)]
-pub enum Word {
-    Is(u16),
-    NoDigit,
-}
-
 // The digit of the low four bits of v.
 pub fn digit(v: u8) -> u8
     ensures { result ≡ hex_digit (v % 16) }
@@ -29,22 +15,22 @@ pub fn digit(v: u8) -> u8
 }
 
 // The value of a digit. The tests go from the last character down: in this order the search is smallest and quickest (docs/DECISIONS.md).
-pub fn value(c: u8) -> Byte
+pub fn value(c: u8) -> Option<u8>
     ensures { ReadsDigit c result }
 {
     if b'F' < c {
-        return Byte::NoDigit;
+        return None;
     }
     if b'A' <= c {
-        return Byte::Is(c - b'A' + 10);
+        return Some(c - b'A' + 10);
     }
     if b'9' < c {
-        return Byte::NoDigit;
+        return None;
     }
     if b'0' <= c {
-        return Byte::Is(c - b'0');
+        return Some(c - b'0');
     }
-    Byte::NoDigit
+    None
 }
 
 // A byte as two digits, the high one first.
@@ -55,16 +41,10 @@ pub fn two_digits(b: u8) -> [u8; 2]
 }
 
 // The byte that two digits are.
-pub fn byte_of(high: u8, low: u8) -> Byte
+pub fn byte_of(high: u8, low: u8) -> Option<u8>
     ensures { ReadsByte high low result }
 {
-    let Byte::Is(h) = value(high) else {
-        return Byte::NoDigit;
-    };
-    let Byte::Is(l) = value(low) else {
-        return Byte::NoDigit;
-    };
-    Byte::Is(h * 16 + l)
+    Some(value(high)? * 16 + value(low)?)
 }
 
 // A number of 16 bits as four digits.
@@ -77,14 +57,10 @@ pub fn four_digits(n: u16) -> [u8; 4]
 }
 
 // The number that four digits are.
-pub fn word_of(d: [u8; 4]) -> Word
+pub fn word_of(d: [u8; 4]) -> Option<u16>
     ensures { ReadsWord d result }
 {
-    let Byte::Is(h) = byte_of(d[0], d[1]) else {
-        return Word::NoDigit;
-    };
-    let Byte::Is(l) = byte_of(d[2], d[3]) else {
-        return Word::NoDigit;
-    };
-    Word::Is((h as u16) * 256 + l as u16)
+    let high = byte_of(d[0], d[1])?;
+    let low = byte_of(d[2], d[3])?;
+    Some((high as u16) * 256 + low as u16)
 }

@@ -3,7 +3,7 @@ ghost use Rattle.std.specs.Prelude.{◌≡◌};
 ghost use Rattle.digits.specs.Paper.Refusals.{refusal_number};
 
 // Why a call was refused: a name for each number of the tables of documents 01 and 02, in their order.
-#[derive(Clone, Copy)]
+#[derive(Clone, Copy, Debug, PartialEq, Eq)]
 pub enum Refusal {
     NoFrame,
     NoKind,

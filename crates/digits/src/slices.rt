@@ -6,15 +6,5 @@ ghost use Rattle.digits.specs.Paper.Read.{Decides};
 pub fn same(a: &[u8], b: &[u8]) -> bool
     ensures { Decides (a.now ≡ b.now) result }
 {
-    if a.len() != b.len() {
-        return false;
-    }
-    let mut i = 0;
-    while i < a.len() {
-        if a[i] != b[i] {
-            return false;
-        }
-        i += 1;
-    }
-    true
+    a == b
 }

@@ -6,10 +6,10 @@
 
 mod words;
 
-ghost use Rattle.std.specs.Prelude.{◌≤◌, length};
+ghost use Rattle.std.specs.Prelude.{◌≤◌, length, IfOk, IfSome};
 
 use digits::refusal::Refusal;
-use puts::Written;
+use std::io;
 use std::io::{Read, Write};
 
 fn main(rt: HostRuntime) {
@@ -36,8 +36,17 @@ fn with_rooms(
     frame: &mut [u8; 1034],
     out: &mut [u8; 2069],
 ) {
-    let digits = wants_digits(source);
-    encode_all(digits, source, to, told, input, frame, out);
+    let mut frames = Frames {
+        digits: wants_digits(source),
+        lines: 0,
+        to,
+        told: &mut *told,
+        frame,
+        out,
+    };
+    if encode_all(source, &mut frames, input).is_ok() {
+        let _ = told.write_all(b"end\n");
+    }
 }
 
 // Takes the digit and its LF. A read that fails is the end of the input.
@@ -48,248 +57,157 @@ fn wants_digits(source: &mut impl Read) -> bool {
 }
 
 // How far the reading is. The front of the input has the first bytes of a line that is not complete: how many, and whether the line began
-// before them and is too long. Then how many lines there were before it, whether all frames could be written, and whether there may be more.
-#[derive(Clone, Copy)]
+// before them and is too long.
+#[derive(Clone, Copy, Debug, PartialEq, Eq)]
 struct Reading {
     have: usize,
     over: bool,
-    lines: u64,
-    written: bool,
-    more: bool,
 }
 
+// Encodes each command. It ends where a frame cannot be written.
 fn encode_all(
-    digits: bool,
     source: &mut impl Read,
-    to: &mut impl Write,
-    told: &mut impl Write,
+    frames: &mut Frames<'_, impl Write, impl Write>,
     input: &mut [u8],
-    frame: &mut [u8],
-    out: &mut [u8],
-) {
-    let mut turns = u64::MAX;
+) -> io::Result<()> {
     let mut reading = Reading {
         have: 0,
         over: false,
-        lines: 0,
-        written: true,
-        more: true,
     };
-    while turns > 0 && reading.more {
-        reading = next(digits, reading, source, to, told, input, frame, out);
-        turns -= 1;
+    for _ in 0..u64::MAX {
+        let Some(end) = read_behind(reading.have, source, input) else {
+            return last(reading, frames, input);
+        };
+        reading = complete(end, reading.over, frames, input)?;
     }
-    if reading.written {
-        let _ = told.write_all(b"end\n");
-    }
+    Ok(())
 }
 
-// Reads what there is, behind what is there already, and encodes the commands that are complete then.
-fn next(
-    digits: bool,
-    reading: Reading,
-    source: &mut impl Read,
-    to: &mut impl Write,
-    told: &mut impl Write,
-    input: &mut [u8],
-    frame: &mut [u8],
-    out: &mut [u8],
-) -> Reading {
-    let have = reading.have;
-    let n = read_behind(have, source, input);
-    if n == 0 {
-        return last(digits, reading, to, told, part(input, 0, have), frame, out);
-    }
-    complete(digits, reading, n, to, told, input, frame, out)
-}
-
-// How many bytes there are with those that are read now; 0 if none are. A read that fails is the end of the input.
-fn read_behind(have: usize, source: &mut impl Read, input: &mut [u8]) -> usize {
-    if input.len() < have {
-        return 0;
-    }
+// How many bytes there are with those that are read now, if any are. A read that fails is the end of the input.
+fn read_behind(have: usize, source: &mut impl Read, input: &mut [u8]) -> Option<usize>
+    requires { have ≤ length input.old }
+    ensures { IfSome result (λ end. end ≤ length input.new) }
+{
     match source.read(&mut input[have..]) {
-        Ok(0) => 0,
-        Ok(n) => have + n,
-        Err(_) => 0,
+        Ok(0) | Err(_) => None,
+        Ok(n) => Some(have + n),
     }
 }
 
 // The last line needs no LF. If it has one, nothing is left behind it.
 fn last(
-    digits: bool,
     reading: Reading,
-    to: &mut impl Write,
-    told: &mut impl Write,
-    rest: &[u8],
-    frame: &mut [u8],
-    out: &mut [u8],
-) -> Reading {
-    let mut written = reading.written;
+    frames: &mut Frames<'_, impl Write, impl Write>,
+    input: &[u8],
+) -> io::Result<()>
+    requires { reading.have ≤ length input.now }
+{
     if reading.over {
-        written = line(digits, true, reading.lines, to, told, rest, frame, out);
-    } else {
-        if rest.len() != 0 {
-            written = line(digits, false, reading.lines, to, told, rest, frame, out);
-        }
+        frames.too_long();
+        return Ok(());
     }
-    Reading {
-        have: 0,
-        over: false,
-        lines: reading.lines,
-        written: written,
-        more: false,
+    if reading.have == 0 {
+        return Ok(());
     }
+    frames.line(&input[..reading.have])
 }
 
 // Encodes the complete lines, and moves what is left to the front. If that fills the input, it is of a line that is too long.
 fn complete(
-    digits: bool,
-    reading: Reading,
     end: usize,
-    to: &mut impl Write,
-    told: &mut impl Write,
+    over: bool,
+    frames: &mut Frames<'_, impl Write, impl Write>,
     input: &mut [u8],
-    frame: &mut [u8],
-    out: &mut [u8],
-) -> Reading {
-    let taken = each(digits, reading, to, told, part(input, 0, end), frame, out);
-    let left = to_front(input, taken.from, end);
-    let full = left == input.len();
-    Reading {
-        have: if full { 0 } else { left },
-        over: full || taken.over,
-        lines: taken.lines,
-        written: taken.written,
-        more: taken.written,
-    }
+) -> io::Result<Reading>
+    requires { end ≤ length input.old }
+    ensures { IfOk result (λ reading. reading.have ≤ length input.new) }
+{
+    let Some(last) = input[..end].iter().rposition(|b| *b == b'\n') else {
+        let full = end == input.len();
+        return Ok(Reading {
+            have: if full { 0 } else { end },
+            over: over || full,
+        });
+    };
+    each(over, frames, &input[..last])?;
+    input.copy_within(last + 1..end, 0);
+    Ok(Reading {
+        have: end - (last + 1),
+        over: false,
+    })
 }
 
-// What was taken of the input: up to where, whether the line that begins there is too long, how many lines there were before it, and whether
-// all frames could be written.
-#[derive(Clone, Copy)]
-struct Taken {
-    from: usize,
-    over: bool,
-    lines: u64,
-    written: bool,
-}
-
-// Encodes each complete line.
+// Encodes lines, of which the first may be too long.
 fn each(
-    digits: bool,
-    reading: Reading,
-    to: &mut impl Write,
-    told: &mut impl Write,
-    text: &[u8],
-    frame: &mut [u8],
-    out: &mut [u8],
-) -> Taken {
-    let mut from = 0;
-    let mut over = reading.over;
-    let mut lines = reading.lines;
-    let mut written = true;
-    while from < text.len() && written {
-        let rest = &text[from..];
-        let n = until_end(rest);
-        if rest.len() <= n {
-            return Taken {
-                from: from,
-                over: over,
-                lines: lines,
-                written: written,
-            };
-        }
-        written = line(digits, over, lines, to, told, &rest[0..n], frame, out);
-        over = false;
-        lines = lines.wrapping_add(1);
-        from = from + n + 1;
-    }
-    Taken {
-        from: from,
-        over: over,
-        lines: lines,
-        written: written,
-    }
-}
-
-// Writes the frame of a command, or why there is none; whether a frame could be written, if there is one. `before` lines stand before it.
-fn line(
-    digits: bool,
     over: bool,
-    before: u64,
-    to: &mut impl Write,
-    told: &mut impl Write,
+    frames: &mut Frames<'_, impl Write, impl Write>,
     text: &[u8],
-    frame: &mut [u8],
-    out: &mut [u8],
-) -> bool {
+) -> io::Result<()> {
+    let mut lines = text.split(|b| *b == b'\n');
     if over {
-        return refused(before, Refusal::NotInGrammar, told, out);
+        lines.next();
+        frames.too_long();
     }
-    match asked::encode(text, frame) {
-        Written::Bytes(n) => show(digits, part(frame, 0, n), to, out),
-        Written::Refused(why) => refused(before, why, told, out),
+    for line in lines {
+        frames.line(line)?;
+    }
+    Ok(())
+}
+
+// Where frames are written to, and how; where the refusals are told; the rooms for a frame and for a line; and how many commands there were.
+#[derive(Drop)]
+struct Frames<'a, W, T> {
+    digits: bool,
+    lines: u64,
+    to: &'a mut W,
+    told: &'a mut T,
+    frame: &'a mut [u8],
+    out: &'a mut [u8],
+}
+
+impl<W: Write, T: Write> Frames<'_, W, T> {
+    // Writes the frame of a command, or tells why there is none. It fails if there is one and it cannot be written.
+    fn line(&mut self, text: &[u8]) -> io::Result<()> {
+        self.lines = self.lines.wrapping_add(1);
+        let frame = &mut *self.frame;
+        match asked::encode(text, frame) {
+            Ok(n) => self.show(n),
+            Err(why) => {
+                self.refuse(why);
+                Ok(())
+            }
+        }
+    }
+
+    // Tells that a line is too long.
+    fn too_long(&mut self) {
+        self.lines = self.lines.wrapping_add(1);
+        self.refuse(Refusal::NotInGrammar);
+    }
+
+    // Writes the frame, which has so many bytes.
+    fn show(&mut self, len: usize) -> io::Result<()> {
+        let digits = self.digits;
+        let frame = &mut *self.frame;
+        let to = &mut *self.to;
+        let out = &mut *self.out;
+        write(digits, frame.get(..len).unwrap_or_default(), to, out)
+    }
+
+    // The status tells nothing: that a line was refused shows on standard error alone.
+    fn refuse(&mut self, why: Refusal) {
+        let out = &mut *self.out;
+        let end = words::refused(self.lines, why, out);
+        let told = &mut *self.told;
+        let _ = told.write_all(out.get(..end).unwrap_or_default());
     }
 }
 
-fn show(digits: bool, frame: &[u8], to: &mut impl Write, out: &mut [u8]) -> bool {
+fn write(digits: bool, frame: &[u8], to: &mut impl Write, out: &mut [u8]) -> io::Result<()> {
     if !digits {
-        return to.write_all(frame).is_ok();
+        return to.write_all(frame);
     }
     let n = puts::hex(frame, out, 0);
     let end = puts::byte(b'\n', out, n);
-    to.write_all(part(out, 0, end)).is_ok()
-}
-
-// The status tells nothing: that a line was refused shows on standard error alone.
-fn refused(before: u64, why: Refusal, told: &mut impl Write, out: &mut [u8]) -> bool {
-    let end = words::refused(before, why, out);
-    let _ = told.write_all(part(out, 0, end));
-    true
-}
-
-// How many bytes stand before the first LF: all if there is none.
-fn until_end(s: &[u8]) -> usize
-    ensures { result ≤ length s.now }
-{
-    let mut i = 0;
-    while i < s.len() {
-        if s[i] == b'\n' {
-            return i;
-        }
-        i += 1;
-    }
-    i
-}
-
-// Moves the bytes between two places to the front; how many they are.
-fn to_front(s: &mut [u8], from: usize, end: usize) -> usize {
-    if s.len() < end {
-        return 0;
-    }
-    if end < from {
-        return 0;
-    }
-    let n = end - from;
-    if from == 0 {
-        return n;
-    }
-    let mut i = 0;
-    while i < n {
-        s[i] = s[from + i];
-        i += 1;
-    }
-    n
-}
-
-// The bytes between two places.
-fn part(s: &[u8], from: usize, to: usize) -> &[u8] {
-    if to < from {
-        return &s[0..0];
-    }
-    if s.len() < to {
-        return &s[0..0];
-    }
-    &s[from..to]
+    to.write_all(out.get(..end).unwrap_or_default())
 }

@@ -6,24 +6,23 @@ use Prim.Native.Nat.{ℕ, ◌+◌, ◌*◌, ◌%◌, ◌≤◌, ◌<◌}
 use native.Mathlib.Omega.{arith}
 use denote.Ref.{Bor}
 use lib.ListN.{length}
+use Rattle.std.specs.Prelude.{Some, None, Result, Ok}
 use Rattle.digits.proofs.Laws.Handed.{bytes-of}
 use Rattle.digits.proofs.Laws.Refusals.{answered}
 use Rattle.digits.specs.Paper.Bytes.{part}
 use Rattle.digits.specs.Paper.Hex.{hex_byte}
 use Rattle.digits.specs.Paper.LowFirst.{low_byte_first}
+use Rattle.digits.specs.declared.refusal.Refusal.{Refusal}
 use Rattle.frames.specs.Paper.Kinds.{layout_of, Frame, payload_from, payload_to}
 use Rattle.frames.specs.Paper.Runs.{Run, InOrder, TakenUp}
 use Rattle.frames.specs.Paper.Search.{FrameAt, Hit, Leftmost, Searches, frame_ends, payload_ends, Hands, frame_part}
-use Rattle.frames.specs.Paper.Why.{Whys}
+use Rattle.frames.specs.Paper.Why.{Failing, Whys}
 use Rattle.frames.specs.Work.Seek.{searched}
 use Rattle.frames.specs.declared.Found.{Found}
-use Rattle.frames.specs.declared.Found.TheVariants.{At}
-use Rattle.frames.specs.declared.Verdict.{Verdict}
-use Rattle.frames.specs.declared.Verdict.TheVariants.{Is}
 use Rattle.frames.specs.declared.kinds.Kind.{Kind}
-use Rattle.layouts.specs.declared.Compared.{Compared}
+use Rattle.layouts.specs.declared.Failure.{Failure}
 use Rattle.layouts.specs.declared.Test.{Test}
-use Rattle.layouts.specs.declared.Test.TheVariants.{None, First, Second}
+use Rattle.layouts.specs.declared.Test.TheVariants.{First, Second}
 use Rattle.layouts.specs.declared.nest.Direction.{Direction}
 use Rattle.layouts.specs.declared.nest.Direction.TheVariants.{Command, Response}
 use Rattle.layouts.proofs.Laws.Buses as buses
@@ -55,7 +54,7 @@ never-empty = places.never-empty
 pub an-answer : (k : ℕ) (s : List ℕ) (place : ℕ) → Searches k s place (searched k s place)
 an-answer = seeks.search-right
 
-pub one_answer : {k : ℕ} {s : List ℕ} {place : ℕ} (r q : Found) → Searches k s place r → Searches k s place q → r ≡ q
+pub one_answer : {k : ℕ} {s : List ℕ} {place : ℕ} (r q : Result Found Refusal) → Searches k s place r → Searches k s place q → r ≡ q
 one_answer = unique.searched-one
 
 -- THE FRAME THAT IS HANDED BACK has the bytes of the frame that the search finds, which are a frame; and the payload those of its payload
@@ -84,24 +83,25 @@ pub one-run : {k : ℕ} {s : List ℕ} {place : ℕ} {xs ys : List Hit} → Run 
 one-run = unique.run-one
 
 -- 02, K1. WHY SAYS NONE exactly if a frame stands at the place, and exactly then the search from there answers that place
-pub none-if-frame : {k : ℕ} {s : List ℕ} {place n : ℕ} → FrameAt k s place n → Whys k s place (Is None 0 0)
+pub none-if-frame : {k : ℕ} {s : List ℕ} {place n : ℕ} → FrameAt k s place n → Whys k s place (Ok None)
 none-if-frame = whys.frame-why
 
-pub frame-if-none : {k : ℕ} {s : List ℕ} {place a b : ℕ} → Whys k s place (Is None a b) → (n : ℕ) × FrameAt k s place n
+pub frame-if-none : {k : ℕ} {s : List ℕ} {place : ℕ} → Whys k s place (Ok None) → (n : ℕ) × FrameAt k s place n
 frame-if-none = whys.why-frame
 
 pub found-if-frame : {k : ℕ} {s : List ℕ} {place n : ℕ} (q : FrameAt k s place n)
-    → Searches k s place (At place n (place + payload_from q.frame) (place + payload_to q.frame))
+    → Searches k s place (Ok (record { start = place; len = n; from = place + payload_from q.frame; to = place + payload_to q.frame }))
 found-if-frame = whys.frame_found
 
-pub frame-if-found : {k : ℕ} {s : List ℕ} {place n from to : ℕ} → Searches k s place (At place n from to) → FrameAt k s place n
+pub frame-if-found : {k : ℕ} {s : List ℕ} {place n from to : ℕ}
+    → Searches k s place (Ok (record { start = place; len = n; from = from; to = to })) → FrameAt k s place n
 frame-if-found a = (runs.leftmost a).stands
 
 -- EACH KIND, BUFFER AND PLACE HAS A VERDICT, and one only
-pub a-verdict : (k : ℕ) (s : List ℕ) (place : ℕ) → (r : Verdict) × Whys k s place r
+pub a-verdict : (k : ℕ) (s : List ℕ) (place : ℕ) → (r : Result Failing Refusal) × Whys k s place r
 a-verdict = whys.some-verdict
 
-pub one-verdict : {k : ℕ} {s : List ℕ} {place : ℕ} (r q : Verdict) → Whys k s place r → Whys k s place q → r ≡ q
+pub one-verdict : {k : ℕ} {s : List ℕ} {place : ℕ} (r q : Result Failing Refusal) → Whys k s place r → Whys k s place q → r ≡ q
 one-verdict = unique.why-one
 
 -- WHAT IS LAID OUT SO HAS BEGUN AND IS LONG ENOUGH
@@ -109,17 +109,17 @@ pub laid-begun : (kind : Kind) {s : List ℕ} → Head (layout_of kind) s → ((
 laid-begun = whys.laid-begun
 
 -- VALUES OTHER THAN 0 ONLY WITH A FAILED CHECK, and then they differ
-module _ {k : ℕ} {s : List ℕ} {place : ℕ} where
-  pub first-differ : {a b : ℕ} → Whys k s place (Is First a b) → a ≡ b → ⊥
-  first-differ w = buses.values-differ (answered w refl).judged buses.Compares.first
+module _ {k : ℕ} {s : List ℕ} {place : ℕ} {v : Failure} (w : Whys k s place (Ok (Some v))) where
+  pub first-differ : v.test ≡ First → v.found ≡ v.expected → ⊥
+  first-differ e = buses.values-differ (answered w refl).judged (subst buses.Compares (sym e) buses.Compares.first)
 
-  pub second-differ : {a b : ℕ} → Whys k s place (Is Second a b) → a ≡ b → ⊥
-  second-differ w = buses.values-differ (answered w refl).judged buses.Compares.second
+  pub second-differ : v.test ≡ Second → v.found ≡ v.expected → ⊥
+  second-differ e = buses.values-differ (answered w refl).judged (subst buses.Compares (sym e) buses.Compares.second)
 
-  pub else-zeros : {t : Test} {a b : ℕ} → Whys k s place (Is t a b) → (t ≡ First → ⊥) → (t ≡ Second → ⊥) → (a ≡ 0) × (b ≡ 0)
-  else-zeros {t} {a} {b} w f g =
+  pub else-zeros : (v.test ≡ First → ⊥) → (v.test ≡ Second → ⊥) → (v.found ≡ 0) × (v.expected ≡ 0)
+  else-zeros f g =
       let e = buses.values-zeros (answered w refl).judged (neither f g) in
-      (ap (λ (c : Compared). c.found) e, ap (λ (c : Compared). c.expected) e)
+      (ap (λ (f : Failure). f.found) e, ap (λ (f : Failure). f.expected) e)
     where
       neither : {t : Test} → (t ≡ First → ⊥) → (t ≡ Second → ⊥) → buses.Compares t → ⊥
       neither f g buses.first = f refl

@@ -10,6 +10,7 @@ use native.Mathlib.Nat.{eq-or-lt_of_le}
 use native.Mathlib.Omega.{arith}
 use denote.Ref.{Bor}
 use lib.ListN.{drop}
+use Rattle.std.specs.Prelude.{Option, Some, None, Result, Ok, Err}
 use Rattle.digits.proofs.Laws.Handed.{same_ends, one-part}
 use Rattle.digits.proofs.Laws.Refusals.{some_number, same_answer, one_answer}
 use Rattle.digits.specs.Paper.Bytes.{part}
@@ -22,18 +23,10 @@ use Rattle.frames.specs.Paper.Search.{FrameAt, Hit, Leftmost, found_refusal, fou
 use Rattle.frames.specs.Paper.OneFrame.{OneFrame, frame_payload_refusal, frame_payload_ends, TestsOneFrame}
 use Rattle.frames.specs.Paper.Why.{Failing, JudgedAt, verdict_refusal, verdict_failing, Whys}
 use Rattle.frames.specs.declared.Found.{Found}
-use Rattle.frames.specs.declared.Verdict.{Verdict}
-use Rattle.frames.specs.declared.Verdict.TheVariants.{Is as Judge, Refused as NotJudged}
 use Rattle.frames.specs.declared.kinds.Kind.{Kind}
 use Rattle.layouts.proofs.Laws.Buses.{one-verdict}
 use Rattle.layouts.specs.Paper.Judged.{Judged}
-use Rattle.layouts.specs.declared.Compared.{Compared}
-use Rattle.layouts.specs.declared.Test.{Test}
-use Rattle.frames.specs.declared.Found.TheVariants.{At, Refused}
 use Rattle.frames.specs.declared.FramePayload.{FramePayload}
-use Rattle.frames.specs.declared.FramePayload.TheVariants.{Is, Refused as NotOneFrame}
-use Rattle.frames.specs.declared.kinds.Resolved.{Resolved}
-use Rattle.frames.specs.declared.kinds.Resolved.TheVariants.{Is as Kinded, Unknown}
 use Rattle.frames.proofs.Laws.Kinds.{bus_of, one-payload, one-kind, known_of, kind-is, kind-not}
 use Rattle.frames.proofs.Laws.Places.{one-length}
 use Rattle.frames.proofs.Laws.Runs.{leftmost, none_found}
@@ -70,18 +63,18 @@ module _ {k : ℕ} {s : List ℕ} {place : ℕ} where
 
 -- ---- frames::search
 
-found-cases : (P : Found → Type 0) → ((v : Hit) → P (At v.start v.len v.from v.to)) → ((why : Refusal) → P (Refused why)) → (r : Found) → P r
-found-cases P f g (At i n x y) = f (hit i n x y)
-found-cases P f g (Refused why) = g why
+by_cases : {A : Type 0} (P : Result A Refusal → Type 0) → ((v : A) → P (Ok v)) → ((why : Refusal) → P (Err why)) → (r : Result A Refusal) → P r
+by_cases P f g (Ok v) = f v
+by_cases P f g (Err why) = g why
 
-found-answer : (r q : Found) → found_refusal r ≡ found_refusal q → found_hit r ≡ found_hit q → r ≡ q
-found-answer = same_answer (λ (v : Hit). At v.start v.len v.from v.to) Refused found_refusal found_hit (λ v. refl) (λ why. refl) (λ v. refl) found-cases
+found-answer : (r q : Result Found Refusal) → found_refusal r ≡ found_refusal q → found_hit r ≡ found_hit q → r ≡ q
+found-answer = same_answer Ok Err found_refusal found_hit (λ v. refl) (λ why. refl) (λ v. refl) by_cases
 
-pub searched-one : {k : ℕ} {s : List ℕ} {place : ℕ} (r q : Found) → Searches k s place r → Searches k s place q → r ≡ q
+pub searched-one : {k : ℕ} {s : List ℕ} {place : ℕ} (r q : Result Found Refusal) → Searches k s place r → Searches k s place q → r ≡ q
 searched-one r q a b = let e = one_answer leftmost-one a b in found-answer r q e.0 e.1
 
 -- a find is no refusal
-pub hit-or-none : {a b c d : ℕ} {why : Refusal} → At a b c d ≡ Refused why → ⊥
+pub hit-or-none : {v : Hit} {why : Refusal} → Ok v ≡ Err why → ⊥
 hit-or-none {why = why} e = let h : 0 ≡ refusal_number why = ap found_refusal e in omega (arith, some_number why)
 
 -- ---- frames::frame and frames::payload
@@ -98,15 +91,15 @@ module _ {k : ℕ} {s : List ℕ} where
       let q = one-payload refl a.frame b.frame in
       same_ends (a.from_is ∙ q.0 ∙ sym b.from_is) (a.to_is ∙ q.1 ∙ sym b.to_is)
 
-  pub whole-one : (r q : FramePayload) → TestsOneFrame k s r → TestsOneFrame k s q → r ≡ q
+  pub whole-one : (r q : Result FramePayload Refusal) → TestsOneFrame k s r → TestsOneFrame k s q → r ≡ q
   whole-one r q a b = let e = one_answer ends-one a b in whole-answer r q e.0 e.1
     where
-      whole-cases : (P : FramePayload → Type 0) → ((v : Ends) → P (Is v.from v.to)) → ((why : Refusal) → P (NotOneFrame why)) → (r : FramePayload) → P r
-      whole-cases P f g (Is x y) = f (record { from = x; to = y })
-      whole-cases P f g (NotOneFrame why) = g why
-
-      whole-answer : (r q : FramePayload) → frame_payload_refusal r ≡ frame_payload_refusal q → frame_payload_ends r ≡ frame_payload_ends q → r ≡ q
-      whole-answer = same_answer (λ (v : Ends). Is v.from v.to) NotOneFrame frame_payload_refusal frame_payload_ends (λ v. refl) (λ why. refl) (λ v. refl) whole-cases
+      whole-answer : (r q : Result FramePayload Refusal) → frame_payload_refusal r ≡ frame_payload_refusal q
+          → frame_payload_ends r ≡ frame_payload_ends q → r ≡ q
+      whole-answer =
+          same_answer (λ (v : Ends). Ok (record { from = v.from; to = v.to })) Err frame_payload_refusal frame_payload_ends
+          (λ v. refl) (λ why. refl) (λ v. refl)
+          (λ P f. by_cases P (λ v. f (record { from = v.from; to = v.to })))
 
 -- ---- frames::why
 
@@ -114,43 +107,29 @@ module _ {k : ℕ} {s : List ℕ} {place : ℕ} where
   pub failing-one : (u v : Failing) → JudgedAt k s place u → JudgedAt k s place v → u ≡ v
   failing-one u v a b =
       let same : b.kind ≡ a.kind = one-kind b.kind a.kind (b.number ∙ sym a.number) in
-      let values : Failing → Compared = λ w. record { found = w.found; expected = w.expected } in
-      let e =
-      one-verdict (bus_of a.kind) a.judged
-      (subst (λ (x : Kind). Judged (layout_of x) (drop place s) v.test (values v)) same b.judged)
-      in
-      alike u.test v.test u.found v.found u.expected v.expected e.0
-      (ap (λ (c : Compared). c.found) e.1) (ap (λ (c : Compared). c.expected) e.1)
-    where
-      alike : (t t' : Test) (x x' y y' : ℕ) → t ≡ t' → x ≡ x' → y ≡ y'
-          → ◌≡◌ {A = Failing} (record { test = t; found = x; expected = y }) (record { test = t'; found = x'; expected = y' })
-      alike t t' x x' y y' p q r = rw (p, q, r)
+      one-verdict (bus_of a.kind) a.judged (subst (λ (x : Kind). Judged (layout_of x) (drop place s) v) same b.judged)
 
-  pub why-one : (r q : Verdict) → Whys k s place r → Whys k s place q → r ≡ q
+  pub why-one : (r q : Result Failing Refusal) → Whys k s place r → Whys k s place q → r ≡ q
   why-one r q a b = let e = one_answer failing-one a b in verdict-answer r q e.0 e.1
     where
-      verdict-cases : (P : Verdict → Type 0) → ((v : Failing) → P (Judge v.test v.found v.expected)) → ((why : Refusal) → P (NotJudged why)) → (r : Verdict) → P r
-      verdict-cases P f g (Judge t x y) = f (record { test = t; found = x; expected = y })
-      verdict-cases P f g (NotJudged why) = g why
-
-      verdict-answer : (r q : Verdict) → verdict_refusal r ≡ verdict_refusal q → verdict_failing r ≡ verdict_failing q → r ≡ q
-      verdict-answer = same_answer (λ (v : Failing). Judge v.test v.found v.expected) NotJudged verdict_refusal verdict_failing (λ v. refl) (λ why. refl) (λ v. refl) verdict-cases
+      verdict-answer : (r q : Result Failing Refusal) → verdict_refusal r ≡ verdict_refusal q → verdict_failing r ≡ verdict_failing q → r ≡ q
+      verdict-answer = same_answer Ok Err verdict_refusal verdict_failing (λ v. refl) (λ why. refl) (λ v. refl) by_cases
 
 -- ---- frames::kinds::of
 
-pub resolved-one : {k : ℕ} (r q : Resolved) → Resolves k r → Resolves k q → r ≡ q
-resolved-one (Kinded a) (Kinded b) x y = ap Kinded (one-kind a b (kind-is a x ∙ sym (kind-is b y)))
-resolved-one (Kinded a) Unknown x y = absurd (true≢false (sym (known_of a (kind-is a x)) ∙ kind-not y))
-resolved-one Unknown (Kinded b) x y = absurd (true≢false (sym (known_of b (kind-is b y)) ∙ kind-not x))
-resolved-one Unknown Unknown x y = refl
+pub resolved-one : {k : ℕ} (r q : Option Kind) → Resolves k r → Resolves k q → r ≡ q
+resolved-one (Some a) (Some b) x y = ap Some (one-kind a b (kind-is a x ∙ sym (kind-is b y)))
+resolved-one (Some a) None x y = absurd (true≢false (sym (known_of a (kind-is a x)) ∙ kind-not y))
+resolved-one None (Some b) x y = absurd (true≢false (sym (known_of b (kind-is b y)) ∙ kind-not x))
+resolved-one None None x y = refl
 
 -- ---- one search after the other
 
 pub run-one : {k : ℕ} {s : List ℕ} {place : ℕ} {xs ys : List Hit} → Run k s place xs → Run k s place ys → xs ≡ ys
 run-one (R.ends a) (R.ends b) = refl
-run-one (R.ends a) (R.finds {start = i} {len = n} b r) = absurd (none_found a i n (leftmost b).behind (leftmost b).stands)
-run-one (R.finds {start = i} {len = n} a r) (R.ends b) = absurd (none_found b i n (leftmost a).behind (leftmost a).stands)
-run-one {k} {s} (R.finds {start = i} {len = n} {from = x} {to = y} {later = later} a r) (R.finds {start = j} {len = m} {from = u} {to = v} b q) =
-    let e : hit i n x y ≡ hit j m u v = leftmost-one (hit i n x y) (hit j m u v) (leftmost a) (leftmost b) in
-    let at : i + n ≡ j + m = ap (λ (h : Hit). h.start + h.len) e in
+run-one (R.ends a) (R.finds {v = v} b r) = absurd (none_found a v.start v.len (leftmost b).behind (leftmost b).stands)
+run-one (R.finds {v = v} a r) (R.ends b) = absurd (none_found b v.start v.len (leftmost a).behind (leftmost a).stands)
+run-one {k} {s} (R.finds {v = u} {later = later} a r) (R.finds {v = v} b q) =
+    let e : u ≡ v = leftmost-one u v (leftmost a) (leftmost b) in
+    let at : u.start + u.len ≡ v.start + v.len = ap (λ (h : Hit). h.start + h.len) e in
     ap₂ (λ (h : Hit) (l : List Hit). h ∷ l) e (run-one (subst (λ (p : ℕ). Run k s p later) at r) q)

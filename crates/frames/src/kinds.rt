@@ -1,15 +1,15 @@
 // The kinds. Outside, a kind is a number; inside, it is a case of `Kind`, and what belongs to one kind is an arm of a `match` here.
 ghost use Rattle.std.specs.Prelude.{false, ◌≡◌, ◌+◌, ◌≤◌, length, drop};
-ghost use Rattle.layouts.specs.Paper.Judged.{Judged, values_of};
+ghost use Rattle.layouts.specs.Paper.Judged.{Judged, frame_in, failed_in};
 ghost use Rattle.frames.specs.Paper.Kinds as paper;
 ghost use Rattle.frames.specs.Paper.Kinds.{Resolves, number_of, layout_of};
-ghost use Rattle.frames.specs.Work.Frames.{HeadAt, may_start};
+ghost use Rattle.frames.specs.Work.Frames.{frame_at, may_start};
 
 use layouts::nest::Direction;
-use layouts::{AtHead, homiq, nest, nibe, nikobus};
+use layouts::{Failure, Frame, homiq, nest, nibe, nikobus};
 
 // A bus and a direction.
-#[derive(Clone, Copy)]
+#[derive(Clone, Copy, Debug, PartialEq, Eq)]
 pub enum Kind {
     Nikobus,
     NestCommand,
@@ -18,24 +18,17 @@ pub enum Kind {
     Homiq,
 }
 
-// What a number is resolved to: a kind, or that there is none of that number.
-#[derive(Clone, Copy)]
-pub enum Resolved {
-    Is(Kind),
-    Unknown,
-}
-
-// The kind of a number.
-pub fn of(number: u8) -> Resolved
+// The kind of a number, if there is one of that number.
+pub fn of(number: u8) -> Option<Kind>
     ensures { Resolves number result }
 {
     match number {
-        1 => Resolved::Is(Kind::Nikobus),
-        2 => Resolved::Is(Kind::NestCommand),
-        3 => Resolved::Is(Kind::NestResponse),
-        4 => Resolved::Is(Kind::Nibe),
-        5 => Resolved::Is(Kind::Homiq),
-        _ => Resolved::Unknown,
+        1 => Some(Kind::Nikobus),
+        2 => Some(Kind::NestCommand),
+        3 => Some(Kind::NestResponse),
+        4 => Some(Kind::Nibe),
+        5 => Some(Kind::Homiq),
+        _ => None,
     }
 }
 
@@ -56,17 +49,14 @@ pub fn number(kind: Kind) -> u8
 pub fn known(number: u8) -> bool
     ensures { result ≡ paper.known number }
 {
-    match of(number) {
-        Resolved::Is(kind) => true,
-        Resolved::Unknown => false,
-    }
+    of(number).is_some()
 }
 
 // What stands at a place of a buffer: the frame, or the test that it failed.
-pub(crate) fn at(kind: Kind, buffer: &[u8], place: usize) -> AtHead
+pub(crate) fn at(kind: Kind, buffer: &[u8], place: usize) -> Result<Frame, Failure>
     requires { place ≤ length buffer.now }
-    ensures head_at { HeadAt kind buffer.now place result.len result.from result.to }
-    ensures judged { Judged (layout_of kind) (drop place buffer.now) result.failed (values_of result) }
+    ensures framed { frame_in result ≡ frame_at kind buffer.now place }
+    ensures judged { Judged (layout_of kind) (drop place buffer.now) (failed_in result) }
 {
     let s = &buffer[place..];
     match kind {
@@ -80,8 +70,8 @@ pub(crate) fn at(kind: Kind, buffer: &[u8], place: usize) -> AtHead
 
 // What stands at the head of these bytes, as `at` says it of the place 0. The match stands here again for the compiler: a recogniser that is called
 // once would become a part of `at`, and `at` too large to become a part of each kind's search. Heads would cost the search up to a third more.
-pub(crate) fn head(kind: Kind, bytes: &[u8]) -> AtHead
-    ensures { HeadAt kind bytes.now 0 result.len result.from result.to }
+pub(crate) fn head(kind: Kind, bytes: &[u8]) -> Result<Frame, Failure>
+    ensures { frame_in result ≡ frame_at kind bytes.now 0 }
 {
     match kind {
         Kind::Nikobus => nikobus::frame(bytes),

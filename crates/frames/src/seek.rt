@@ -1,13 +1,13 @@
 // The search: one loop for all kinds, over the places where a frame can begin.
 ghost use Rattle.std.specs.Prelude.{true, false, ◌≡◌, ◌+◌, ◌^◌, ◌≤◌, ◌<◌, length};
-ghost use Rattle.frames.specs.Work.Frames.{HeadAt};
-ghost use Rattle.frames.specs.Work.Seek.{seek, Passed};
-ghost use Rattle.frames.specs.declared.Found.TheVariants.{At};
+ghost use Rattle.layouts.specs.Paper.Judged.{frame_in};
+ghost use Rattle.frames.specs.Work.Frames.{frame_at};
+ghost use Rattle.frames.specs.Work.Seek.{seek, found_at, Passed};
 
 use super::kinds::Kind;
 use super::{Found, kinds};
 use digits::refusal::Refusal;
-use layouts::AtHead;
+use layouts::{Failure, Frame};
 
 // This many places are tested at a time, with no branch between them: the compiler makes vector instructions of that.
 const BLOCK: usize = 64;
@@ -17,7 +17,7 @@ const NEAR: usize = 8;
 
 // The first frame from a place on. The kind is handed on by its name, so that the compiler makes a loop for each kind of the one below. What
 // stands at the place itself is looked at here: in a run of frames it is one, and the loop's preparations are not needed.
-pub(crate) fn first(kind: Kind, buffer: &[u8], place: usize) -> Found
+pub(crate) fn first(kind: Kind, buffer: &[u8], place: usize) -> Result<Found, Refusal>
     requires { place ≤ length buffer.now }
     ensures { result ≡ seek kind buffer.now place }
 {
@@ -55,29 +55,33 @@ pub(crate) fn first(kind: Kind, buffer: &[u8], place: usize) -> Found
     }
 }
 
-// The same, where `here` is what stands at the place. (No frame is shorter than four bytes. With a test for 0 the compiler takes the loop for
-// unlikely, and does not make one for each kind.)
-fn first_of(kind: Kind, here: AtHead, buffer: &[u8], place: usize) -> Found
+// The same, where `here` is what stands at the place. (No `for`: `skip` answers the next place.)
+fn first_of(
+    kind: Kind,
+    here: Result<Frame, Failure>,
+    buffer: &[u8],
+    place: usize,
+) -> Result<Found, Refusal>
     requires place_in_bounds { place ≤ length buffer.now }
-    requires head_at { HeadAt kind buffer.now place here.len here.from here.to }
+    requires framed { frame_in here ≡ frame_at kind buffer.now place }
     ensures { result ≡ seek kind buffer.now place }
 {
-    if 4 <= here.len {
-        return found(place, here);
+    if let Ok(frame) = here {
+        return Ok(found(place, frame));
     }
     let mut at = skip(kind, buffer, place, 1);
     while at < buffer.len() {
-        let head = kinds::at(kind, buffer, at);
-        if head.len != 0 {
-            return found(at, head);
+        if let Ok(frame) = kinds::at(kind, buffer, at) {
+            return Ok(found(at, frame));
         }
         at = skip(kind, buffer, at + 1, 0);
     }
-    Found::Refused(Refusal::NoFrame)
+    Err(Refusal::NoFrame)
 }
 
 // The next place where a frame can begin, or the buffer's end: what is found from there on is what is found from the place on. Blocks are
-// passed when the count of tested places, modulo NEAR, is `when`: at 1 at once, at 0 behind the near ones.
+// passed when the count of tested places, modulo NEAR, is `when`: at 1 at once, at 0 behind the near ones. (No `for`: `next` answers the
+// next place.)
 fn skip(kind: Kind, buffer: &[u8], place: usize, when: usize) -> usize
     requires { place ≤ length buffer.now }
     ensures { Passed kind buffer.now place result }
@@ -108,7 +112,8 @@ fn next(kind: Kind, buffer: &[u8], place: usize, count: usize, when: usize) -> u
     place
 }
 
-// Passes blocks in which no place looks like a start, and of the first other one the places before the first that does.
+// Passes blocks in which no place looks like a start, and of the first other one the places before the first that does. (No `chunks`: a
+// block's last places are tested by bytes behind it.)
 fn pass(kind: Kind, buffer: &[u8], place: usize) -> usize
     requires { place + 3 ≤ length buffer.now }
     ensures { Passed kind buffer.now place result }
@@ -130,10 +135,8 @@ fn may_start_in(kind: Kind, buffer: &[u8], place: usize) -> bool
     ensures { result ≡ false → Passed kind buffer.now place (place + 64) }
 {
     let mut any = false;
-    let mut i = 0;
-    while i < BLOCK {
+    for i in 0..BLOCK {
         any = any | kinds::looks_like_start(kind, buffer, place + i);
-        i += 1;
     }
     any
 }
@@ -144,18 +147,17 @@ fn first_in(kind: Kind, buffer: &[u8], place: usize) -> u8
     ensures { Passed kind buffer.now place (place + result) }
 {
     let mut first = 64;
-    let mut i = 0;
-    while i < 64 {
+    for i in 0..64 {
         first = least(
             first,
             index_if(kinds::looks_like_start(kind, buffer, place + i), i as u8),
         );
-        i += 1;
     }
     first
 }
 
-// An index in the block if its place looks like a start, and else the block's length.
+// An index in the block if its place looks like a start, and else the block's length. (`least` and this stay beside the library's `min`: the
+// must-fail edit `last_start_of_a_block_taken` changes what they compare.)
 fn index_if(may: bool, i: u8) -> u8
     ensures { (may ≡ true → result ≡ i) × (may ≡ false → result ≡ 64) }
 {
@@ -175,15 +177,15 @@ fn least(a: u8, b: u8) -> u8
 }
 
 // The frame at a place.
-fn found(at: usize, head: AtHead) -> Found
-    requires from_bound { at + head.from < 2 ^ 64 }
-    requires to_bound { at + head.to < 2 ^ 64 }
-    ensures { result ≡ At at head.len (at + head.from) (at + head.to) }
+fn found(at: usize, frame: Frame) -> Found
+    requires from_bound { at + frame.from < 2 ^ 64 }
+    requires to_bound { at + frame.to < 2 ^ 64 }
+    ensures { result ≡ found_at at frame }
 {
-    Found::At {
+    Found {
         start: at,
-        len: head.len,
-        from: at + head.from,
-        to: at + head.to,
+        len: frame.len,
+        from: at + frame.from,
+        to: at + frame.to,
     }
 }

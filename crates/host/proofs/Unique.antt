@@ -8,9 +8,11 @@ use Prim.Native.Nat.{ℕ, ◌+◌}
 use native.Mathlib.Omega.{arith}
 use lib.Ieee.{Float}
 use lib.IntN.{ℤ, pos}
+use Rattle.std.specs.Prelude.{Result}
 use Rattle.digits.specs.Paper.Part.{Ends, zero_ends}
 use Rattle.digits.specs.Paper.Read.{Reads}
 use Rattle.digits.specs.Paper.Refusals.{Answers}
+use Rattle.digits.specs.declared.refusal.Refusal.{Refusal}
 use Rattle.digits.proofs.Laws.Reads.{one-reading}
 use Rattle.digits.proofs.Laws.Refusals.{one_answer}
 use Rattle.puts.specs.Paper.Right.{WroteRight}
@@ -27,7 +29,6 @@ use Rattle.frames.proofs.Unique.{leftmost-one, ends-one}
 use Rattle.frames.specs.Paper.Why.{WhyCause}
 use Rattle.host.specs.Paper.Why.{Judgement, zero_judgement, JudgementAt, judgement_in}
 use Rattle.host.specs.Paper.Answers.{hit_in, ends_in, number_in, flag}
-use Rattle.puts.specs.declared.Written.{Written}
 use Rattle.host.specs.Paper.Kind.{KindByte, held, beyond}
 use Rattle.host.specs.Paper.Panel.{zero_shown, Shown, shown, shown_in, ShownOf, zero_climate, ClimateCause, ClimateOf, climate_in, Pair}
 use Rattle.host.specs.declared.answers.Climate.{Climate}
@@ -142,7 +143,7 @@ climate {t} {h} r q a b =
 
 -- ---- the answers' own functions: `refusal_number` promises an equation
 
-pub counted : (w : Written) (r q : Count) → (r.refusal ≡ written_refusal w) × (r.length ≡ written_count w)
+pub counted : (w : Result ℕ Refusal) (r q : Count) → (r.refusal ≡ written_refusal w) × (r.length ≡ written_count w)
     → (q.refusal ≡ written_refusal w) × (q.length ≡ written_count w) → r ≡ q
 counted w r q a b = ap₂ count (a.0 ∙ sym b.0) (a.1 ∙ sym b.1)
 

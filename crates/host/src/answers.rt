@@ -9,12 +9,9 @@ use digits::refusal;
 use digits::refusal::Refusal;
 use puts::Written;
 
-// A byte holds the numbers below this one.
-const BEYOND_A_BYTE: u32 = 256;
-
 // A frame that is found in a buffer, and its payload: where each begins, and how long it is.
 #[repr(C)]
-#[derive(Clone, Copy)]
+#[derive(Clone, Copy, Debug, PartialEq, Eq)]
 pub struct Found {
     pub refusal: u32,
     pub start: usize,
@@ -25,7 +22,7 @@ pub struct Found {
 
 // Where the payload of a frame begins, and how long it is.
 #[repr(C)]
-#[derive(Clone, Copy)]
+#[derive(Clone, Copy, Debug, PartialEq, Eq)]
 pub struct Payload {
     pub refusal: u32,
     pub payload_start: usize,
@@ -34,7 +31,7 @@ pub struct Payload {
 
 // The test that a frame at a place failed first, by its number, and the values of a failed check.
 #[repr(C)]
-#[derive(Clone, Copy)]
+#[derive(Clone, Copy, Debug, PartialEq, Eq)]
 pub struct Verdict {
     pub refusal: u32,
     pub test: u32,
@@ -44,7 +41,7 @@ pub struct Verdict {
 
 // How many bytes were written.
 #[repr(C)]
-#[derive(Clone, Copy)]
+#[derive(Clone, Copy, Debug, PartialEq, Eq)]
 pub struct Count {
     pub refusal: u32,
     pub length: usize,
@@ -52,7 +49,7 @@ pub struct Count {
 
 // A raw number and its decimals.
 #[repr(C)]
-#[derive(Clone, Copy)]
+#[derive(Clone, Copy, Debug, PartialEq, Eq)]
 pub struct Reading {
     pub refusal: u32,
     pub decimals: u32,
@@ -61,7 +58,7 @@ pub struct Reading {
 
 // A raw number.
 #[repr(C)]
-#[derive(Clone, Copy)]
+#[derive(Clone, Copy, Debug, PartialEq, Eq)]
 pub struct Raw {
     pub refusal: u32,
     pub raw: i64,
@@ -69,7 +66,7 @@ pub struct Raw {
 
 // Whether a single float holds a number: 1 or 0.
 #[repr(C)]
-#[derive(Clone, Copy)]
+#[derive(Clone, Copy, Debug, PartialEq, Eq)]
 pub struct Fit {
     pub refusal: u32,
     pub fits: u32,
@@ -77,7 +74,7 @@ pub struct Fit {
 
 // What the panel is shown: of size 4 it is `single`, of size 8 `wide`, and the other is 0.
 #[repr(C)]
-#[derive(Clone, Copy)]
+#[derive(Clone, Copy, Debug, PartialEq)]
 pub struct PanelValue {
     pub refusal: u32,
     pub size: u32,
@@ -87,7 +84,7 @@ pub struct PanelValue {
 
 // What the panel is shown of a climate message.
 #[repr(C)]
-#[derive(Clone, Copy)]
+#[derive(Clone, Copy, Debug, PartialEq)]
 pub struct Climate {
     pub refusal: u32,
     pub temperature: f32,
@@ -106,11 +103,11 @@ pub fn counted(w: Written) -> Count
     ensures { (result.refusal ≡ written_refusal w) × (result.length ≡ written_count w) }
 {
     match w {
-        Written::Bytes(n) => Count {
+        Ok(n) => Count {
             refusal: 0,
             length: n,
         },
-        Written::Refused(why) => Count {
+        Err(why) => Count {
             refusal: refusal_number(why),
             length: 0,
         },
@@ -121,8 +118,5 @@ pub fn counted(w: Written) -> Count
 pub fn kind_byte(kind: u32) -> u8
     ensures { KindByte kind result }
 {
-    if kind < BEYOND_A_BYTE {
-        return kind as u8;
-    }
-    0
+    u8::try_from(kind).unwrap_or(0)
 }

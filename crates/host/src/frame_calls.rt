@@ -10,7 +10,6 @@ ghost use Rattle.host.specs.Paper.Why.{zero_judgement, JudgementAt, judgement_in
 
 use super::answers;
 use super::answers::{Found, Payload, Verdict};
-use frames::FramePayload;
 use layouts::Test;
 
 // The frame with the smallest start at or after the place: `frames::search`.
@@ -19,19 +18,14 @@ pub extern "C" fn bolsterweft_search(kind: u32, buffer: &[u8], place: usize) -> 
     ensures { Answers zero_hit (SearchCause kind buffer.now place) (Leftmost kind buffer.now place) result.refusal (hit_in result) }
 {
     match frames::search(answers::kind_byte(kind), buffer, place) {
-        frames::Found::At {
-            start,
-            len,
-            from,
-            to,
-        } => Found {
+        Ok(found) => Found {
             refusal: 0,
-            start,
-            length: len,
-            payload_start: from,
-            payload_length: to - from,
+            start: found.start,
+            length: found.len,
+            payload_start: found.from,
+            payload_length: found.to - found.from,
         },
-        frames::Found::Refused(why) => Found {
+        Err(why) => Found {
             refusal: answers::refusal_number(why),
             start: 0,
             length: 0,
@@ -47,12 +41,12 @@ pub extern "C" fn bolsterweft_one_frame(kind: u32, frame: &[u8]) -> Payload
     ensures { Answers zero_ends (OneFrameCause kind frame.now) (OneFrame kind frame.now) result.refusal (ends_in result) }
 {
     match frames::one_frame(answers::kind_byte(kind), frame) {
-        FramePayload::Is { from, to } => Payload {
+        Ok(payload) => Payload {
             refusal: 0,
-            payload_start: from,
-            payload_length: to - from,
+            payload_start: payload.from,
+            payload_length: payload.to - payload.from,
         },
-        FramePayload::Refused(why) => Payload {
+        Err(why) => Payload {
             refusal: answers::refusal_number(why),
             payload_start: 0,
             payload_length: 0,
@@ -66,17 +60,19 @@ pub extern "C" fn bolsterweft_why(kind: u32, buffer: &[u8], place: usize) -> Ver
     ensures { Answers zero_judgement (WhyCause kind buffer.now place) (JudgementAt kind buffer.now place) result.refusal (judgement_in result) }
 {
     match frames::why(answers::kind_byte(kind), buffer, place) {
-        frames::Verdict::Is {
-            test,
-            found,
-            expected,
-        } => Verdict {
+        Ok(None) => Verdict {
             refusal: 0,
-            test: test_number(test),
-            found: found as u32,
-            expected: expected as u32,
+            test: 0,
+            found: 0,
+            expected: 0,
         },
-        frames::Verdict::Refused(why) => Verdict {
+        Ok(Some(failure)) => Verdict {
+            refusal: 0,
+            test: test_number(failure.test),
+            found: failure.found as u32,
+            expected: failure.expected as u32,
+        },
+        Err(why) => Verdict {
             refusal: answers::refusal_number(why),
             test: 0,
             found: 0,
@@ -90,7 +86,6 @@ fn test_number(test: Test) -> u32
     ensures { result ≡ test_number test }
 {
     match test {
-        Test::None => 0,
         Test::Start => 1,
         Test::Length => 2,
         Test::Fields => 3,

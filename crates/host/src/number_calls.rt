@@ -13,7 +13,6 @@ ghost use Rattle.host.specs.Paper.Panel.{zero_shown, ShownOf, shown_in, zero_cli
 use super::answers;
 use super::answers::{Climate, Count, Fit, PanelValue, Raw, Reading};
 use digits::refusal::Refusal;
-use numbers::panel::Shown;
 use numbers::{byte_values, panel, single, text};
 
 // Writes the text of a raw number from the front of the room: `text::write`.
@@ -30,12 +29,12 @@ pub extern "C" fn bolsterweft_number(text: &[u8]) -> Reading
     ensures { Reads zero_number T.InLimits (λ n. T.text n.raw n.decimals) 7 text.now result.refusal (number_in result) }
 {
     match text::read(text) {
-        text::Reading::Is(raw, decimals) => Reading {
+        Ok(number) => Reading {
             refusal: 0,
-            decimals,
-            raw,
+            decimals: number.decimals,
+            raw: number.raw,
         },
-        text::Reading::Refused(why) => Reading {
+        Err(why) => Reading {
             refusal: answers::refusal_number(why),
             decimals: 0,
             raw: 0,
@@ -57,8 +56,8 @@ pub extern "C" fn bolsterweft_value_read(bytes: &[u8], width: u32, is_signed: u3
     ensures { Answers (pos 0) (BytesCause width bytes.now) (ValueIn width (not (eqb is_signed 0)) bytes.now) result.refusal result.raw }
 {
     match byte_values::read(bytes, width as usize, is_signed != 0) {
-        byte_values::Value::Is(raw) => Raw { refusal: 0, raw },
-        byte_values::Value::Refused(why) => Raw {
+        Ok(raw) => Raw { refusal: 0, raw },
+        Err(why) => Raw {
             refusal: answers::refusal_number(why),
             raw: 0,
         },
@@ -71,11 +70,11 @@ pub extern "C" fn bolsterweft_fits(raw: i64) -> Fit
     ensures { Answers 0 (RangeCause raw) (λ n. n ≡ flag (fits_single raw)) result.refusal result.fits }
 {
     match single::fits(raw) {
-        single::Fit::Is(holds) => Fit {
+        Ok(holds) => Fit {
             refusal: 0,
             fits: holds as u32,
         },
-        single::Fit::Refused(why) => Fit {
+        Err(why) => Fit {
             refusal: answers::refusal_number(why),
             fits: 0,
         },
@@ -88,7 +87,7 @@ pub extern "C" fn bolsterweft_panel(raw: i64) -> PanelValue
     ensures { Answers zero_shown (RangeCause raw) (ShownOf raw) result.refusal (shown_in result) }
 {
     match panel::of(raw) {
-        Shown::Is(v) => match v {
+        Ok(value) => match value {
             panel::Value::Single(x) => PanelValue {
                 refusal: 0,
                 size: 4,
@@ -102,7 +101,7 @@ pub extern "C" fn bolsterweft_panel(raw: i64) -> PanelValue
                 wide: x,
             },
         },
-        Shown::Refused(why) => PanelValue {
+        Err(why) => PanelValue {
             refusal: answers::refusal_number(why),
             size: 0,
             single: 0.0,
@@ -116,16 +115,13 @@ pub extern "C" fn bolsterweft_panel(raw: i64) -> PanelValue
 pub extern "C" fn bolsterweft_climate(temperature: i32, humidity: u32) -> Climate
     ensures { Answers zero_climate (ClimateCause temperature (pos humidity)) (ClimateOf temperature (pos humidity)) result.refusal (climate_in result) }
 {
-    if temperature < -32_768 {
+    let Ok(temperature) = i16::try_from(temperature) else {
         return no_climate();
-    }
-    if 32_767 < temperature {
+    };
+    let Ok(humidity) = u16::try_from(humidity) else {
         return no_climate();
-    }
-    if 65_535 < humidity {
-        return no_climate();
-    }
-    let c = panel::pair(temperature as i16, humidity as u16);
+    };
+    let c = panel::pair(temperature, humidity);
     Climate {
         refusal: 0,
         temperature: c.temperature,

@@ -9,13 +9,12 @@ ghost use Rattle.sheet.specs.Paper.Map.{sheet_in};
 ghost use Rattle.book.specs.Paper.Answers.{OpenCause, Counts, zero_location, EntryCause, EntryOf, EntryLineCause, EntryLine, ListCause, BookLines, AddCause, Adds};
 ghost use Rattle.host_book.specs.Paper.Answers.{location_in};
 
-use book::{Located, Opened};
 use host::answers;
 use host::answers::Count;
 
 // How many entries a book has.
 #[repr(C)]
-#[derive(Clone, Copy)]
+#[derive(Clone, Copy, Debug, PartialEq, Eq)]
 pub struct Entries {
     pub refusal: u32,
     pub count: usize,
@@ -23,7 +22,7 @@ pub struct Entries {
 
 // An entry of a book: its kind and offset, where its frame begins, and how long the frame is.
 #[repr(C)]
-#[derive(Clone, Copy)]
+#[derive(Clone, Copy, Debug, PartialEq, Eq)]
 pub struct Entry {
     pub refusal: u32,
     pub kind: u32,
@@ -38,8 +37,8 @@ pub extern "C" fn bolsterweft_book_open(book: &[u8]) -> Entries
     ensures { Answers 0 (OpenCause book.now) (Counts book.now) result.refusal result.count }
 {
     match book::open(book) {
-        Opened::Count(count) => Entries { refusal: 0, count },
-        Opened::Refused(why) => Entries {
+        Ok(count) => Entries { refusal: 0, count },
+        Err(why) => Entries {
             refusal: answers::refusal_number(why),
             count: 0,
         },
@@ -52,19 +51,14 @@ pub extern "C" fn bolsterweft_book_entry(book: &[u8], number: u32) -> Entry
     ensures { Answers zero_location (EntryCause book.now number) (EntryOf book.now number) result.refusal (location_in result) }
 {
     match book::entry(book, number as usize) {
-        Located::Is {
-            kind,
-            offset,
-            from,
-            to,
-        } => Entry {
+        Ok(located) => Entry {
             refusal: 0,
-            kind: kind as u32,
-            offset,
-            frame_start: from,
-            frame_length: to - from,
+            kind: located.kind as u32,
+            offset: located.offset,
+            frame_start: located.from,
+            frame_length: located.to - located.from,
         },
-        Located::Refused(why) => Entry {
+        Err(why) => Entry {
             refusal: answers::refusal_number(why),
             kind: 0,
             offset: 0,

@@ -15,7 +15,7 @@ use host::answers::Count;
 
 // A frame of a capture whose line was written, and how long that line is.
 #[repr(C)]
-#[derive(Clone, Copy)]
+#[derive(Clone, Copy, Debug, PartialEq, Eq)]
 pub struct Listed {
     pub refusal: u32,
     pub start: usize,
@@ -50,13 +50,13 @@ pub fn next_mapped(kind: u32, capture: &[u8], place: usize, map: &[u8], room: &m
     ensures { WroteNext (sheet_in map.now) kind capture.now place room.old result room.new }
 {
     match lines::next(answers::kind_byte(kind), capture, place, map, room, 0) {
-        lines::Listed::At { start, len, behind } => Listed {
+        Ok(line) => Listed {
             refusal: 0,
-            start,
-            length: len,
-            line_length: behind,
+            start: line.start,
+            length: line.len,
+            line_length: line.behind,
         },
-        lines::Listed::Refused(why) => Listed {
+        Err(why) => Listed {
             refusal: answers::refusal_number(why),
             start: 0,
             length: 0,

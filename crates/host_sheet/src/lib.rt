@@ -17,12 +17,19 @@ use sheet::faults::Test;
 
 // The first line of a sheet that is wrong, counted from 1, and the number of the first test that it fails; zeros if none is wrong.
 #[repr(C)]
-#[derive(Clone, Copy)]
+#[derive(Clone, Copy, Debug, PartialEq, Eq)]
 pub struct Fault {
     pub refusal: u32,
     pub test: u32,
     pub line: usize,
 }
+
+// The answer for a good sheet.
+const NO_FAULT: Fault = Fault {
+    refusal: 0,
+    test: 0,
+    line: 0,
+};
 
 // Reads a sheet into a map, one byte a register: `sheet::map`.
 #[unsafe(no_mangle)]
@@ -38,12 +45,13 @@ pub extern "C" fn bolsterweft_sheet_map(text: &[u8], map: &mut [u8]) -> Count
 pub extern "C" fn bolsterweft_sheet_fault(text: &[u8]) -> Fault
     ensures { ToldFault text.now result }
 {
-    let fault = sheet::fault(text);
-    let test = fault.test;
-    Fault {
-        refusal: 0,
-        test: test_number(test),
-        line: fault.line,
+    match sheet::fault(text) {
+        None => NO_FAULT,
+        Some(fault) => Fault {
+            refusal: 0,
+            test: test_number(fault.test),
+            line: fault.line,
+        },
     }
 }
 
@@ -80,7 +88,6 @@ fn test_number(test: Test) -> u32
     ensures { result ≡ test_number test }
 {
     match test {
-        Test::Passed => 0,
         Test::Form => 1,
         Test::Register => 2,
         Test::TypeName => 3,

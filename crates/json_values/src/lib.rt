@@ -12,12 +12,10 @@ ghost use Rattle.json_values.specs.Paper.Json as paper;
 ghost use Rattle.json_values.specs.Paper.Decimals.{decimals_of};
 
 use digits::hex;
-use numbers::single::Fit;
 use numbers::{single, text};
-use puts::Written;
 
 // How many decimals a reading has.
-#[derive(Clone, Copy)]
+#[derive(Clone, Copy, Debug, PartialEq, Eq)]
 pub enum Decimals {
     Zero,
     One,
@@ -50,14 +48,12 @@ fn plain(s: &[u8]) -> usize
     ensures upper_bound { result ≤ length s.now }
     ensures s_value { paper.each_escaped (take result s.now) ≡ take result s.now }
 {
-    let mut i = 0;
-    while i < s.len() {
-        if !is_plain(s[i]) {
+    for (i, b) in s.iter().enumerate() {
+        if !is_plain(*b) {
             return i;
         }
-        i += 1;
     }
-    i
+    s.len()
 }
 
 fn is_plain(b: u8) -> bool
@@ -79,10 +75,8 @@ fn escaped_bytes(s: &[u8], room: &mut [u8], at: usize) -> usize
     ensures { Put room.old room.new at result (paper.each_escaped s.now) }
 {
     let mut next = at;
-    let mut i = 0;
-    while i < s.len() {
-        next = escaped(s[i], room, next);
-        i += 1;
+    for b in s {
+        next = escaped(*b, room, next);
     }
     next
 }
@@ -139,12 +133,7 @@ pub fn unsigned(raw: u32, decimals: Decimals, room: &mut [u8], at: usize) -> usi
 fn places(d: Decimals) -> u32
     ensures { result ≡ decimals_of d }
 {
-    match d {
-        Decimals::Zero => 0,
-        Decimals::One => 1,
-        Decimals::Two => 2,
-        Decimals::Three => 3,
-    }
+    d as u32
 }
 
 fn reading(raw: i64, decimals: u32, room: &mut [u8], at: usize) -> usize
@@ -167,10 +156,7 @@ fn fits(raw: i64) -> bool
     requires { Raw raw }
     ensures { result ≡ fits_single raw }
 {
-    match single::fits(raw) {
-        Fit::Is(b) => b,
-        Fit::Refused(why) => false,
-    }
+    single::fits(raw).unwrap_or(false)
 }
 
 // Puts a raw number with no decimals.
@@ -192,7 +178,7 @@ fn number(raw: i64, decimals: u32, room: &mut [u8], at: usize) -> usize
 {
     let mut t = [0u8; 12];
     match text::write(raw, decimals, &mut t) {
-        Written::Bytes(n) => puts::bytes(&t[0..n], room, at),
-        Written::Refused(why) => at,
+        Ok(n) => puts::bytes(&t[0..n], room, at),
+        Err(_) => at,
     }
 }

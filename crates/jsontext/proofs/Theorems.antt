@@ -10,7 +10,7 @@ use Rattle.jsontext.specs.Paper.Faults.{FaultOf, none}
 use Rattle.jsontext.specs.Paper.Json.{char, string, value, value_with, JSON-text}
 use Rattle.jsontext.specs.Paper.Members.{IsObject, FirstNamed, value_ends, IsString}
 use Rattle.jsontext.specs.Paper.Names.{Char, spelt, Member, names, Once, object_with, object_once, most_depth, InGrammar}
-use Rattle.jsontext.specs.declared.faults.Fault.TheVariants.{None}
+use Rattle.std.specs.Prelude.{None}
 use Rattle.jsontext.proofs.Laws.Grammar.{Read, text-to, text-from}
 use Rattle.jsontext.proofs.Laws.Objects as objects
 use Rattle.jsontext.proofs.Laws.Parts as parts

@@ -1,6 +1,6 @@
 // Where a text that is not accepted goes wrong, and what must stand there. Whatever is good is passed over by the readers of the grammar; at the
 // first that is not, the search goes on inside it, one level deeper each time.
-ghost use Rattle.std.specs.Prelude.{◌≤◌, length};
+ghost use Rattle.std.specs.Prelude.{◌≤◌, length, Some};
 ghost use Rattle.jsontext.specs.Paper.Faults.{FaultOf, InMember, array_stops, object_stops, value_stops};
 ghost use Rattle.digits.specs.Paper.Read.{Decides};
 ghost use Rattle.jsontext.specs.Paper.Names.{InGrammar, most_bytes};
@@ -8,7 +8,7 @@ ghost use Rattle.jsontext.specs.Work.Faults.{StopsFrom, Stands};
 
 // What must stand at a place: a value; a value that is nested less deep; a name; a name that its object does not have yet; a colon; a comma or
 // the closing bracket; nothing more.
-#[derive(Clone, Copy)]
+#[derive(Clone, Copy, Debug, PartialEq, Eq)]
 pub enum Lack {
     Value,
     Depth,
@@ -19,10 +19,9 @@ pub enum Lack {
     End,
 }
 
-// None, for a text that is accepted; a text over the limit; or a place, counted from 0, and what must stand there.
-#[derive(Clone, Copy)]
+// What is wrong with a text: it is over the limit; or at a place, counted from 0, does not stand what must stand there.
+#[derive(Clone, Copy, Debug, PartialEq, Eq)]
 pub enum Fault {
-    None,
     Long,
     At { lack: Lack, at: usize },
 }
@@ -30,13 +29,12 @@ pub enum Fault {
 // The fault of a text that is not accepted and not over the limit: in its value, or behind that.
 pub(crate) fn in_text(text: &[u8]) -> Fault
     requires { (length text.now ≤ most_bytes) × (InGrammar text.now → ⊥) }
-    ensures { FaultOf text.now result }
+    ensures { FaultOf text.now (Some result) }
 {
     let start = crate::blanks(text, 0);
-    let end = crate::value(text, start, crate::MOST_DEPTH, true);
-    if end == 0 {
+    let Some(end) = crate::value(text, start, crate::MOST_DEPTH, true) else {
         return in_value(text, start, crate::MOST_DEPTH);
-    }
+    };
     Fault::At {
         lack: Lack::End,
         at: crate::blanks(text, end),
@@ -81,10 +79,9 @@ fn in_array(s: &[u8], p: usize, depth: usize) -> Fault
 {
     let mut at = crate::blanks(s, p);
     loop {
-        let e = crate::value(s, at, depth, true);
-        if e == 0 {
+        let Some(e) = crate::value(s, at, depth, true) else {
             return in_value(s, at, depth);
-        }
+        };
         let f = crate::blanks(s, e);
         if !stands(s, f, b',') {
             return Fault::At {
@@ -105,10 +102,9 @@ fn in_object(s: &[u8], p: usize, depth: usize) -> Fault
     let first = crate::blanks(s, p);
     let mut at = first;
     loop {
-        let e = crate::member(s, at, depth, true);
-        if e == 0 {
+        let Some(e) = crate::member(s, at, depth, true) else {
             return in_member(s, at, depth);
-        }
+        };
         if !crate::is_new(s, first, at, depth, true) {
             return Fault::At {
                 lack: Lack::OtherName,
@@ -132,13 +128,12 @@ fn in_member(s: &[u8], p: usize, depth: usize) -> Fault
     requires { p ≤ length s.now }
     ensures { StopsFrom (InMember (value_stops depth)) s.now p result }
 {
-    let a = crate::strings::string(s, p);
-    if a == 0 {
+    let Some(a) = crate::strings::string(s, p) else {
         return Fault::At {
             lack: Lack::Name,
             at: p,
         };
-    }
+    };
     let b = crate::blanks(s, a);
     if !stands(s, b, b':') {
         return Fault::At {

@@ -33,38 +33,35 @@ pub fn accepts(text: &[u8]) -> bool
         return false;
     }
     let start = blanks(text, 0);
-    let end = value(text, start, MOST_DEPTH, true);
-    if end == 0 {
+    let Some(end) = value(text, start, MOST_DEPTH, true) else {
         return false;
-    }
+    };
     text.len() <= blanks(text, end)
 }
 
 // What is wrong with a text; `None` exactly if `accepts` takes it.
-pub fn fault(text: &[u8]) -> Fault
+pub fn fault(text: &[u8]) -> Option<Fault>
     ensures { FaultOf text.now result }
 {
     if accepts(text) {
-        return Fault::None;
+        return None;
     }
     if text.len() <= MOST_BYTES {
-        return faults::in_text(text);
+        return Some(faults::in_text(text));
     }
-    Fault::Long
+    Some(Fault::Long)
 }
 
 // The place behind the blanks that stand at a place.
 fn blanks(s: &[u8], p: usize) -> usize
     ensures { Skipped blank s.now p result }
 {
-    let mut i = p;
-    while i < s.len() {
+    for i in p..s.len() {
         if !is_blank(s[i]) {
             return i;
         }
-        i += 1;
     }
-    i
+    s.len().max(p)
 }
 
 fn is_blank(b: u8) -> bool
@@ -85,41 +82,34 @@ fn is_blank(b: u8) -> bool
     false
 }
 
-// The end of a text that stands at a place; 0 where it does not.
-fn literal(s: &[u8], p: usize, w: &[u8]) -> usize
+// The end of a text that stands at a place.
+fn literal(s: &[u8], p: usize, w: &[u8]) -> Option<usize>
     requires { 0 < length w.now }
     ensures { Found (text w.now) s.now p result }
 {
     if s.len() <= p {
-        return 0;
+        return None;
     }
-    if s.len() - p < w.len() {
-        return 0;
+    if !s[p..].starts_with(w) {
+        return None;
     }
-    let mut i = 0;
-    while i < w.len() {
-        if s[p + i] != w[i] {
-            return 0;
-        }
-        i += 1;
-    }
-    p + w.len()
+    Some(p + w.len())
 }
 
-// The readers of values call each other, and each answers the end of what it reads, or 0 if that does not stand there. `names` says whether
+// The readers of values call each other, and each answers the end of what it reads, if that stands there. `names` says whether
 // names are compared. To compare the names of an object, its members are passed over by the same readers, which then do not compare names
-// again: else each level of nesting would multiply the work.
+// again: else each level of nesting would multiply the work. (Their parameters are no struct: place and depth are others at each call.)
 
 // The end of the value that stands at a place, nested at most so deep.
 #[cycle(array_is_new_later_member_object_value)]
-fn value(s: &[u8], p: usize, depth: usize, names: bool) -> usize
+fn value(s: &[u8], p: usize, depth: usize, names: bool) -> Option<usize>
     ensures { Found (tight names depth) s.now p result }
 {
     if depth == 0 {
-        return 0;
+        return None;
     }
     if s.len() <= p {
-        return 0;
+        return None;
     }
     let b = s[p];
     if b == b'"' {
@@ -145,7 +135,7 @@ fn value(s: &[u8], p: usize, depth: usize, names: bool) -> usize
 
 // The end of the string that stands at a place. (For `value`, whose slice must not go to a function that stays a call: `value` would copy the
 // slice first, out of memory that its caller has just written, and wait for that at each level of nesting.)
-fn quoted(s: &[u8], p: usize) -> usize
+fn quoted(s: &[u8], p: usize) -> Option<usize>
     ensures { Found string s.now p result }
 {
     strings::string(s, p)
@@ -153,30 +143,27 @@ fn quoted(s: &[u8], p: usize) -> usize
 
 // The end of an array whose opening bracket stands before a place.
 #[cycle(array_is_new_later_member_object_value)]
-fn array(s: &[u8], p: usize, depth: usize, names: bool) -> usize
+fn array(s: &[u8], p: usize, depth: usize, names: bool) -> Option<usize>
     ensures { Found (Rest (tight names depth) 0x5D) s.now p result }
 {
     let mut at = blanks(s, p);
     if s.len() <= at {
-        return 0;
+        return None;
     }
     if s[at] == b']' {
-        return at + 1;
+        return Some(at + 1);
     }
     loop {
-        let e = value(s, at, depth, names);
-        if e == 0 {
-            return 0;
-        }
+        let e = value(s, at, depth, names)?;
         let f = blanks(s, e);
         if s.len() <= f {
-            return 0;
+            return None;
         }
         if s[f] == b']' {
-            return f + 1;
+            return Some(f + 1);
         }
         if s[f] != b',' {
-            return 0;
+            return None;
         }
         at = blanks(s, f + 1);
     }
@@ -184,34 +171,33 @@ fn array(s: &[u8], p: usize, depth: usize, names: bool) -> usize
 
 // The end of an object whose opening bracket stands before a place. With `names`, each name is compared with those before it.
 #[cycle(array_is_new_later_member_object_value)]
-fn object(s: &[u8], p: usize, depth: usize, names: bool) -> usize
+fn object(s: &[u8], p: usize, depth: usize, names: bool) -> Option<usize>
     ensures { Found (Object names (tight names depth)) s.now p result }
 {
     let first = blanks(s, p);
     if s.len() <= first {
-        return 0;
+        return None;
     }
     if s[first] == b'}' {
-        return first + 1;
+        return Some(first + 1);
     }
     let mut at = first;
     loop {
-        let e = member(s, at, depth, names);
-        if e == 0 {
-            return 0;
-        }
+        let Some(e) = member(s, at, depth, names) else {
+            return None;
+        };
         if !is_new(s, first, at, depth, names) {
-            return 0;
+            return None;
         }
         let f = blanks(s, e);
         if s.len() <= f {
-            return 0;
+            return None;
         }
         if s[f] == b'}' {
-            return f + 1;
+            return Some(f + 1);
         }
         if s[f] != b',' {
-            return 0;
+            return None;
         }
         at = blanks(s, f + 1);
     }
@@ -219,19 +205,18 @@ fn object(s: &[u8], p: usize, depth: usize, names: bool) -> usize
 
 // The end of a member that stands at a place.
 #[cycle(array_is_new_later_member_object_value)]
-fn member(s: &[u8], p: usize, depth: usize, names: bool) -> usize
+fn member(s: &[u8], p: usize, depth: usize, names: bool) -> Option<usize>
     ensures { Found (Member (tight names depth)) s.now p result }
 {
-    let a = strings::string(s, p);
-    if a == 0 {
-        return 0;
-    }
+    let Some(a) = strings::string(s, p) else {
+        return None;
+    };
     let b = blanks(s, a);
     if s.len() <= b {
-        return 0;
+        return None;
     }
     if s[b] != b':' {
-        return 0;
+        return None;
     }
     let c = blanks(s, b + 1);
     value(s, c, depth, names)
@@ -247,34 +232,31 @@ fn is_new(s: &[u8], first: usize, at: usize, depth: usize, names: bool) -> bool
         return true;
     }
     let mut i = first;
+    // (A `while`: a step is as long as the member that was read.)
     while i < at {
         if units::same_name(s, i, at) {
             return false;
         }
-        let next = later(s, i, depth);
-        if next == 0 {
+        let Some(next) = later(s, i, depth) else {
             return false;
-        }
+        };
         i = next;
     }
     true
 }
 
-// The place of the member behind the one at a place; 0 if that is the last.
+// The place of the member behind the one at a place, if that is not the last.
 #[cycle(array_is_new_later_member_object_value)]
-fn later(s: &[u8], p: usize, depth: usize) -> usize
+fn later(s: &[u8], p: usize, depth: usize) -> Option<usize>
     ensures { Later (tight false depth) s.now p result }
 {
-    let e = member(s, p, depth, false);
-    if e == 0 {
-        return 0;
-    }
+    let e = member(s, p, depth, false)?;
     let f = blanks(s, e);
     if s.len() <= f {
-        return 0;
+        return None;
     }
     if s[f] != b',' {
-        return 0;
+        return None;
     }
-    blanks(s, f + 1)
+    Some(blanks(s, f + 1))
 }

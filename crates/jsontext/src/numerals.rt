@@ -1,23 +1,17 @@
 // Numbers.
-ghost use Rattle.std.specs.Prelude.{◌<◌, ◌≤◌, length};
+ghost use Rattle.std.specs.Prelude.{◌≤◌, length};
 ghost use Rattle.jsontext.specs.Paper.Abnf.{◌⨾◌};
 ghost use Rattle.jsontext.specs.Paper.Json.{DIGIT, minus};
 ghost use Rattle.jsontext.specs.Work.Tight.{Number, Int, Frac, Exp, Digits, Opt, sign};
 ghost use Rattle.jsontext.specs.Work.Found.{Found, Skipped, Passed, May};
 
-// The end of the number that stands at a place; 0 where none does.
-pub(crate) fn number(s: &[u8], p: usize) -> usize
+// The end of the number that stands at a place.
+pub(crate) fn number(s: &[u8], p: usize) -> Option<usize>
     ensures { Found Number s.now p result }
 {
     let a = behind_minus(s, p);
-    let b = int(s, a);
-    if b == 0 {
-        return 0;
-    }
-    let c = frac(s, b);
-    if c == 0 {
-        return 0;
-    }
+    let b = int(s, a)?;
+    let c = frac(s, b)?;
     exp(s, c)
 }
 
@@ -34,45 +28,45 @@ fn behind_minus(s: &[u8], p: usize) -> usize
     p
 }
 
-fn int(s: &[u8], p: usize) -> usize
+fn int(s: &[u8], p: usize) -> Option<usize>
     ensures { Found Int s.now p result }
 {
     if s.len() <= p {
-        return 0;
+        return None;
     }
     let b = s[p];
     if b == b'0' {
-        return p + 1;
+        return Some(p + 1);
     }
     if b < b'1' {
-        return 0;
+        return None;
     }
     if b'9' < b {
-        return 0;
+        return None;
     }
-    digits(s, p + 1)
+    Some(digits(s, p + 1))
 }
 
-// The place behind a fraction, or the same place where there is none; 0 where one begins and goes wrong.
-fn frac(s: &[u8], p: usize) -> usize
-    requires { (0 < p) × (p ≤ length s.now) }
+// The place behind a fraction, or the same place where there is none; `None` where one begins and goes wrong.
+fn frac(s: &[u8], p: usize) -> Option<usize>
+    requires { p ≤ length s.now }
     ensures { May Frac s.now p result }
 {
     if s.len() <= p {
-        return p;
+        return Some(p);
     }
     if s[p] != b'.' {
-        return p;
+        return Some(p);
     }
     some_digits(s, p + 1)
 }
 
-fn exp(s: &[u8], p: usize) -> usize
-    requires { (0 < p) × (p ≤ length s.now) }
+fn exp(s: &[u8], p: usize) -> Option<usize>
+    requires { p ≤ length s.now }
     ensures { May Exp s.now p result }
 {
     if s.len() <= p {
-        return p;
+        return Some(p);
     }
     let b = s[p];
     if b == b'e' {
@@ -81,10 +75,10 @@ fn exp(s: &[u8], p: usize) -> usize
     if b == b'E' {
         return signed_digits(s, p + 1);
     }
-    p
+    Some(p)
 }
 
-fn signed_digits(s: &[u8], p: usize) -> usize
+fn signed_digits(s: &[u8], p: usize) -> Option<usize>
     ensures { Found (Opt sign sign ⨾ Digits) s.now p result }
 {
     some_digits(s, behind_sign(s, p))
@@ -106,27 +100,28 @@ fn behind_sign(s: &[u8], p: usize) -> usize
     p
 }
 
-// The end of one digit or more; 0 where none stands there.
-fn some_digits(s: &[u8], p: usize) -> usize
+// The end of one digit or more.
+fn some_digits(s: &[u8], p: usize) -> Option<usize>
     ensures { Found Digits s.now p result }
 {
     if s.len() <= p {
-        return 0;
+        return None;
     }
     let b = s[p];
     if b < b'0' {
-        return 0;
+        return None;
     }
     if b'9' < b {
-        return 0;
+        return None;
     }
-    digits(s, p + 1)
+    Some(digits(s, p + 1))
 }
 
 // The place behind the digits that stand at a place.
 fn digits(s: &[u8], p: usize) -> usize
     ensures { Skipped DIGIT s.now p result }
 {
+    // (By a `for`, as in `blanks`, numbers of one digit take a sixth longer.)
     let mut i = p;
     while i < s.len() {
         let b = s[i];

@@ -6,52 +6,53 @@ ghost use Rattle.jsontext.specs.Work.Tight.{Char, Lead, escapes, is_short, IsHex
 ghost use Rattle.digits.specs.Paper.Read.{Decides};
 ghost use Rattle.jsontext.specs.Work.Found.{Found};
 
-// The end of the string that stands at a place; 0 where none does.
-pub(crate) fn string(s: &[u8], p: usize) -> usize
+// The end of the string that stands at a place.
+pub(crate) fn string(s: &[u8], p: usize) -> Option<usize>
     ensures { Found string s.now p result }
 {
     if s.len() <= p {
-        return 0;
+        return None;
     }
     if s[p] != b'"' {
-        return 0;
+        return None;
     }
     let mut i = p + 1;
+    // (A `while`: a step is as long as the character that was read.)
     while i < s.len() {
         if s[i] == b'"' {
-            return i + 1;
+            return Some(i + 1);
         }
-        let e = character(s, i);
-        if e == 0 {
-            return 0;
-        }
+        // (No `?` here, nor at the members of an object: with it a text of strings takes up to three times as long.)
+        let Some(e) = character(s, i) else {
+            return None;
+        };
         i = e;
     }
-    0
+    None
 }
 
 // The end of the character, escaped or not, that stands at a place.
-fn character(s: &[u8], p: usize) -> usize
+fn character(s: &[u8], p: usize) -> Option<usize>
     ensures { Found Char s.now p result }
 {
     if s.len() <= p {
-        return 0;
+        return None;
     }
     let b = s[p];
     if b == b'\\' {
         return escaped(s, p + 1);
     }
     if b < 0x20 {
-        return 0;
+        return None;
     }
     if b == b'"' {
-        return 0;
+        return None;
     }
     if b < 0x80 {
-        return p + 1;
+        return Some(p + 1);
     }
     if b < 0xC2 {
-        return 0;
+        return None;
     }
     if b < 0xE0 {
         return within(s, p + 1, 0x80, 0xBF);
@@ -74,23 +75,23 @@ fn character(s: &[u8], p: usize) -> usize
     if b == 0xF4 {
         return three_more(s, p + 1, 0x80, 0x8F);
     }
-    0
+    None
 }
 
-fn escaped(s: &[u8], p: usize) -> usize
+fn escaped(s: &[u8], p: usize) -> Option<usize>
     ensures { Found (Lead escapes) s.now p result }
 {
     if s.len() <= p {
-        return 0;
+        return None;
     }
     let b = s[p];
     if b == b'u' {
         return four_digits(s, p + 1);
     }
     if is_short(b) {
-        return p + 1;
+        return Some(p + 1);
     }
-    0
+    None
 }
 
 fn is_short(b: u8) -> bool
@@ -123,34 +124,25 @@ fn is_short(b: u8) -> bool
     false
 }
 
-fn four_digits(s: &[u8], p: usize) -> usize
+fn four_digits(s: &[u8], p: usize) -> Option<usize>
     ensures { Found four s.now p result }
 {
-    let a = digit(s, p);
-    if a == 0 {
-        return 0;
-    }
-    let b = digit(s, a);
-    if b == 0 {
-        return 0;
-    }
-    let c = digit(s, b);
-    if c == 0 {
-        return 0;
-    }
+    let a = digit(s, p)?;
+    let b = digit(s, a)?;
+    let c = digit(s, b)?;
     digit(s, c)
 }
 
-fn digit(s: &[u8], p: usize) -> usize
+fn digit(s: &[u8], p: usize) -> Option<usize>
     ensures { Found HEXDIG s.now p result }
 {
     if s.len() <= p {
-        return 0;
+        return None;
     }
     if !is_hex(s[p]) {
-        return 0;
+        return None;
     }
-    p + 1
+    Some(p + 1)
 }
 
 fn is_hex(b: u8) -> bool
@@ -178,38 +170,32 @@ fn is_hex(b: u8) -> bool
 }
 
 // The end of a byte in a range.
-fn within(s: &[u8], p: usize, low: u8, high: u8) -> usize
+fn within(s: &[u8], p: usize, low: u8, high: u8) -> Option<usize>
     ensures { Found (range low high) s.now p result }
 {
     if s.len() <= p {
-        return 0;
+        return None;
     }
     if s[p] < low {
-        return 0;
+        return None;
     }
     if high < s[p] {
-        return 0;
+        return None;
     }
-    p + 1
+    Some(p + 1)
 }
 
 // The same, and one or two bytes of a character's tail.
-fn two_more(s: &[u8], p: usize, low: u8, high: u8) -> usize
+fn two_more(s: &[u8], p: usize, low: u8, high: u8) -> Option<usize>
     ensures { Found (two low high) s.now p result }
 {
-    let a = within(s, p, low, high);
-    if a == 0 {
-        return 0;
-    }
+    let a = within(s, p, low, high)?;
     within(s, a, 0x80, 0xBF)
 }
 
-fn three_more(s: &[u8], p: usize, low: u8, high: u8) -> usize
+fn three_more(s: &[u8], p: usize, low: u8, high: u8) -> Option<usize>
     ensures { Found (three low high) s.now p result }
 {
-    let a = within(s, p, low, high);
-    if a == 0 {
-        return 0;
-    }
+    let a = within(s, p, low, high)?;
     two_more(s, a, 0x80, 0xBF)
 }

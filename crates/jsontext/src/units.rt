@@ -1,134 +1,83 @@
 // The code units of a string, read one by one from its bytes: escapes are read, and UTF-8 becomes UTF-16. A string that is read here has been
 // tested before, so nothing is tested again: of bytes that are no string, some units come out.
-ghost use Rattle.std.specs.Prelude.{cond, false, ◌≡◌, ◌≤◌, ◌<◌, eqb, get_or, drop};
+ghost use Rattle.std.specs.Prelude.{cond, ◌≡◌, ◌≤◌, ◌<◌, eqb, get_or, drop};
+ghost use Rattle.std.specs.Iterator.{YieldsFirst, item_count};
 ghost use Rattle.digits.specs.Paper.Read.{Decides};
-ghost use Rattle.jsontext.specs.Work.Names.{Steps, Compares};
-ghost use Rattle.jsontext.specs.Work.Units.{hex_value, short_value, size_of, escape_of, code_of, two_of, three_of, four_of, units, name_in};
+ghost use Rattle.jsontext.specs.Work.Names.{left};
+ghost use Rattle.jsontext.specs.Work.Units.{hex_value, short_value, size_of, escape_of, code_of, two_of, three_of, four_of, name_in};
 
-// A place in a string. A character of four bytes has two units: `low` is the second of them until it is taken, and else 0.
-#[derive(Clone, Copy)]
-pub struct Cursor {
-    pub at: usize,
-    pub low: u32,
+// What is left of a string. A character of four bytes has two units: `low` is the second of them until it is taken.
+#[derive(Drop)]
+pub(crate) struct Units<'a> {
+    rest: &'a [u8],
+    low: Option<u32>,
 }
 
-// The next unit of a string, and the cursor behind it.
-#[derive(Clone, Copy)]
-pub enum Unit {
-    Is { unit: u32, next: Cursor },
-    End,
+impl<'a> Units<'a> {
+    // The units of the string whose quotation mark stands at a place; none for a place that is not in the text.
+    pub(crate) fn of(s: &'a [u8], p: usize) -> Units<'a>
+        ensures { left result.low result.rest.now ≡ name_in (drop p s.now) }
+    {
+        Units {
+            rest: behind(s, p),
+            low: None,
+        }
+    }
 }
 
-// What comparing one unit of two strings shows: both go on, or whether they are the same.
-#[derive(Clone, Copy)]
-pub enum Met {
-    Both { x: Cursor, y: Cursor },
-    Told(bool),
+impl<'a> Iterator for Units<'a> {
+    type Item = u32;
+
+    ghost next_gives = { YieldsFirst (λ u. left u.low u.rest.now) };
+
+    ghost remaining = { item_count (λ u. left u.low u.rest.now) };
+
+    fn next(&mut self) -> Option<u32> {
+        if let Some(low) = self.low {
+            self.low = None;
+            return Some(low);
+        }
+        let t = self.rest;
+        if t.is_empty() {
+            return None;
+        }
+        if t[0] == b'"' {
+            return None;
+        }
+        self.rest = &t[size_of(t).min(t.len())..];
+        if 0xF0 <= t[0] {
+            let code = four_of(t);
+            self.low = Some(0xDC00 + code % 0x400);
+            return Some(0xD7C0 + code / 0x400);
+        }
+        Some(code_of(t))
+    }
 }
 
 // Whether the strings whose quotation marks stand at two places have the same units.
 pub(crate) fn same_name(s: &[u8], a: usize, b: usize) -> bool
     ensures { Decides (name_in (drop a s.now) ≡ name_in (drop b s.now)) result }
 {
-    same(s, behind(s, a), behind(s, b))
-}
-
-// The place behind the byte at a place; the end for a place that is not in the text.
-pub(crate) fn behind(s: &[u8], p: usize) -> usize
-    ensures { drop result s.now ≡ drop 1 (drop p s.now) }
-{
-    if p < s.len() {
-        return p + 1;
-    }
-    s.len()
-}
-
-// Whether the units from two places on are the same.
-fn same(s: &[u8], a: usize, b: usize) -> bool
-    ensures { Decides (units (drop a s.now) ≡ units (drop b s.now)) result }
-{
-    let mut x = Cursor { at: a, low: 0 };
-    let mut y = Cursor { at: b, low: 0 };
-    loop {
-        match step(s, x, y) {
-            Met::Both { x: v, y: w } => {
-                x = v;
-                y = w;
-            }
-            Met::Told(is) => return is,
+    let mut others = Units::of(s, b);
+    for u in Units::of(s, a) {
+        let Some(other) = others.next() else {
+            return false;
+        };
+        if u != other {
+            return false;
         }
     }
+    others.next().is_none()
 }
 
-// One unit of each of two strings, compared.
-fn step(s: &[u8], x: Cursor, y: Cursor) -> Met
-    ensures { Compares s.now x y result }
+// What stands behind the byte at a place; nothing for a place that is not in the text.
+fn behind(s: &[u8], p: usize) -> &[u8]
+    ensures { result.now ≡ drop 1 (drop p s.now) }
 {
-    match next_unit(s, x) {
-        Unit::Is { unit: u, next: v } => match next_unit(s, y) {
-            Unit::Is { unit: t, next: w } => compared(u, t, v, w),
-            Unit::End => Met::Told(false),
-        },
-        Unit::End => match next_unit(s, y) {
-            Unit::Is { unit: t, next: w } => Met::Told(false),
-            Unit::End => Met::Told(true),
-        },
+    if p < s.len() {
+        return &s[p + 1..];
     }
-}
-
-// Two units, compared, and the cursors behind them.
-fn compared(u: u32, t: u32, v: Cursor, w: Cursor) -> Met
-    ensures { result ≡ cond (eqb u t) (Met.Both v w) (Met.Told false) }
-{
-    if u == t {
-        return Met::Both { x: v, y: w };
-    }
-    Met::Told(false)
-}
-
-// The next unit.
-pub(crate) fn next_unit(s: &[u8], c: Cursor) -> Unit
-    ensures { Steps s.now c result }
-{
-    let at = c.at;
-    let low = c.low;
-    if low != 0 {
-        return Unit::Is {
-            unit: low,
-            next: Cursor { at: at, low: 0 },
-        };
-    }
-    if s.len() <= at {
-        return Unit::End;
-    }
-    if s[at] == b'"' {
-        return Unit::End;
-    }
-    let t = &s[at..];
-    let next = at + least(size_of(t), t.len());
-    if 0xF0 <= t[0] {
-        let code = four_of(t);
-        return Unit::Is {
-            unit: 0xD7C0 + code / 0x400,
-            next: Cursor {
-                at: next,
-                low: 0xDC00 + code % 0x400,
-            },
-        };
-    }
-    Unit::Is {
-        unit: code_of(t),
-        next: Cursor { at: next, low: 0 },
-    }
-}
-
-fn least(a: usize, b: usize) -> usize
-    ensures { (result ≤ b) × ((a ≤ b → result ≡ a) × (b < a → result ≡ b)) }
-{
-    if a <= b {
-        return a;
-    }
-    b
+    &[]
 }
 
 // How many bytes the character at the head of t has.
@@ -223,7 +172,7 @@ fn byte_at(t: &[u8], i: usize) -> u32
     0
 }
 
-// The value of a hex digit.
+// The value of a hex digit. (Not `digits::hex::value`: of a byte that is no digit the definition has a value too.)
 fn hex_value(c: u32) -> u32
     ensures { (result ≡ hex_value c) × (result ≤ 24) }
 {
@@ -237,20 +186,12 @@ fn hex_value(c: u32) -> u32
 fn short_value(c: u32) -> u32
     ensures { result ≡ short_value c }
 {
-    if c == 0x62 {
-        return 0x08;
+    match c {
+        0x62 => 0x08,
+        0x66 => 0x0C,
+        0x6E => 0x0A,
+        0x72 => 0x0D,
+        0x74 => 0x09,
+        _ => c,
     }
-    if c == 0x66 {
-        return 0x0C;
-    }
-    if c == 0x6E {
-        return 0x0A;
-    }
-    if c == 0x72 {
-        return 0x0D;
-    }
-    if c == 0x74 {
-        return 0x09;
-    }
-    c
 }

@@ -1,5 +1,4 @@
 pub mod Heads
-pub mod Answered
 pub mod Recogniser
 pub mod Nikobus
 pub mod Nest

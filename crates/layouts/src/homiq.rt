@@ -1,5 +1,5 @@
 // Homiq: `<;CMD;VAL;SRC;DST;ID;TYPE;CRC;>` CR LF.
-ghost use Rattle.std.specs.Prelude.{◌≡◌, [], ◌∷◌, ◌≤◌, ◌<◌, ◌^◌, length, take, drop};
+ghost use Rattle.std.specs.Prelude.{true, ◌≡◌, [], ◌∷◌, ◌≤◌, ◌<◌, ◌^◌, length, take};
 ghost use Rattle.digits.specs.Paper.Ascii.{ascii};
 ghost use Rattle.digits.specs.Paper.Decimal.{decimal};
 ghost use Rattle.digits.specs.Paper.Read.{Decides};
@@ -11,37 +11,60 @@ ghost use Rattle.layouts.specs.Paper.Judged.{Recognises};
 ghost use Rattle.layouts.specs.Paper.Homiq.{homiq, field_char, without_separators};
 ghost use Rattle.layouts.specs.Paper.Starts.{homiq_starts};
 ghost use Rattle.layouts.specs.Paper.Made.{Wire, Payload};
-ghost use Rattle.layouts.specs.Work.Heads.{leading, onward};
-ghost use Rattle.layouts.specs.Work.Homiq.{field_len, is_figure, number_in, number_len, type_len, head_len, five_len};
+ghost use Rattle.layouts.specs.Work.Heads.{Ends, starts, leading};
+ghost use Rattle.layouts.specs.Work.Homiq.{field_len, is_figure, NumberAt, FormAt, head_len, five_len};
 
-use super::{AtHead, Compared, Test, differs, nothing, stands, words};
+use super::{Compared, Failure, Frame, Test, words};
 use checks::homiq::Crc;
 
 // IDs are 0 to this one, and 0 follows it.
 pub const LAST_ID: u16 = 511;
 
 // What stands at the head of s; a frame's payload is CMD to TYPE. Tested in this order: `<;`, the fields with CR LF, the CRC.
-pub fn frame(s: &[u8]) -> AtHead
+pub fn frame(s: &[u8]) -> Result<Frame, Failure>
     ensures { Recognises homiq s.now result }
 {
     if !words::starts_with(s, b"<;") {
-        return nothing(Test::Start);
+        return Err(Failure::from(Test::Start));
     }
-    let before = head(s);
-    let claimed = number_at(s, before, 255);
-    let behind = claimed.end;
-    let n = words::word_at(s, behind, b">\r\n");
-    if n == 0 {
-        return nothing(Test::Fields);
-    }
+    let Some(form) = laid_out(s) else {
+        return Err(Failure::from(Test::Fields));
+    };
     let check = Compared {
-        found: claimed.value,
-        expected: crc(&s[2..before]) as u16,
+        found: form.crc,
+        expected: crc(&s[2..form.before]) as u16,
     };
     if check.found != check.expected {
-        return differs(Test::First, check);
+        return Err(check.failing(Test::First));
     }
-    stands(n, 2, before - 1)
+    Ok(Frame {
+        len: form.len,
+        from: 2,
+        to: form.before - 1,
+    })
+}
+
+// What is laid out as a frame: where TYPE's `;` ends, the CRC that stands there, and how long the whole is.
+#[derive(Clone, Copy)]
+struct Form {
+    before: usize,
+    crc: u16,
+    len: usize,
+}
+
+// What is laid out so behind `<;`.
+fn laid_out(s: &[u8]) -> Option<Form>
+    requires { starts (ascii "<;") s.now ≡ true }
+    ensures { FormAt s.now result }
+{
+    let before = head(s)?;
+    let claimed = number(&s[before..], 255)?;
+    let len = words::word_at(s, before + claimed.end, b">\r\n")?;
+    Some(Form {
+        before,
+        crc: claimed.value,
+        len,
+    })
 }
 
 // Whether a frame can begin with the first three bytes of s: `<;`.
@@ -59,10 +82,8 @@ pub fn crc(s: &[u8]) -> u8
     ensures { result ≡ check homiq_crc (without_separators s.now) }
 {
     let mut sum = Crc::new();
-    let mut i = 0;
-    while i < s.len() {
-        sum = crc_on(sum, s[i]);
-        i += 1;
+    for c in s {
+        sum = crc_on(sum, *c);
     }
     sum.value
 }
@@ -71,10 +92,9 @@ pub fn crc(s: &[u8]) -> u8
 pub fn is_payload(p: &[u8]) -> bool
     ensures { Decides ((w : Wire) × Payload p.now w) result }
 {
-    let last = five(p);
-    if last == 0 {
+    let Some(last) = five(p) else {
         return false;
-    }
+    };
     if p.len() != last + 1 {
         return false;
     }
@@ -82,14 +102,15 @@ pub fn is_payload(p: &[u8]) -> bool
 }
 
 // The end of CMD to ID, each with its `;`.
-fn five(p: &[u8]) -> usize
-    ensures { result ≡ five_len p.now }
+fn five(p: &[u8]) -> Option<usize>
+    ensures { Ends five_len p.now result }
 {
-    let a = field(p, 8);
-    let b = field_at(p, a, 16);
-    let c = field_at(p, b, 4);
-    let d = field_at(p, c, 4);
-    number_at(p, d, LAST_ID).end
+    let cmd = field(p, 8)?;
+    let val = cmd + field(&p[cmd..], 16)?;
+    let src = val + field(&p[val..], 4)?;
+    let dst = src + field(&p[src..], 4)?;
+    let id = number(&p[dst..], LAST_ID)?;
+    Some(dst + id.end)
 }
 
 fn is_type(c: u8) -> bool
@@ -102,62 +123,45 @@ fn is_type(c: u8) -> bool
 }
 
 // The end of `<;` and six fields, each with its `;`.
-fn head(s: &[u8]) -> usize
-    ensures { result ≡ head_len s.now }
+fn head(s: &[u8]) -> Option<usize>
+    requires { starts (ascii "<;") s.now ≡ true }
+    ensures { Ends head_len s.now result }
 {
-    let a = words::word(s, b"<;");
-    let b = field_at(s, a, 8);
-    let c = field_at(s, b, 16);
-    let d = field_at(s, c, 4);
-    let e = field_at(s, d, 4);
-    let f = number_at(s, e, LAST_ID).end;
-    type_at(s, f)
+    let id = 2 + five(&s[2..])?;
+    words::word_at(s, id, b"s;").or(words::word_at(s, id, b"a;"))
 }
 
 // The end of a field of at most `most` characters, with its `;`.
-fn field_at(s: &[u8], at: usize, most: usize) -> usize
-    requires at_in_bounds { at ≤ length s.now }
-    requires most_bound { most < 2 ^ 32 }
-    ensures { result ≡ onward (field_len most) s.now at }
-{
-    if at == 0 {
-        return 0;
-    }
-    words::onto(at, field(&s[at..], most))
-}
-
-fn field(s: &[u8], most: usize) -> usize
+fn field(s: &[u8], most: usize) -> Option<usize>
     requires { most < 2 ^ 32 }
-    ensures { result ≡ field_len most s.now }
+    ensures { Ends (field_len most) s.now result }
 {
     let n = characters(words::first(s, most + 1));
     if n == 0 {
-        return 0;
+        return None;
     }
     if most < n {
-        return 0;
+        return None;
     }
     if s.len() <= n {
-        return 0;
+        return None;
     }
     if s[n] != b';' {
-        return 0;
+        return None;
     }
-    n + 1
+    Some(n + 1)
 }
 
 // How many characters of a field are at the head of s.
 fn characters(s: &[u8]) -> usize
     ensures { result ≡ leading field_char s.now }
 {
-    let mut i = 0;
-    while i < s.len() {
+    for i in 0..s.len() {
         if !is_character(s[i]) {
             return i;
         }
-        i += 1;
     }
-    i
+    s.len()
 }
 
 fn is_character(c: u8) -> bool
@@ -178,56 +182,38 @@ fn is_character(c: u8) -> bool
     c != b'>'
 }
 
-// A number that has been read: where it ends, 0 for none, and what it is. Its digits are read once, for both.
+// A number that has been read: where it ends, and what it is. Its digits are read once, for both.
 #[derive(Clone, Copy)]
 struct Numeral {
     end: usize,
     value: u16,
 }
 
-// The number of at most `most` at a place; its end is that of its `;`.
-fn number_at(s: &[u8], at: usize, most: u16) -> Numeral
-    requires at_in_bounds { at ≤ length s.now }
-    requires most_bound { most < 1000 }
-    ensures end_value { result.end ≡ onward (number_len most) s.now at }
-    ensures value_value { 0 < result.end → result.value ≡ number_in (drop at s.now) }
-{
-    if at == 0 {
-        return Numeral { end: 0, value: 0 };
-    }
-    let n = number(&s[at..], most);
-    Numeral {
-        end: words::onto(at, n.end),
-        value: n.value,
-    }
-}
-
 // The number of at most `most` at the head of s; its end is that of its `;`.
-fn number(s: &[u8], most: u16) -> Numeral
+fn number(s: &[u8], most: u16) -> Option<Numeral>
     requires { most < 1000 }
-    ensures end_value { result.end ≡ number_len most s.now }
-    ensures value_value { 0 < result.end → result.value ≡ number_in s.now }
+    ensures { NumberAt most s.now result }
 {
     let digits = figures(words::first(s, 4));
     let n = digits.end;
     let v = digits.value;
     if most < v {
-        return Numeral { end: 0, value: 0 };
+        return None;
     }
     // none at all, or leading zeros
     if n != width(v) {
-        return Numeral { end: 0, value: 0 };
+        return None;
     }
     if s.len() <= n {
-        return Numeral { end: 0, value: 0 };
+        return None;
     }
     if s[n] != b';' {
-        return Numeral { end: 0, value: 0 };
+        return None;
     }
-    Numeral {
+    Some(Numeral {
         end: n + 1,
         value: v,
-    }
+    })
 }
 
 // How many decimal digits a number below 1,000 has.
@@ -252,8 +238,7 @@ fn figures(s: &[u8]) -> Numeral
     ensures value_value { result.value ≡ guess 0 (take result.end s.now) }
 {
     let mut v: u16 = 0;
-    let mut i = 0;
-    while i < 4 {
+    for i in 0..4 {
         if s.len() <= i {
             return Numeral { end: i, value: v };
         }
@@ -261,9 +246,8 @@ fn figures(s: &[u8]) -> Numeral
             return Numeral { end: i, value: v };
         }
         v = v * 10 + (s[i] % 16) as u16;
-        i += 1;
     }
-    Numeral { end: i, value: v }
+    Numeral { end: 4, value: v }
 }
 
 fn is_figure(c: u8) -> bool
@@ -273,27 +257,6 @@ fn is_figure(c: u8) -> bool
         return false;
     }
     c <= b'9'
-}
-
-// The end of TYPE, with its `;`.
-fn type_at(s: &[u8], at: usize) -> usize
-    requires { at ≤ length s.now }
-    ensures { result ≡ onward type_len s.now at }
-{
-    if at == 0 {
-        return 0;
-    }
-    words::onto(at, type_of(&s[at..]))
-}
-
-fn type_of(s: &[u8]) -> usize
-    ensures { result ≡ type_len s.now }
-{
-    let n = words::word(s, b"s;");
-    if n != 0 {
-        return n;
-    }
-    words::word(s, b"a;")
 }
 
 // The CRC after a character, if that is not `;`.

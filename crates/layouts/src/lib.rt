@@ -8,12 +8,11 @@ pub mod nikobus;
 mod words;
 
 ghost use Rattle.std.specs.Prelude.{◌≡◌};
-ghost use Rattle.layouts.specs.Work.Answered.{without, differing, standing};
+ghost use Rattle.layouts.specs.Paper.Judged.{without, differing};
 
-// The tests of a frame, in their order. A frame fails at the first that does not hold; `None` means that it passes them all.
-#[derive(Clone, Copy)]
+// The tests of a frame, in their order. A frame fails at the first that does not hold.
+#[derive(Clone, Copy, Debug, PartialEq, Eq)]
 pub enum Test {
-    None,
     Start,
     Length,
     Fields,
@@ -22,62 +21,50 @@ pub enum Test {
 }
 
 // A check's two values: the one that stands in the frame, and the one that is worked out.
-#[derive(Clone, Copy)]
+#[derive(Clone, Copy, Debug, PartialEq, Eq)]
 pub struct Compared {
     pub found: u16,
     pub expected: u16,
 }
 
-// What stands at the head of a slice: the test that it failed, with the values of a failed check, else zeros; and of a frame how long it
-// is, and where in it its payload begins and ends, else zeros.
-#[derive(Clone, Copy)]
-pub struct AtHead {
-    pub failed: Test,
-    pub found: u16,
-    pub expected: u16,
+// A frame at the head of a slice: how long it is, and where in it its payload begins and ends.
+#[derive(Clone, Copy, Debug, PartialEq, Eq)]
+pub struct Frame {
     pub len: usize,
     pub from: usize,
     pub to: usize,
 }
 
-// No frame: it failed at a test that compares nothing.
-fn nothing(failed: Test) -> AtHead
-    ensures { result ≡ without failed }
-{
-    AtHead {
-        failed: failed,
-        found: 0,
-        expected: 0,
-        len: 0,
-        from: 0,
-        to: 0,
+// Why no frame stands at the head of a slice: the test that it failed, with the values of a failed check, else zeros.
+#[derive(Clone, Copy, Debug, PartialEq, Eq)]
+pub struct Failure {
+    pub test: Test,
+    pub found: u16,
+    pub expected: u16,
+}
+
+// A test that compares nothing failed.
+impl From<Test> for Failure {
+    ghost from_gives = { λ test failure. failure ≡ without test };
+
+    fn from(test: Test) -> Failure {
+        Failure {
+            test,
+            found: 0,
+            expected: 0,
+        }
     }
 }
 
-// No frame: a check's values differ.
-fn differs(failed: Test, values: Compared) -> AtHead
-    ensures { result ≡ differing failed values }
-{
-    AtHead {
-        failed: failed,
-        found: values.found,
-        expected: values.expected,
-        len: 0,
-        from: 0,
-        to: 0,
-    }
-}
-
-// A frame of len bytes, with its payload.
-fn stands(len: usize, from: usize, to: usize) -> AtHead
-    ensures { result ≡ standing len from to }
-{
-    AtHead {
-        failed: Test::None,
-        found: 0,
-        expected: 0,
-        len: len,
-        from: from,
-        to: to,
+impl Compared {
+    // A check failed: these values differ.
+    fn failing(self, test: Test) -> Failure
+        ensures { result ≡ differing test self }
+    {
+        Failure {
+            test,
+            found: self.found,
+            expected: self.expected,
+        }
     }
 }

@@ -3,9 +3,10 @@ ghost use Rattle.std.specs.Prelude.{◌≡◌, ◌&&◌, ◌≤◌, ◌<◌, eqb
 ghost use Rattle.layouts.specs.Paper.Judged.{Recognises};
 ghost use Rattle.layouts.specs.Paper.Nest.{nest, nest_with};
 ghost use Rattle.layouts.specs.Paper.Starts.{first_three, nest_starts};
+ghost use Rattle.layouts.specs.Work.Heads.{Lasts};
 ghost use Rattle.layouts.specs.Work.Nest.{body_len, crc_pair};
 
-use super::{AtHead, Compared, Test, differs, nothing, stands, words};
+use super::{Compared, Failure, Frame, Test, words};
 use checks::nest::Crc;
 
 // Commands go to the backplate, responses come from it.
@@ -16,7 +17,7 @@ pub enum Direction {
 }
 
 // What stands at the head of s.
-pub fn frame(direction: Direction, s: &[u8]) -> AtHead
+pub fn frame(direction: Direction, s: &[u8]) -> Result<Frame, Failure>
     ensures { Recognises (nest direction) s.now result }
 {
     match direction {
@@ -47,41 +48,44 @@ fn three(s: &[u8], first: u8, second: u8, third: u8) -> bool
 
 // What stands there with this preamble. Tested in this order: the preamble, the length and the count of bytes, the CRC. (Any bytes are an
 // id and a payload, so that no field fails.)
-fn framed(s: &[u8], preamble: &[u8]) -> AtHead
+fn framed(s: &[u8], preamble: &[u8]) -> Result<Frame, Failure>
     requires { 0 < length preamble.now }
     ensures { Recognises (nest_with preamble.now) s.now result }
 {
     if !words::starts_with(s, preamble) {
-        return nothing(Test::Start);
+        return Err(Failure::from(Test::Start));
     }
     let before = preamble.len();
-    let n = body(&s[before..]);
-    if n == 0 {
-        return nothing(Test::Length);
-    }
+    let Some(n) = body(&s[before..]) else {
+        return Err(Failure::from(Test::Length));
+    };
     let end = before + n;
     let check = compared(&s[before..end]);
     if check.found != check.expected {
-        return differs(Test::First, check);
+        return Err(check.failing(Test::First));
     }
-    stands(end, before + 4, end - 2)
+    Ok(Frame {
+        len: end,
+        from: before + 4,
+        to: end - 2,
+    })
 }
 
-// How many bytes id, length, payload and CRC are; 0 if they are not there or the length is above 1,024.
-fn body(s: &[u8]) -> usize
-    ensures { result ≡ body_len s.now }
+// How many bytes id, length, payload and CRC are, if they are there and the length is at most 1,024.
+fn body(s: &[u8]) -> Option<usize>
+    ensures { Lasts (body_len s.now) result }
 {
     if s.len() < 6 {
-        return 0;
+        return None;
     }
     let n = s[2] as usize + s[3] as usize * 256;
     if 1024 < n {
-        return 0;
+        return None;
     }
     if s.len() < n + 6 {
-        return 0;
+        return None;
     }
-    n + 6
+    Some(n + 6)
 }
 
 // The number that the last two bytes of u are, low byte first, and the CRC of those before them.

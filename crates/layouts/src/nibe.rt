@@ -4,33 +4,37 @@ ghost use Rattle.layouts.specs.Paper.Chars.{one_of};
 ghost use Rattle.layouts.specs.Paper.Judged.{Recognises};
 ghost use Rattle.layouts.specs.Paper.Nibe.{nibe, commands};
 ghost use Rattle.layouts.specs.Paper.Starts.{nibe_starts};
+ghost use Rattle.layouts.specs.Work.Heads.{Lasts};
 ghost use Rattle.layouts.specs.Work.Nibe.{claimed_len, nibe_pair};
 
-use super::{AtHead, Compared, Test, differs, nothing, stands};
+use super::{Compared, Failure, Frame, Test};
 use checks::nibe::Xor;
 
 // What stands at the head of s; a frame's payload is the data. Tested in this order: the start mark, the count of bytes, the command, the check.
-pub fn frame(s: &[u8]) -> AtHead
+pub fn frame(s: &[u8]) -> Result<Frame, Failure>
     ensures { Recognises nibe s.now result }
 {
     if s.len() == 0 {
-        return nothing(Test::Start);
+        return Err(Failure::from(Test::Start));
     }
     if s[0] != 0xC0 {
-        return nothing(Test::Start);
+        return Err(Failure::from(Test::Start));
     }
-    let n = claimed(s);
-    if n == 0 {
-        return nothing(Test::Length);
-    }
+    let Some(n) = claimed(s) else {
+        return Err(Failure::from(Test::Length));
+    };
     if !is_command(s[1]) {
-        return nothing(Test::Fields);
+        return Err(Failure::from(Test::Fields));
     }
     let check = compared(&s[0..n]);
     if check.found != check.expected {
-        return differs(Test::First, check);
+        return Err(check.failing(Test::First));
     }
-    stands(n, 3, n - 1)
+    Ok(Frame {
+        len: n,
+        from: 3,
+        to: n - 1,
+    })
 }
 
 // Whether a frame can begin with the first three bytes of s: C0, and then a command, all of which begin with 6.
@@ -43,18 +47,18 @@ pub fn may_start(s: &[u8]) -> bool
     (s[0] == 0xC0) & (s[1] / 16 == 6)
 }
 
-// How long a frame with the length at the head of s is; 0 if the length or as many bytes are not there.
-fn claimed(s: &[u8]) -> usize
-    ensures { result ≡ claimed_len s.now }
+// How long a frame with the length at the head of s is, if the length and as many bytes are there.
+fn claimed(s: &[u8]) -> Option<usize>
+    ensures { Lasts (claimed_len s.now) result }
 {
     if s.len() < 4 {
-        return 0;
+        return None;
     }
     let n = s[2] as usize + 4;
     if s.len() < n {
-        return 0;
+        return None;
     }
-    n
+    Some(n)
 }
 
 // Whether a command is one of the seven.

@@ -1,27 +1,26 @@
 // Nikobus: link, press and tail.
-ghost use Rattle.std.specs.Prelude.{true, ◌≡◌, ◌-◌, ◌≤◌, ◌<◌, T, length};
+ghost use Rattle.std.specs.Prelude.{true, ◌≡◌, ◌&&◌, ◌-◌, ◌≤◌, ◌<◌, T, eqb, length, get_or};
 ghost use Rattle.digits.specs.Paper.Ascii.{ascii};
 ghost use Rattle.digits.specs.Paper.Bytes.{part};
 ghost use Rattle.digits.specs.Work.Hex.{place_of};
 ghost use Rattle.checks.specs.Paper.Check.{check};
 ghost use Rattle.checks.specs.Paper.Buses.{nikobus_crc16};
-ghost use Rattle.layouts.specs.Paper.Chars.{all, is_hex};
+ghost use Rattle.layouts.specs.Paper.Chars.{all, is_hex, CR};
 ghost use Rattle.layouts.specs.Paper.Judged.{Recognises};
 ghost use Rattle.layouts.specs.Paper.Nikobus.{nikobus};
 ghost use Rattle.layouts.specs.Paper.Starts.{nikobus_starts};
-ghost use Rattle.layouts.specs.Work.Heads.{starts, onward};
-ghost use Rattle.layouts.specs.Work.Nikobus.{hex_pair, bytes_of, digits_len, ll_of, link_form_len, pair16, pair8};
+ghost use Rattle.layouts.specs.Work.Heads.{Lasts, starts};
+ghost use Rattle.layouts.specs.Work.Nikobus.{hex_pair, bytes_of, ll_of, link_form_len, pair16, pair8};
 
-use super::{AtHead, Compared, Test, differs, nothing, stands, words};
+use super::{Compared, Failure, Frame, Test, words};
 use checks::nikobus::{Crc8, Crc16};
 use digits::hex;
-use digits::hex::Byte;
 
 // This many characters are tested at a time, with no branch between them: the compiler makes vector instructions of that.
 const BLOCK: usize = 32;
 
 // What stands at the head of s, by its start mark; a frame's payload is a link's digits or a press's, and a tail has none.
-pub fn frame(s: &[u8]) -> AtHead
+pub fn frame(s: &[u8]) -> Result<Frame, Failure>
     ensures { Recognises nikobus s.now result }
 {
     if words::starts_with(s, b"$") {
@@ -33,7 +32,7 @@ pub fn frame(s: &[u8]) -> AtHead
     if words::starts_with(s, b"#E1") {
         return tail(s);
     }
-    nothing(Test::Start)
+    Err(Failure::from(Test::Start))
 }
 
 // Whether a frame can begin with the first three bytes of s: `$` or `#`, and then a digit or a letter.
@@ -47,125 +46,106 @@ pub fn may_start(s: &[u8]) -> bool
 }
 
 // A link. Tested in this order: LL and the count of bytes, the digits and CR, CRC16, CRC8.
-fn link(s: &[u8]) -> AtHead
+fn link(s: &[u8]) -> Result<Frame, Failure>
     requires { starts (ascii "$") s.now ≡ true }
     ensures { Recognises nikobus s.now result }
 {
-    let n = ll(s);
-    if n == 0 {
-        return nothing(Test::Length);
-    }
+    let Some(n) = ll(s) else {
+        return Err(Failure::from(Test::Length));
+    };
     if s.len() < n {
-        return nothing(Test::Length);
+        return Err(Failure::from(Test::Length));
     }
-    let len = link_form(s, n);
-    if len == 0 {
-        return nothing(Test::Fields);
+    if !digits_to(s, 3, n - 1) {
+        return Err(Failure::from(Test::Fields));
     }
-    checked(s, len)
+    checked(s, n)
 }
 
 // A press: nine bytes, and then the digits and CR.
-fn press(s: &[u8]) -> AtHead
+fn press(s: &[u8]) -> Result<Frame, Failure>
     requires { starts (ascii "#N") s.now ≡ true }
     ensures { Recognises nikobus s.now result }
 {
     if s.len() < 9 {
-        return nothing(Test::Length);
+        return Err(Failure::from(Test::Length));
     }
-    let end = digits_at(s, 2, 6);
-    let n = words::word_at(s, end, b"\r");
-    if n == 0 {
-        return nothing(Test::Fields);
+    if !digits_to(s, 2, 8) {
+        return Err(Failure::from(Test::Fields));
     }
-    stands(n, 2, 8)
+    Ok(Frame {
+        len: 9,
+        from: 2,
+        to: 8,
+    })
 }
 
 // A tail: four bytes, and then CR.
-fn tail(s: &[u8]) -> AtHead
+fn tail(s: &[u8]) -> Result<Frame, Failure>
     requires { starts (ascii "#E1") s.now ≡ true }
     ensures { Recognises nikobus s.now result }
 {
     if s.len() < 4 {
-        return nothing(Test::Length);
+        return Err(Failure::from(Test::Length));
     }
     if s[3] != b'\r' {
-        return nothing(Test::Fields);
+        return Err(Failure::from(Test::Fields));
     }
-    stands(4, 4, 4)
+    Ok(Frame {
+        len: 4,
+        from: 4,
+        to: 4,
+    })
 }
 
 // The checks of what is laid out as a link of n bytes.
-fn checked(s: &[u8], n: usize) -> AtHead
+fn checked(s: &[u8], n: usize) -> Result<Frame, Failure>
     requires n_value { n ≡ link_form_len s.now }
     requires n_nonzero { 0 < n }
     ensures { Recognises nikobus s.now result }
 {
     let first = compared16(&s[0..n]);
     if first.found != first.expected {
-        return differs(Test::First, first);
+        return Err(first.failing(Test::First));
     }
     let second = compared8(&s[0..n]);
     if second.found != second.expected {
-        return differs(Test::Second, second);
+        return Err(second.failing(Test::Second));
     }
-    stands(n, 3, n - 7)
+    Ok(Frame {
+        len: n,
+        from: 3,
+        to: n - 7,
+    })
 }
 
-// The digits that LL says and CR behind `$` and LL: how long a link that is laid out so is, 0 for none.
-fn link_form(s: &[u8], ll: usize) -> usize
-    requires ll_value { ll ≡ ll_of s.now }
-    requires ll_nonzero { 0 < ll }
-    ensures { result ≡ link_form_len s.now }
-{
-    let end = digits_at(s, 3, ll - 4);
-    words::word_at(s, end, b"\r")
-}
-
-// LL, if `$` and an allowed LL are at the head of s; else 0.
-fn ll(s: &[u8]) -> usize
-    ensures { result ≡ ll_of s.now }
+// LL, if `$` and an allowed LL are at the head of s.
+fn ll(s: &[u8]) -> Option<usize>
+    ensures { Lasts (ll_of s.now) result }
 {
     if s.len() < 3 {
-        return 0;
+        return None;
     }
     if s[0] != b'$' {
-        return 0;
+        return None;
     }
-    let Byte::Is(n) = hex::byte_of(s[1], s[2]) else {
-        return 0;
-    };
+    let n = hex::byte_of(s[1], s[2])?;
     if n < 0x0C {
-        return 0;
+        return None;
     }
     if n % 2 != 0 {
-        return 0;
+        return None;
     }
-    n as usize
+    Some(n as usize)
 }
 
-// The end of k digits at a place.
-fn digits_at(s: &[u8], at: usize, k: usize) -> usize
-    requires { at ≤ length s.now }
-    ensures { result ≡ onward (digits_len k) s.now at }
+// Whether digits stand from one place up to another, and CR there.
+fn digits_to(s: &[u8], from: usize, to: usize) -> bool
+    requires in_order { from ≤ to }
+    requires in_bounds { to < length s.now }
+    ensures { result ≡ (all is_hex (part from to s.now) && eqb (get_or s.now to 0) CR) }
 {
-    if at == 0 {
-        return 0;
-    }
-    words::onto(at, digits(&s[at..], k))
-}
-
-// k if s starts with k digits, else 0.
-fn digits(s: &[u8], k: usize) -> usize
-    ensures { result ≡ digits_len k s.now }
-{
-    if s.len() < k {
-        return 0;
-    }
-    if all_digits(&s[0..k]) {
-        return k;
-    }
-    0
+    all_digits(&s[from..to]) && s[to] == b'\r'
 }
 
 // Whether all characters of s are digits.
@@ -193,10 +173,8 @@ fn block_is_digits(block: &[u8]) -> bool
     ensures { result ≡ all is_hex block.now }
 {
     let mut so_far = true;
-    let mut i = 0;
-    while i < block.len() {
-        so_far = so_far & is_digit(block[i]);
-        i += 1;
+    for c in block {
+        so_far = so_far & is_digit(*c);
     }
     so_far
 }

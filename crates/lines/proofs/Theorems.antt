@@ -1,11 +1,13 @@
 -- What the definition of a line comes to, for a reader.
 -- Assumes nothing.
-use mathlib.Core.List.{List, [], ◌++◌}
-use mathlib.Core.Option.{Option, none, some}
+use mathlib.Core.List.{List, []}
+use mathlib.Core.Option.{Option, none}
 use mathlib.Core.Path.{◌≡◌, refl, sym, ap, ◌∙◌, subst}
 use Prim.Native.Nat.{ℕ, ◌+◌, ◌-◌, ◌*◌, ◌^◌, ◌≤◌, ◌<◌}
 use native.Mathlib.Omega.{arith}
 use lib.ListN.{length, take, drop}
+use Rattle.std.specs.Prelude.{Result, Ok, Err}
+use Rattle.digits.specs.declared.refusal.Refusal.{Refusal}
 use Rattle.digits.specs.declared.refusal.Refusal.TheVariants.{NoRoom}
 use Rattle.digits.proofs.Laws.Refusals.{answered}
 use Rattle.frames.specs.Paper.Kinds.{Frame}
@@ -22,8 +24,7 @@ use Rattle.messages.proofs.Laws.Frames.{one-content}
 use Rattle.messages.proofs.Laws.Says.{one-said}
 use Rattle.messages.proofs.Theorems.{has-message}
 use Rattle.puts.specs.Paper.Put.{largest_place}
-use Rattle.puts.specs.Paper.Wrote.{written_refusal, written_count}
-use Rattle.puts.specs.declared.Written.{Written}
+use Rattle.puts.specs.Paper.Wrote.{written_refusal, written_count, Written}
 use Rattle.puts.proofs.Laws.Right.{written-right, rest-kept}
 use Rattle.lines.specs.Paper.Answers.{LineOf, LineCause, short, WritesLine, LineSaid, SaidCause, HasContent}
 use Rattle.lines.specs.Paper.Answers.{NextCause, searched, PutsNext, NextSize, Measures}
@@ -33,8 +34,6 @@ use Rattle.lines.specs.Paper.Line.{line, line_room}
 use Rattle.lines.specs.Paper.WithSheet.{line_with}
 use Rattle.lines.specs.Work.Put.{all, none}
 use Rattle.lines.specs.declared.Listed.{Listed}
-use Rattle.lines.specs.declared.Listed.TheVariants.{At, Refused}
-use Rattle.lines.specs.declared.Measured.TheVariants.{At as SizedAt}
 use Rattle.lines.proofs.Laws.Next as nexts
 use Rattle.lines.proofs.Laws.Of as of
 use Rattle.lines.proofs.Laws.Same as same
@@ -136,16 +135,16 @@ never-short-next {k} {s} {place} {left} h r c = go 4 c refl
     go n (short {v = v} l o g) e = let few : v.start < 10 ^ 20 = omega (arith, l.stands.inside) in omega (arith, line-most few o)
 
 -- WHAT IS MEASURED IS WHAT IS PUT: the line stands in the room where so many bytes are left of it, and else it is refused with 4
-module _ {sheet : Option Lookup} {k : ℕ} {s : List ℕ} {place : ℕ} {room : List ℕ} {to start len size : ℕ} (m : Measures sheet k s place (SizedAt start len size)) (r : Listed)
+module _ {sheet : Option Lookup} {k : ℕ} {s : List ℕ} {place : ℕ} {room : List ℕ} {to start len size : ℕ} (m : Measures sheet k s place (Ok (record { start = start; len = len; size = size }))) (r : Result Listed Refusal)
     {later : List ℕ} (p : PutsNext sheet k s place room to r later) where
   size-at : NextSize sheet k s place (record { start = start; len = len; size = size })
   size-at = answered m refl
 
-  pub measured-put : size ≤ length room - to → r ≡ At start len (to + size)
+  pub measured-put : size ≤ length room - to → r ≡ Ok (record { start = start; len = len; behind = to + size })
   measured-put h =
       let n = size-at.size_is in
       let q = nexts.next-placed {room = room} {to = to} size-at.found size-at.line (all (omega (arith, n))) in
-      (unique.next sheet k s place room to r (At start len (to + length size-at.text)) p q).0 ∙ ap (λ (i : ℕ). At start len (to + i)) (sym n)
+      (unique.next sheet k s place room to r (Ok (record { start = start; len = len; behind = to + length size-at.text })) p q).0 ∙ ap (λ (i : ℕ). Ok (record { start = start; len = len; behind = to + i })) (sym n)
 
-  pub measured-refused : length room - to < size → r ≡ Refused NoRoom
-  measured-refused h = (unique.next sheet k s place room to r (Refused NoRoom) p (nexts.next-placed size-at.found size-at.line (none (omega (arith, size-at.size_is))))).0
+  pub measured-refused : length room - to < size → r ≡ Err NoRoom
+  measured-refused h = (unique.next sheet k s place room to r (Err NoRoom) p (nexts.next-placed size-at.found size-at.line (none (omega (arith, size-at.size_is))))).0

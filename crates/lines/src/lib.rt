@@ -19,7 +19,7 @@ ghost use Rattle.lines.specs.Work.Put.{name_and_members, put, Bounded, AllOrNone
 ghost use Rattle.lines.specs.Work.Tried.{Tries, Surely};
 
 use digits::refusal::Refusal;
-use messages::{Decoded, FoundMessage, Meant, Message, Standing, Tag};
+use messages::{Decoded, FoundMessage, Message, Tag};
 use puts::Written;
 
 // The bound on a line's length: `MOST` bytes, and `MOST_A_BYTE` more for each byte that stands beside its message; by a sheet, more.
@@ -29,45 +29,27 @@ const MOST_A_BYTE: usize = 8;
 
 const MOST_BY_A_SHEET: usize = 26;
 
-// Where the line of a content ends: the place in the room behind it.
-#[derive(Clone, Copy)]
-pub enum Ended {
-    At(usize),
-    Refused(Refusal),
-}
-
 // What stands next in a capture: a frame's start and length, and the place in the room behind its line.
-#[derive(Clone, Copy)]
-pub enum Listed {
-    At {
-        start: usize,
-        len: usize,
-        behind: usize,
-    },
-    Refused(Refusal),
+#[derive(Clone, Copy, Debug, PartialEq, Eq)]
+pub struct Listed {
+    pub start: usize,
+    pub len: usize,
+    pub behind: usize,
 }
 
 // What stands next in a capture: a frame's start and length, and the size of its line.
-#[derive(Clone, Copy)]
-pub enum Measured {
-    At {
-        start: usize,
-        len: usize,
-        size: usize,
-    },
-    Refused(Refusal),
+#[derive(Clone, Copy, Debug, PartialEq, Eq)]
+pub struct Measured {
+    pub start: usize,
+    pub len: usize,
+    pub size: usize,
 }
 
 // What comes of trying to put the next line: where it ends; or the start of its frame, if it might not fit and is not put.
-#[derive(Clone, Copy)]
-pub(crate) enum Tried {
-    At {
-        start: usize,
-        len: usize,
-        behind: usize,
-    },
+#[derive(Clone, Copy, Debug, PartialEq, Eq)]
+enum Tried {
+    At(Listed),
     Unsure(usize),
-    Refused(Refusal),
 }
 
 // Writes the line of one frame, which stands at a place of a capture, from the front of the room. Refusals: 2 for a kind that is not
@@ -82,12 +64,8 @@ pub fn write(kind: u8, frame: &[u8], at: usize, room: &mut [u8]) -> Written
 pub fn write_mapped(kind: u8, frame: &[u8], at: usize, map: &[u8], room: &mut [u8]) -> Written
     ensures { WritesLine (sheet_in map.now) kind frame.now at room.old result room.new }
 {
-    match messages::decode(kind, frame) {
-        Decoded::Is { message, from, to } => {
-            placed(message, &frame[from..to], at, frame.len(), map, room, 0)
-        }
-        Decoded::Refused(why) => Written::Refused(why),
-    }
+    let Decoded { message, from, to } = messages::decode(kind, frame)?;
+    placed(message, &frame[from..to], at, frame.len(), map, room, 0)
 }
 
 // Writes the line of one frame by a sheet. Refusals: those of `write`, and before 4, 10 for a text that is no sheet.
@@ -109,15 +87,9 @@ fn write_opened(
 ) -> Written
     ensures { WritesLineByText kind frame.now at text.now room.old result room.new }
 {
-    match messages::decode(kind, frame) {
-        Decoded::Is { message, from, to } => match sheet::map(text, opened) {
-            Written::Bytes(n) => {
-                placed(message, &frame[from..to], at, frame.len(), opened, room, 0)
-            }
-            Written::Refused(why) => Written::Refused(why),
-        },
-        Decoded::Refused(why) => Written::Refused(why),
-    }
+    let Decoded { message, from, to } = messages::decode(kind, frame)?;
+    let _size = sheet::map(text, opened)?;
+    placed(message, &frame[from..to], at, frame.len(), opened, room, 0)
 }
 
 // Puts the line of a message, with its content beside it, at a place of the room: all of it, or none if too little of the room is left
@@ -133,8 +105,8 @@ pub fn of(
     ensures { WritesSaid none (Says message content.now) at len room.old to result room.new }
 {
     match messages::allowed(message, content) {
-        Standing::Good => placed(message, content, at, len, &[], room, to),
-        Standing::Refused(why) => Written::Refused(Refusal::OutOfLimits),
+        Ok(()) => placed(message, content, at, len, &[], room, to),
+        Err(_) => Err(Refusal::OutOfLimits),
     }
 }
 
@@ -149,13 +121,11 @@ pub fn put_content(
     map: &[u8],
     room: &mut [u8],
     to: usize,
-) -> Ended
+) -> Result<usize, Refusal>
     ensures { PutsContent (sheet_in map.now) tag payload.now at len room.old to result room.new }
 {
-    match messages::of(tag, payload) {
-        Meant::Is(message) => Ended::At(line(message, payload, at, len, map, room, to)),
-        Meant::Refused(why) => Ended::Refused(why),
-    }
+    let message = messages::of(tag, payload)?;
+    Ok(line(message, payload, at, len, map, room, to))
 }
 
 // Finds the frame with the smallest start at or after a place of the capture, and puts its line at a place of the room: all of it, or
@@ -168,35 +138,29 @@ pub fn next(
     map: &[u8],
     room: &mut [u8],
     to: usize,
-) -> Listed
+) -> Result<Listed, Refusal>
     ensures { PutsNext (sheet_in map.now) kind capture.now place room.old to result room.new }
 {
-    match attempt(kind, capture, place, false, map, room, to) {
-        Tried::At { start, len, behind } => Listed::At {
-            start: start,
-            len: len,
-            behind: behind,
-        },
+    match attempt(kind, capture, place, false, map, room, to)? {
+        Tried::At(listed) => Ok(listed),
         Tried::Unsure(start) => after_measuring(kind, capture, start, map, room, to),
-        Tried::Refused(why) => Listed::Refused(why),
     }
 }
 
 // How long the line is that `next` puts, with the start and the length of its frame: a caller can lend a room of the
 // right length. Refusals: those of the search.
-pub fn measure(kind: u8, capture: &[u8], place: usize, map: &[u8]) -> Measured
+pub fn measure(kind: u8, capture: &[u8], place: usize, map: &[u8]) -> Result<Measured, Refusal>
     ensures { Measures (sheet_in map.now) kind capture.now place result }
 {
     let mut none = [0u8; 1];
-    match attempt(kind, capture, place, true, map, &mut none, 0) {
-        Tried::At { start, len, behind } => Measured::At {
-            start: start,
-            len: len,
-            size: behind,
-        },
+    match attempt(kind, capture, place, true, map, &mut none, 0)? {
+        Tried::At(listed) => Ok(Measured {
+            start: listed.start,
+            len: listed.len,
+            size: listed.behind,
+        }),
         // never: a line that is put whatever the room is leaves no doubt
-        Tried::Unsure(start) => Measured::Refused(Refusal::NoRoom),
-        Tried::Refused(why) => Measured::Refused(why),
+        Tried::Unsure(_) => Err(Refusal::NoRoom),
     }
 }
 
@@ -208,23 +172,19 @@ fn after_measuring(
     map: &[u8],
     room: &mut [u8],
     to: usize,
-) -> Listed
+) -> Result<Listed, Refusal>
     ensures { PutsNext (sheet_in map.now) kind capture.now place room.old to result room.new }
 {
-    match measure(kind, capture, place, map) {
-        Measured::At { start, len, size } => {
-            if left(room.len(), to) < size {
-                return Listed::Refused(Refusal::NoRoom);
-            }
-            attempt(kind, capture, place, true, map, room, to);
-            Listed::At {
-                start: start,
-                len: len,
-                behind: to + size,
-            }
-        }
-        Measured::Refused(why) => Listed::Refused(why),
+    let Measured { start, len, size } = measure(kind, capture, place, map)?;
+    if left(room.len(), to) < size {
+        return Err(Refusal::NoRoom);
     }
+    let _ = attempt(kind, capture, place, true, map, room, to);
+    Ok(Listed {
+        start,
+        len,
+        behind: to + size,
+    })
 }
 
 // Puts the next line as far as the room goes, if `sure` asks for that, or if no line with a content of this length is longer than what is
@@ -238,28 +198,24 @@ fn attempt(
     map: &[u8],
     room: &mut [u8],
     to: usize,
-) -> Tried
+) -> Result<Tried, Refusal>
     ensures { Tries (sheet_in map.now) kind capture.now place sure room.old to result room.new }
 {
-    match messages::find(kind, capture, place) {
-        FoundMessage::At {
-            start,
-            len,
-            from,
-            to: end,
-            message,
-        } => {
-            if !surely(map, sure, end - from, left(room.len(), to)) {
-                return Tried::Unsure(start);
-            }
-            Tried::At {
-                start: start,
-                len: len,
-                behind: line(message, &capture[from..end], start, len, map, room, to),
-            }
-        }
-        FoundMessage::Refused(why) => Tried::Refused(why),
+    let FoundMessage {
+        start,
+        len,
+        from,
+        to: end,
+        message,
+    } = messages::find(kind, capture, place)?;
+    if !surely(map, sure, end - from, left(room.len(), to)) {
+        return Ok(Tried::Unsure(start));
     }
+    Ok(Tried::At(Listed {
+        start,
+        len,
+        behind: line(message, &capture[from..end], start, len, map, room, to),
+    }))
 }
 
 // Whether a line is put if `beside` bytes stand beside its message and `bytes` bytes of the room are left.
@@ -291,20 +247,18 @@ fn placed(
     requires { Bounded (sheet_in map.now) (put (sheet_in map.now) message content.now at len) (length content.now) }
     ensures { AllOrNone (put (sheet_in map.now) message content.now at len) room.old to result room.new }
 {
-    if !fits(message, content, at, len, map, left(room.len(), to)) {
-        return Written::Refused(Refusal::NoRoom);
+    if fits(message, content, at, len, map, left(room.len(), to)) {
+        Ok(line(message, content, at, len, map, room, to) - to)
+    } else {
+        Err(Refusal::NoRoom)
     }
-    Written::Bytes(line(message, content, at, len, map, room, to) - to)
 }
 
 // How much of a room of `room` bytes is left behind a place.
 fn left(room: usize, to: usize) -> usize
     ensures { result ≡ room - to }
 {
-    if room < to {
-        return 0;
-    }
-    room - to
+    room.saturating_sub(to)
 }
 
 // Whether a line fits into `bytes` bytes. It is measured only if it might not.

@@ -9,7 +9,7 @@ ghost use Rattle.lines.specs.Work.Put.{named, state_members, response_name_and_m
 use super::members;
 use json_values::Decimals;
 use messages::nest;
-use messages::nest::{Response, Volts};
+use messages::nest::Response;
 
 pub(crate) fn name_and_members(
     message: Response,
@@ -51,15 +51,13 @@ fn state(payload: &[u8], room: &mut [u8], at: usize) -> usize
     ensures { Put room.old room.new at result (ascii "state\"" ++ state_members payload.now) }
 {
     let a = puts::bytes(b"state\"", room, at);
-    match nest::voltages(payload) {
-        Volts::Are { vin, vop, vbat } => {
-            let b = members::reading(b",\"vin\":", vin as u32, Decimals::Two, room, a);
-            let c = members::reading(b",\"vop\":", vop as u32, Decimals::Three, room, b);
-            let d = members::reading(b",\"vbat\":", vbat as u32, Decimals::Three, room, c);
-            members::hex(b",\"data\":", payload, room, d)
-        }
-        Volts::Refused(why) => a,
-    }
+    let Ok(volts) = nest::voltages(payload) else {
+        return a;
+    };
+    let b = members::reading(b",\"vin\":", volts.vin as u32, Decimals::Two, room, a);
+    let c = members::reading(b",\"vop\":", volts.vop as u32, Decimals::Three, room, b);
+    let d = members::reading(b",\"vbat\":", volts.vbat as u32, Decimals::Three, room, c);
+    members::hex(b",\"data\":", payload, room, d)
 }
 
 fn text(id: u16, payload: &[u8], room: &mut [u8], at: usize) -> usize

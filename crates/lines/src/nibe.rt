@@ -57,7 +57,14 @@ fn value(valued: Valued, map: &[u8], room: &mut [u8], at: usize) -> usize
 fn reading(valued: Valued, map: &[u8], room: &mut [u8], at: usize) -> usize
     ensures { Put room.old room.new at result (value_reading (lookup_in map.now valued.register) valued.width valued.value) }
 {
-    let Typed::Is(width, signed, decimals) = sheet::type_in(map, valued.register) else {
+    let Ok(
+        Typed {
+            width,
+            signed,
+            decimals,
+        },
+    ) = sheet::type_in(map, valued.register)
+    else {
         return json_values::unsigned(valued.value, Decimals::Zero, room, at);
     };
     if width != valued.width as usize {

@@ -17,16 +17,16 @@ use Rattle.digits.specs.Paper.LowFirst.{low_byte_first}
 use Rattle.digits.specs.declared.refusal.Refusal.TheVariants.{NoFrame}
 use Rattle.checks.specs.Paper.Bits.{bits, of_lows, of_bits, bits_of_bytes}
 use Rattle.checks.specs.Paper.Check.{poly_bits, feed}
-use Rattle.layouts.specs.Paper.Chars.{all, one_of, CR, LF}
+use Rattle.layouts.specs.Paper.Chars.{all, one_of, LF}
 use Rattle.layouts.specs.Work.Heads.{only_if, starts, word_len, run_len, is_byte, on}
 use Rattle.layouts.specs.Work.Nest.{body_len, nest_form_len, crc_pair}
 use Rattle.layouts.specs.Work.Recogniser.{agreeing}
 use Rattle.frames.specs.Paper.Kinds.{known}
 use Rattle.frames.specs.Paper.Runs.{ends, finds}
 use Rattle.frames.specs.Paper.Search.{Searches}
-use Rattle.frames.specs.Work.Frames.{len_at, from_at, to_at}
+use Rattle.frames.specs.Work.Frames.{len_at, frame_at}
 use Rattle.frames.specs.Work.Seek.{seek_among, seek, among, resolved, searched}
-use Rattle.frames.specs.declared.Found.TheVariants.{At, Refused}
+use Rattle.std.specs.Prelude.{Ok, Err}
 use Rattle.frames.proofs.Theorems.{an-answer}
 use Rattle.messages.specs.Paper.Message.{command}
 use Rattle.messages.proofs.Known as messages
@@ -44,12 +44,12 @@ use Rattle.list.proofs.Laws.Inputs.{two_bytes, line-feed, kind-known}
 abbrev capture : List ℕ
 capture = 0xD5 ∷ 0xAA ∷ 0x96 ∷ 0xFF ∷ 0x00 ∷ 0x00 ∷ 0x00 ∷ 0xA3 ∷ 0x4B ∷ 0xFF ∷ []
 
-first : searched 2 capture 0 ≡ At 0 9 7 7
-unfolding searched resolved among seek seek_among len_at from_at to_at nest_form_len agreeing crc_pair body_len is_byte all only_if starts word_len run_len on low_byte_first feed poly_bits bits lows of_bits of_lows bits_of_bytes
+first : searched 2 capture 0 ≡ Ok (record { start = 0; len = 9; from = 7; to = 7 })
+unfolding searched resolved among seek seek_among len_at frame_at nest_form_len agreeing crc_pair body_len is_byte all only_if starts word_len run_len on low_byte_first feed poly_bits bits lows of_bits of_lows bits_of_bytes
 first = refl
 
-second : searched 2 capture 9 ≡ Refused NoFrame
-unfolding searched resolved among seek seek_among len_at from_at to_at nest_form_len agreeing crc_pair body_len is_byte all only_if starts word_len run_len on low_byte_first feed poly_bits bits lows of_bits of_lows bits_of_bytes
+second : searched 2 capture 9 ≡ Err NoFrame
+unfolding searched resolved among seek seek_among len_at frame_at nest_form_len agreeing crc_pair body_len is_byte all only_if starts word_len run_len on low_byte_first feed poly_bits bits lows of_bits of_lows bits_of_bytes
 second = refl
 
 its-line : LineOf options.none 2 (0xD5 ∷ 0xAA ∷ 0x96 ∷ 0xFF ∷ 0x00 ∷ 0x00 ∷ 0x00 ∷ 0xA3 ∷ 0x4B ∷ []) 0 (ascii "{\"at\":0,\"len\":9,\"msg\":\"command\",\"id\":255,\"data\":\"\"}\n")
@@ -72,7 +72,7 @@ example =
 -- ---- no frame
 
 -- a capture of no bytes
-nothing : searched 5 [] 0 ≡ Refused NoFrame
+nothing : searched 5 [] 0 ≡ Err NoFrame
 unfolding searched resolved among seek seek_among
 nothing = refl
 

@@ -7,8 +7,7 @@ use Prim.Native.Nat.{ℕ, ◌+◌, ◌-◌, ◌*◌, ◌≤◌}
 use native.Mathlib.Omega.{arith}
 use lib.ListN.{length, take, drop}
 use Rattle.digits.proofs.Laws.Refusals.{cause-at}
-use Rattle.puts.specs.Paper.Wrote.{Wrote, wrote, refused, RoomCause, short, written_refusal, written_count}
-use Rattle.puts.specs.declared.Written.{Written}
+use Rattle.puts.specs.Paper.Wrote.{Wrote, wrote, refused, RoomCause, short, written_refusal, written_count, Written}
 use Rattle.puts.proofs.Laws.Right.{written-right, rest-kept, as-right}
 use Rattle.puts.proofs.Laws.Wrote.{has_room}
 use Rattle.frames.specs.Paper.Runs.{Run, InOrder, nothing, next}

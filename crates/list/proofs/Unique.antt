@@ -5,8 +5,7 @@ use mathlib.Core.Option.{Option}
 use mathlib.Core.Path.{◌≡◌, subst}
 use Prim.Native.Nat.{ℕ}
 use lib.ListN.{length}
-use Rattle.puts.specs.Paper.Wrote.{RoomCause, Writes}
-use Rattle.puts.specs.declared.Written.{Written}
+use Rattle.puts.specs.Paper.Wrote.{RoomCause, Writes, Written}
 use Rattle.puts.proofs.Unique.{one_written}
 use Rattle.sheet.specs.Paper.Sheet.{Lookup}
 use Rattle.list.specs.Paper.Answers.{WritesListing}

@@ -12,7 +12,6 @@ ghost use Rattle.list.specs.Work.Remaining.{NoSheetIn, Listable, WritesLists, Fi
 
 use digits::refusal::Refusal;
 use frames::kinds;
-use lines::{Listed, Measured};
 use puts::Written;
 
 // The bound on a listing's length: `MOST` bytes, and `MOST_A_BYTE` more for each byte of the capture.
@@ -53,8 +52,8 @@ fn write_opened(input: &[u8], text: &[u8], room: &mut [u8], map: &mut [u8; 65536
     ensures { WritesListing (OfText text.now) input.now room.old result room.new }
 {
     match sheet::map(text, map) {
-        Written::Bytes(n) => write_mapped(input, map, room),
-        Written::Refused(why) => write_refused(input, text, room),
+        Ok(_) => write_mapped(input, map, room),
+        Err(_) => write_refused(input, text, room),
     }
 }
 
@@ -91,9 +90,9 @@ fn capture(kind: u8, s: &[u8], map: &[u8], room: &mut [u8]) -> Written
     ensures { WritesLists (sheet_in map.now) kind s.now room.old result room.new }
 {
     if !fits(kind, s, map, room.len()) {
-        return Written::Refused(Refusal::NoRoom);
+        return Err(Refusal::NoRoom);
     }
-    Written::Bytes(put(kind, s, map, room))
+    Ok(put(kind, s, map, room))
 }
 
 // Whether a room of `room` bytes has room for the listing. The listing is measured only if it might not.
@@ -118,19 +117,13 @@ fn size(kind: u8, s: &[u8], map: &[u8]) -> usize
     let mut frames = 0;
     let mut inside = 0;
     let mut sum = 0;
-    loop {
-        match lines::measure(kind, s, place, map) {
-            Measured::At { start, len, size } => {
-                place = start + len;
-                sum += size;
-                frames += 1;
-                inside += len;
-            }
-            Measured::Refused(why) => {
-                return behind(frames, s.len() - inside, sum);
-            }
-        }
+    while let Ok(line) = lines::measure(kind, s, place, map) {
+        place = line.start + line.len;
+        sum += line.size;
+        frames += 1;
+        inside += line.len;
     }
+    behind(frames, s.len() - inside, sum)
 }
 
 // Puts a line a frame of the capture, and the last line, in a room that has room for them.
@@ -143,19 +136,13 @@ fn put(kind: u8, s: &[u8], map: &[u8], room: &mut [u8]) -> usize
     let mut frames = 0;
     let mut inside = 0;
     let mut next = 0;
-    loop {
-        match lines::next(kind, s, place, map, room, next) {
-            Listed::At { start, len, behind } => {
-                place = start + len;
-                next = behind;
-                frames += 1;
-                inside += len;
-            }
-            Listed::Refused(why) => {
-                return ending(frames, s.len() - inside, room, next);
-            }
-        }
+    while let Ok(line) = lines::next(kind, s, place, map, room, next) {
+        place = line.start + line.len;
+        next = line.behind;
+        frames += 1;
+        inside += line.len;
     }
+    ending(frames, s.len() - inside, room, next)
 }
 
 // The place behind the last line if that is put at a place.

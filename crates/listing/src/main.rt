@@ -8,7 +8,6 @@ mod faulty;
 ghost use Rattle.std.specs.Prelude.{◌≤◌, length};
 ghost use Rattle.puts.specs.Paper.Wrote.{written_count};
 
-use digits::slices;
 use puts::Written;
 use std::io::{ErrorKind, Read};
 use std::rt::Files;
@@ -41,8 +40,8 @@ fn list_all<R: Input + Files + Print + Eprint + Alloc>(
 ) {
     let n = read_full(&mut rt.reader(), input).count;
     match fs::open(rt, "sheet.txt") {
-        Ok(file) => with_file(rt, file, &input[0..n], text, room),
-        Err(why) => without_file(rt, why, &input[0..n], room),
+        Ok(file) => with_file(rt, file, &input[..n], text, room),
+        Err(why) => without_file(rt, why, &input[..n], room),
     }
 }
 
@@ -57,6 +56,7 @@ fn read_full(source: &mut impl Read, s: &mut [u8]) -> Got
     ensures { result.count ≤ length s.new }
 {
     let mut done = 0;
+    // (A `while`: a step is as long as what was read.)
     while done < s.len() {
         match source.read(&mut s[done..]) {
             Ok(0) => break,
@@ -90,7 +90,7 @@ fn with_file<R: Print + Eprint + Alloc>(
         return;
     }
     match got.failed {
-        None => by_sheet(rt, input, &text[0..k], room),
+        None => by_sheet(rt, input, &text[..k], room),
         Some(why) => {
             fail(rt, "listing: sheet.txt cannot be read", why);
             by_no_sheet(rt, input, room);
@@ -128,8 +128,8 @@ fn show<R: Print + Eprint + Alloc>(rt: &R, written: Written, room: &[u8]) -> boo
     requires { written_count written ≤ length room.now }
 {
     match written {
-        Written::Bytes(k) => printed(rt, &room[0..k]),
-        Written::Refused(_) => {
+        Ok(k) => printed(rt, &room[..k]),
+        Err(_) => {
             complain(rt, "listing: the room is too short\n");
             false
         }
@@ -138,7 +138,7 @@ fn show<R: Print + Eprint + Alloc>(rt: &R, written: Written, room: &[u8]) -> boo
 
 fn printed<R: Print + Eprint + Alloc>(rt: &R, lines: &[u8]) -> bool {
     print(rt, lines);
-    slices::same(lines, b"{\"refused\":10}\n")
+    lines == b"{\"refused\":10}\n".as_slice()
 }
 
 fn print<R: Print + Eprint + Alloc>(rt: &R, lines: &[u8]) {

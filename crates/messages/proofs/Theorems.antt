@@ -8,9 +8,11 @@ use native.Mathlib.Omega.{arith}
 use lib.Dec.{T, leb}
 use borrow.Author.Tests.{leb-true, leb-false}
 use denote.Ref.{Bor}
+use Rattle.std.specs.Prelude.{Result, Ok, Err}
 use Rattle.digits.specs.Paper.Bytes.{part}
 use Rattle.digits.proofs.Laws.Handed.{bytes-of}
 use Rattle.digits.proofs.Laws.Refusals.{answered}
+use Rattle.digits.specs.declared.refusal.Refusal.{Refusal}
 use Rattle.digits.specs.declared.refusal.Refusal.TheVariants.{OutOfLimits}
 use Rattle.frames.specs.Paper.Kinds.{number_of, Frame}
 use Rattle.messages.specs.Paper.Answers.{Stands, Said, content_ends, Contents}
@@ -22,7 +24,6 @@ use Rattle.messages.specs.Paper.NextId.{Follows}
 use Rattle.messages.specs.Paper.Table.{content_of, bytes, Limits, Above, Good}
 use Rattle.messages.specs.Work.Look.{look}
 use Rattle.messages.specs.declared.Message.{Message as Coded}
-use Rattle.messages.specs.declared.homiq.NextId.TheVariants.{Is as Next, Refused as NoNext}
 use Rattle.messages.proofs.Laws.Decode as decoding
 use Rattle.messages.proofs.Laws.Frames.{made-content, content-bytes, content-kind, one-content, frame-of}
 use Rattle.messages.proofs.Laws.HomiqRows.{output-found, input-found, shutter-found, beat-found}
@@ -109,20 +110,20 @@ only-these (homiq w) l x = tt
 -- ---- 02, K3: IDs follow one another in a circle
 
 -- only an ID has a successor
-has-next : {i n : ℕ} → Follows i (Next n) → i ≤ last_id
+has-next : {i n : ℕ} → Follows i (Ok n) → i ≤ last_id
 has-next {i} {n} f = go (leb i last_id) refl
   where
     go : (b : Bool) → leb i last_id ≡ b → i ≤ last_id
     go true e = leb-true _ _ e
     go false e =
-        let same : Next n ≡ NoNext OutOfLimits = one-next i (Next n) (NoNext OutOfLimits) f (next-refused (leb-false _ _ e)) in
+        let same : ◌≡◌ {A = Result ℕ Refusal} (Ok n) (Err OutOfLimits) = one-next i (Ok n) (Err OutOfLimits) f (next-refused (leb-false _ _ e)) in
         let z : ◌≡◌ {A = ℕ} 0 1 = cc in
         absurd (omega arith)
 
 -- THE SUCCESSOR OF AN ID is an ID
-pub next-is-id : {i n : ℕ} → Follows i (Next n) → n ≤ last_id
+pub next-is-id : {i n : ℕ} → Follows i (Ok n) → n ≤ last_id
 next-is-id {i} f = omega (arith, answered f refl)
 
 -- AND NO TWO IDS HAVE THE SAME ONE
-pub next-of-one : {i j n : ℕ} → Follows i (Next n) → Follows j (Next n) → i ≡ j
+pub next-of-one : {i j n : ℕ} → Follows i (Ok n) → Follows j (Ok n) → i ≡ j
 next-of-one {i} {j} f g = omega (arith, has-next f, has-next g, answered f refl, answered g refl)

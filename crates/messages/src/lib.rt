@@ -15,8 +15,8 @@ ghost use Rattle.messages.specs.Paper.Meant.{ContentWith, Means};
 ghost use Rattle.messages.specs.Work.Answers.{Payloaded};
 
 use digits::refusal::Refusal;
-use frames::kinds::{Kind, Resolved};
-use frames::{Found, FramePayload, kinds};
+use frames::kinds;
+use frames::kinds::Kind;
 use homiq::Homiq;
 use nest::Response;
 use nibe::Nibe;
@@ -24,7 +24,7 @@ use nikobus::Nikobus;
 
 // A message. Its bytes of free length stand beside it, as its frame's payload has them: a link's digits, Nest's payload, Nibe's
 // data, Homiq's CMD to TYPE. A message without such bytes takes nothing from there, whatever stands there.
-#[derive(Clone, Copy)]
+#[derive(Clone, Copy, Debug, PartialEq, Eq)]
 pub enum Message {
     Nikobus(Nikobus),
     Command { id: u16 },
@@ -34,33 +34,27 @@ pub enum Message {
 }
 
 // What a frame is decoded to: its message, and the places where its payload begins and ends.
-#[derive(Clone, Copy)]
-pub enum Decoded {
-    Is {
-        message: Message,
-        from: usize,
-        to: usize,
-    },
-    Refused(Refusal),
+#[derive(Clone, Copy, Debug, PartialEq, Eq)]
+pub struct Decoded {
+    pub message: Message,
+    pub from: usize,
+    pub to: usize,
 }
 
 // What a search finds, decoded: the frame's start and length, the places in the buffer where its payload begins and ends, and its
 // message.
-#[derive(Clone, Copy)]
-pub enum FoundMessage {
-    At {
-        start: usize,
-        len: usize,
-        from: usize,
-        to: usize,
-        message: Message,
-    },
-    Refused(Refusal),
+#[derive(Clone, Copy, Debug, PartialEq, Eq)]
+pub struct FoundMessage {
+    pub start: usize,
+    pub len: usize,
+    pub from: usize,
+    pub to: usize,
+    pub message: Message,
 }
 
 // What a frame says, its content, is a tag and a payload: the digits of a link or a press, Nest's payload, Nibe's data, Homiq's CMD to
 // TYPE. A tail takes nothing from the payload.
-#[derive(Clone, Copy)]
+#[derive(Clone, Copy, Debug, PartialEq, Eq)]
 pub enum Tag {
     Link,
     Press,
@@ -71,72 +65,45 @@ pub enum Tag {
     Homiq,
 }
 
-// What a content means: its message.
-#[derive(Clone, Copy)]
-pub enum Meant {
-    Is(Message),
-    Refused(Refusal),
-}
-
-// How a message stands, with what is beside it: it is one of the table, or why it is not.
-#[derive(Clone, Copy)]
-pub enum Standing {
-    Good,
-    Refused(Refusal),
-}
-
 // The message of one frame. Refusals: 2 for a kind that is not known, 5 for anything else than one frame.
-pub fn decode(kind: u8, frame: &[u8]) -> Decoded
+pub fn decode(kind: u8, frame: &[u8]) -> Result<Decoded, Refusal>
     ensures { Decodes kind frame.now result }
 {
-    match kinds::of(kind) {
-        Resolved::Is(known) => decode_as(known, frame),
-        Resolved::Unknown => Decoded::Refused(Refusal::NoKind),
-    }
+    decode_as(kinds::of(kind).ok_or(Refusal::NoKind)?, frame)
 }
 
-fn decode_as(kind: Kind, frame: &[u8]) -> Decoded
+fn decode_as(kind: Kind, frame: &[u8]) -> Result<Decoded, Refusal>
     ensures { Decodes (number_of kind) frame.now result }
 {
-    match frames::one_frame(kinds::number(kind), frame) {
-        FramePayload::Is { from, to } => Decoded::Is {
-            message: message_in(kind, frame, from, to),
-            from: from,
-            to: to,
-        },
-        FramePayload::Refused(why) => Decoded::Refused(why),
-    }
+    let payload = frames::one_frame(kinds::number(kind), frame)?;
+    Ok(Decoded {
+        message: message_in(kind, frame, payload.from, payload.to),
+        from: payload.from,
+        to: payload.to,
+    })
 }
 
 // The frame with the smallest start at or after the place, and its message: search and decoder in one pass. Refusals: those of the
 // search.
-pub fn find(kind: u8, buffer: &[u8], place: usize) -> FoundMessage
+pub fn find(kind: u8, buffer: &[u8], place: usize) -> Result<FoundMessage, Refusal>
     ensures { Finds kind buffer.now place result }
 {
-    match kinds::of(kind) {
-        Resolved::Is(known) => find_as(known, buffer, place),
-        Resolved::Unknown => FoundMessage::Refused(Refusal::NoKind),
-    }
+    find_as(kinds::of(kind).ok_or(Refusal::NoKind)?, buffer, place)
 }
 
-fn find_as(kind: Kind, buffer: &[u8], place: usize) -> FoundMessage
+fn find_as(kind: Kind, buffer: &[u8], place: usize) -> Result<FoundMessage, Refusal>
     ensures { Finds (number_of kind) buffer.now place result }
 {
-    match frames::search(kinds::number(kind), buffer, place) {
-        Found::At {
-            start,
-            len,
-            from,
-            to,
-        } => FoundMessage::At {
-            start: start,
-            len: len,
-            from: from,
-            to: to,
-            message: message_in(kind, &buffer[start..start + len], from - start, to - start),
-        },
-        Found::Refused(why) => FoundMessage::Refused(why),
-    }
+    let found = frames::search(kinds::number(kind), buffer, place)?;
+    let start = found.start;
+    let frame = &buffer[start..start + found.len];
+    Ok(FoundMessage {
+        start: start,
+        len: found.len,
+        from: found.from,
+        to: found.to,
+        message: message_in(kind, frame, found.from - start, found.to - start),
+    })
 }
 
 // What stands beside the message of one frame, as a part of it; empty for a refusal.
@@ -144,8 +111,8 @@ pub fn content(kind: u8, frame: &[u8]) -> &[u8]
     ensures { Contents kind frame.entry result }
 {
     match frames::one_frame(kind, frame) {
-        FramePayload::Is { from, to } => &frame[from..to],
-        FramePayload::Refused(why) => &frame[0..0],
+        Ok(payload) => &frame[payload.from..payload.to],
+        Err(_) => &frame[0..0],
     }
 }
 
@@ -167,13 +134,13 @@ fn message_in(kind: Kind, frame: &[u8], from: usize, to: usize) -> Message
 }
 
 // The message of a content. Refusal: 5 for a field outside its limits.
-pub fn of(tag: Tag, payload: &[u8]) -> Meant
+pub fn of(tag: Tag, payload: &[u8]) -> Result<Message, Refusal>
     ensures { Means (ContentWith tag payload.now) result }
 {
     match tag {
         Tag::Link => nikobus::of_link(payload),
         Tag::Press => nikobus::of_press(payload),
-        Tag::Tail => Meant::Is(Message::Nikobus(Nikobus::Tail)),
+        Tag::Tail => Ok(Message::Nikobus(Nikobus::Tail)),
         Tag::Command { id } => nest::of_command(id, payload),
         Tag::Response { id } => nest::of_response(id, payload),
         Tag::Nibe { command } => nibe::of(command, payload),
@@ -183,11 +150,12 @@ pub fn of(tag: Tag, payload: &[u8]) -> Meant
 
 // Whether a message, with what stands beside it, is one of the table. Refusals: 5 for a field outside its limits, 6 for the content of a
 // message above it.
-pub fn allowed(message: Message, content: &[u8]) -> Standing
+pub fn allowed(message: Message, content: &[u8]) -> Result<(), Refusal>
     ensures { Allows message content.now result }
 {
     match message {
         Message::Nikobus(m) => nikobus::allowed(m, content),
+        // (A field that is not read is named here: the proof knows the range of a field only by its name.)
         Message::Command { id } => limits::standing(nest::is_short(content)),
         Message::Response(m) => nest::allowed(m, content),
         Message::Nibe(m) => nibe::allowed(m, content),

@@ -1,24 +1,24 @@
 // Nest: the messages of responses, what the panel is shown of them, and a state's voltages.
-ghost use Rattle.std.specs.Prelude.{◌≡◌, [], ◌+◌, ◌≤◌, length};
+ghost use Rattle.std.specs.Prelude.{◌≡◌, ◌+◌, ◌≤◌, length};
 ghost use Rattle.digits.specs.Paper.Read.{Decides};
 ghost use Rattle.layouts.specs.Paper.Chars.{one_of};
 ghost use Rattle.messages.specs.Paper.Allowed.{StandsSo};
 ghost use Rattle.messages.specs.Paper.Meant.{Means, CommandWith, ResponseWith};
-ghost use Rattle.messages.specs.Paper.Message.{state, text, response, row as row_of};
+ghost use Rattle.messages.specs.Paper.Message.{state, text, response};
 ghost use Rattle.messages.specs.Paper.Panel.{ShowsPair, ReadsVolts};
 ghost use Rattle.messages.specs.Paper.Says.{of_response};
 ghost use Rattle.messages.specs.Paper.Table.{text_ids};
 ghost use Rattle.messages.specs.Work.Answers.{Only};
 ghost use Rattle.messages.specs.Work.Look.{signed_at, is_climate, is_state, is_break, is_end, look_response};
 
-use super::{Meant, Message, Standing, words};
+use super::{Message, words};
 use digits::refusal::Refusal;
 use digits::slices;
 use numbers::panel;
 use numbers::panel::Climate;
 
 // Beside a state, a text and a response stands the payload.
-#[derive(Clone, Copy)]
+#[derive(Clone, Copy, Debug, PartialEq, Eq)]
 pub enum Response {
     Climate { temperature: i16, humidity: u16 },
     State,
@@ -28,144 +28,118 @@ pub enum Response {
     Other { id: u16 },
 }
 
-// What the panel is shown of a response: a climate's counts.
-#[derive(Clone, Copy)]
-pub enum Pair {
-    Is(Climate),
-    Refused(Refusal),
-}
-
 // A state's voltages: Vin in hundredths, Vop and Vbat as they stand in the payload.
-#[derive(Clone, Copy)]
-pub enum Volts {
-    Are { vin: u16, vop: u16, vbat: u16 },
-    Refused(Refusal),
+#[derive(Clone, Copy, Debug, PartialEq, Eq)]
+pub struct Volts {
+    pub vin: u16,
+    pub vop: u16,
+    pub vbat: u16,
 }
 
 // The message of a command with this id and payload; 5 if the payload is longer than 1,024 bytes.
-pub(crate) fn of_command(id: u16, payload: &[u8]) -> Meant
+pub(crate) fn of_command(id: u16, payload: &[u8]) -> Result<Message, Refusal>
     ensures { Means (CommandWith id payload.now) result }
 {
     if !is_short(payload) {
-        return Meant::Refused(Refusal::OutOfLimits);
+        return Err(Refusal::OutOfLimits);
     }
-    Meant::Is(Message::Command { id: id })
+    Ok(Message::Command { id: id })
 }
 
 // The message of a response with this id and payload; 5 if the payload is longer than 1,024 bytes.
-pub(crate) fn of_response(id: u16, payload: &[u8]) -> Meant
+pub(crate) fn of_response(id: u16, payload: &[u8]) -> Result<Message, Refusal>
     ensures { Means (ResponseWith id payload.now) result }
 {
     if !is_short(payload) {
-        return Meant::Refused(Refusal::OutOfLimits);
+        return Err(Refusal::OutOfLimits);
     }
-    Meant::Is(Message::Response(message(id, payload)))
+    Ok(Message::Response(message(id, payload)))
 }
 
 // Whether a response, with this payload beside it, is one of the table.
-pub(crate) fn allowed(message: Response, payload: &[u8]) -> Standing
+pub(crate) fn allowed(message: Response, payload: &[u8]) -> Result<(), Refusal>
     ensures { StandsSo (Only (of_response message payload.now)) result }
 {
     match message {
+        // (Fields that are not read are named here: the proof knows the range of a field only by its name.)
         Response::Climate {
             temperature,
             humidity,
-        } => Standing::Good,
+        } => Ok(()),
         Response::State => state_allowed(payload),
-        Response::Break => Standing::Good,
-        Response::End => Standing::Good,
+        Response::Break => Ok(()),
+        Response::End => Ok(()),
         Response::Text { id } => text_allowed(id, payload),
         Response::Other { id } => response_allowed(id, payload),
     }
 }
 
-fn state_allowed(payload: &[u8]) -> Standing
+fn state_allowed(payload: &[u8]) -> Result<(), Refusal>
     ensures { StandsSo (Only (state payload.now)) result }
 {
     if payload.len() < 16 {
-        return Standing::Refused(Refusal::OutOfLimits);
+        return Err(Refusal::OutOfLimits);
     }
     if !is_short(payload) {
-        return Standing::Refused(Refusal::OutOfLimits);
+        return Err(Refusal::OutOfLimits);
     }
-    Standing::Good
+    Ok(())
 }
 
 // Whether a text is one of the table: no message above it has its id and payload.
-fn text_allowed(id: u16, payload: &[u8]) -> Standing
+fn text_allowed(id: u16, payload: &[u8]) -> Result<(), Refusal>
     ensures { StandsSo (Only (text id payload.now)) result }
 {
     if !is_text(id) {
-        return Standing::Refused(Refusal::OutOfLimits);
+        return Err(Refusal::OutOfLimits);
     }
     if !is_short(payload) {
-        return Standing::Refused(Refusal::OutOfLimits);
+        return Err(Refusal::OutOfLimits);
     }
-    if row(message(id, payload)) < row(Response::Text { id: id }) {
-        return Standing::Refused(Refusal::ContentAbove);
+    match message(id, payload) {
+        Response::Text { .. } | Response::Other { .. } => Ok(()),
+        _ => Err(Refusal::ContentAbove),
     }
-    Standing::Good
 }
 
 // Whether any other response is one of the table: no message above it has its id and payload.
-fn response_allowed(id: u16, payload: &[u8]) -> Standing
+fn response_allowed(id: u16, payload: &[u8]) -> Result<(), Refusal>
     ensures { StandsSo (Only (response id payload.now)) result }
 {
     if !is_short(payload) {
-        return Standing::Refused(Refusal::OutOfLimits);
+        return Err(Refusal::OutOfLimits);
     }
-    if row(message(id, payload)) < row(Response::Other { id: id }) {
-        return Standing::Refused(Refusal::ContentAbove);
-    }
-    Standing::Good
-}
-
-// The row of a response in the table.
-fn row(message: Response) -> u8
-    ensures { result ≡ row_of (of_response message []) }
-{
-    match message {
-        Response::Climate {
-            temperature,
-            humidity,
-        } => 8,
-        Response::State => 9,
-        Response::Break => 10,
-        Response::End => 11,
-        Response::Text { id } => 12,
-        Response::Other { id } => 13,
+    match message(id, payload) {
+        Response::Other { .. } => Ok(()),
+        _ => Err(Refusal::ContentAbove),
     }
 }
 
 // A climate message's counts for the panel; 5 for another message.
-pub fn for_panel(message: Response) -> Pair
+pub fn for_panel(message: Response) -> Result<Climate, Refusal>
     ensures { ShowsPair message result }
 {
     match message {
         Response::Climate {
             temperature,
             humidity,
-        } => Pair::Is(panel::pair(temperature, humidity)),
-        Response::State => Pair::Refused(Refusal::OutOfLimits),
-        Response::Break => Pair::Refused(Refusal::OutOfLimits),
-        Response::End => Pair::Refused(Refusal::OutOfLimits),
-        Response::Text { id } => Pair::Refused(Refusal::OutOfLimits),
-        Response::Other { id } => Pair::Refused(Refusal::OutOfLimits),
+        } => Ok(panel::pair(temperature, humidity)),
+        _ => Err(Refusal::OutOfLimits),
     }
 }
 
 // The voltages in a state's payload; 5 for one of fewer than 16 bytes.
-pub fn voltages(payload: &[u8]) -> Volts
+pub fn voltages(payload: &[u8]) -> Result<Volts, Refusal>
     ensures { ReadsVolts payload.now result }
 {
     if payload.len() < 16 {
-        return Volts::Refused(Refusal::OutOfLimits);
+        return Err(Refusal::OutOfLimits);
     }
-    Volts::Are {
+    Ok(Volts {
         vin: words::word(payload, 8),
         vop: words::word(payload, 10),
         vbat: words::word(payload, 12),
-    }
+    })
 }
 
 // The message of a response with this id and payload.
@@ -197,10 +171,7 @@ pub(crate) fn message(id: u16, payload: &[u8]) -> Response
 pub(crate) fn is_short(payload: &[u8]) -> bool
     ensures { Decides (length payload.now ≤ 1024) result }
 {
-    if payload.len() <= 1024 {
-        return true;
-    }
-    false
+    payload.len() <= 1024
 }
 
 fn is_climate(id: u16, payload: &[u8]) -> bool
@@ -238,9 +209,5 @@ fn signed_at(s: &[u8], at: usize) -> i16
     requires { at + 2 ≤ length s.now }
     ensures { result ≡ signed_at at s.now }
 {
-    let n = words::word(s, at);
-    if n < 32768 {
-        return n as i16;
-    }
-    (n as i32 - 65536) as i16
+    words::word(s, at).cast_signed()
 }

@@ -1,18 +1,17 @@
 // Nibe: the messages of the heat pump's bus.
-ghost use Rattle.std.specs.Prelude.{◌≡◌, [], ◌-◌, ◌≤◌, ◌<◌, length};
+ghost use Rattle.std.specs.Prelude.{◌≡◌, ◌-◌, ◌≤◌, length};
 ghost use Rattle.digits.specs.Paper.LowFirst.{Width, Held};
 ghost use Rattle.digits.specs.Paper.Read.{Decides};
 ghost use Rattle.digits.specs.Paper.LowFirst.{low_value};
 ghost use Rattle.messages.specs.Paper.Allowed.{StandsSo};
 ghost use Rattle.messages.specs.Paper.Meant.{Means, NibeWith};
-ghost use Rattle.messages.specs.Paper.Message.{nibe, row as row_of};
+ghost use Rattle.messages.specs.Paper.Message.{nibe};
 ghost use Rattle.messages.specs.Paper.Says.{of_nibe};
 ghost use Rattle.messages.specs.Work.Answers.{Only};
 ghost use Rattle.messages.specs.Work.Look.{is_ask, is_valued, is_done, ValuedIn, look_nibe};
 
-use super::{Meant, Message, Standing, limits, words};
+use super::{Message, limits, words};
 use digits::low_first;
-use digits::low_first::Number;
 use digits::refusal::Refusal;
 use layouts::nibe;
 
@@ -20,7 +19,7 @@ use layouts::nibe;
 const MOST: usize = 255;
 
 // A register, and a value of `width` bytes.
-#[derive(Clone, Copy)]
+#[derive(Clone, Copy, Debug, PartialEq, Eq)]
 pub struct Valued {
     pub register: u16,
     pub width: u8,
@@ -28,7 +27,7 @@ pub struct Valued {
 }
 
 // Beside `Other` stand its data.
-#[derive(Clone, Copy)]
+#[derive(Clone, Copy, Debug, PartialEq, Eq)]
 pub enum Nibe {
     Ask { register: u16 },
     Reply(Valued),
@@ -38,57 +37,45 @@ pub enum Nibe {
 }
 
 // The message of a command with these data; 5 if there is no such command, or the data are longer than 255 bytes.
-pub(crate) fn of(command: u8, content: &[u8]) -> Meant
+pub(crate) fn of(command: u8, content: &[u8]) -> Result<Message, Refusal>
     ensures { Means (NibeWith command content.now) result }
 {
     if !nibe::is_command(command) {
-        return Meant::Refused(Refusal::OutOfLimits);
+        return Err(Refusal::OutOfLimits);
     }
     if MOST < content.len() {
-        return Meant::Refused(Refusal::OutOfLimits);
+        return Err(Refusal::OutOfLimits);
     }
-    Meant::Is(Message::Nibe(message(command, content)))
+    Ok(Message::Nibe(message(command, content)))
 }
 
 // Whether a message, with these data beside it, is one of the table.
-pub(crate) fn allowed(message: Nibe, content: &[u8]) -> Standing
+pub(crate) fn allowed(message: Nibe, content: &[u8]) -> Result<(), Refusal>
     ensures { StandsSo (Only (of_nibe message content.now)) result }
 {
     match message {
-        Nibe::Ask { register } => Standing::Good,
+        // (Fields that are not read are named here: the proof knows the range of a field only by its name.)
+        Nibe::Ask { register } => Ok(()),
         Nibe::Reply(v) => limits::standing(holds(v.width, v.value)),
         Nibe::Put(v) => limits::standing(holds(v.width, v.value)),
-        Nibe::Done { ok } => Standing::Good,
+        Nibe::Done { .. } => Ok(()),
         Nibe::Other { command } => plain_allowed(command, content),
     }
 }
 
 // Whether any other command with these data is one of the table: no message above has them.
-fn plain_allowed(command: u8, content: &[u8]) -> Standing
+fn plain_allowed(command: u8, content: &[u8]) -> Result<(), Refusal>
     ensures { StandsSo (Only (nibe command content.now)) result }
 {
     if !nibe::is_command(command) {
-        return Standing::Refused(Refusal::OutOfLimits);
+        return Err(Refusal::OutOfLimits);
     }
     if MOST < content.len() {
-        return Standing::Refused(Refusal::OutOfLimits);
+        return Err(Refusal::OutOfLimits);
     }
-    if row(message(command, content)) < row(Nibe::Other { command: command }) {
-        return Standing::Refused(Refusal::ContentAbove);
-    }
-    Standing::Good
-}
-
-// The row of a message in the table.
-fn row(message: Nibe) -> u8
-    ensures { result ≡ row_of (of_nibe message []) }
-{
-    match message {
-        Nibe::Ask { register } => 14,
-        Nibe::Reply(v) => 15,
-        Nibe::Put(v) => 16,
-        Nibe::Done { ok } => 17,
-        Nibe::Other { command } => 18,
+    match message(command, content) {
+        Nibe::Other { .. } => Ok(()),
+        _ => Err(Refusal::ContentAbove),
     }
 }
 
@@ -96,31 +83,11 @@ fn row(message: Nibe) -> u8
 fn holds(width: u8, value: u32) -> bool
     ensures { Decides (Held width value) result }
 {
-    if width == 1 {
-        return below(value, 256);
+    match width {
+        1 => value < 256,
+        2 => value < 65536,
+        _ => width == 4,
     }
-    if width == 2 {
-        return below(value, 65536);
-    }
-    is_four(width)
-}
-
-fn below(n: u32, most: u32) -> bool
-    ensures { Decides (n < most) result }
-{
-    if n < most {
-        return true;
-    }
-    false
-}
-
-fn is_four(n: u8) -> bool
-    ensures { Decides (n ≡ 4) result }
-{
-    if n == 4 {
-        return true;
-    }
-    false
 }
 
 // The message of a frame with this command and these data.
@@ -183,8 +150,5 @@ fn value_of(s: &[u8]) -> u32
     requires { Width (length s.now) }
     ensures { result ≡ low_value s.now }
 {
-    match low_first::number_of(s) {
-        Number::Is(n) => n,
-        Number::Width => 0,
-    }
+    low_first::number_of(s).unwrap_or(0)
 }

@@ -1,25 +1,24 @@
 // Nikobus: the messages of links, presses and tails.
-ghost use Rattle.std.specs.Prelude.{◌≡◌, ◌||◌, [], ◌+◌, ◌*◌, ◌≤◌, T, eqb, length};
+ghost use Rattle.std.specs.Prelude.{◌≡◌, ◌+◌, ◌*◌, ◌≤◌, T, length};
 ghost use Rattle.digits.specs.Paper.Read.{Decides};
 ghost use Rattle.layouts.specs.Paper.Chars.{all, is_hex};
 ghost use Rattle.messages.specs.Paper.Allowed.{StandsSo};
 ghost use Rattle.messages.specs.Paper.Meant.{Means, LinkWith, PressWith};
-ghost use Rattle.messages.specs.Paper.Message.{press, row as row_of};
-ghost use Rattle.messages.specs.Paper.Says.{six, of_nikobus, SaysNikobus};
+ghost use Rattle.messages.specs.Paper.Message.{press};
+ghost use Rattle.messages.specs.Paper.Says.{six, SaysNikobus};
 ghost use Rattle.messages.specs.Paper.Table.{Group};
 ghost use Rattle.messages.specs.Work.Answers.{Only};
 ghost use Rattle.messages.specs.Work.Look.{group_of};
 ghost use Rattle.messages.specs.declared.nikobus.Nikobus.TheVariants.{Link};
 ghost use Rattle.messages.specs.Work.Nikobus.{NikobusFrame, NikobusSaid, LinkDigits, LinkSaid, ByteAt, WordAt, SixAt};
 
-use super::{Meant, Message, Standing, limits};
+use super::{Message, limits};
 use digits::hex;
-use digits::hex::Byte;
 use digits::refusal::Refusal;
 use layouts::nikobus;
 
 // Six bytes: the values of a module's outputs, or a press's digits.
-#[derive(Clone, Copy)]
+#[derive(Clone, Copy, Debug, PartialEq, Eq)]
 pub struct Six {
     pub a: u8,
     pub b: u8,
@@ -30,7 +29,7 @@ pub struct Six {
 }
 
 // A module's address is the number that its two bytes are, low byte first. Beside a link stand its digits.
-#[derive(Clone, Copy)]
+#[derive(Clone, Copy, Debug, PartialEq, Eq)]
 pub enum Nikobus {
     Read { group: u8, address: u16 },
     Set { group: u8, address: u16, out: Six },
@@ -41,30 +40,31 @@ pub enum Nikobus {
 }
 
 // The message of a link with these digits; 5 if they are not those of 1 to 122 bytes.
-pub(crate) fn of_link(digits: &[u8]) -> Meant
+pub(crate) fn of_link(digits: &[u8]) -> Result<Message, Refusal>
     ensures { Means (LinkWith digits.now) result }
 {
     if !is_link(digits) {
-        return Meant::Refused(Refusal::OutOfLimits);
+        return Err(Refusal::OutOfLimits);
     }
-    Meant::Is(Message::Nikobus(linked(digits)))
+    Ok(Message::Nikobus(linked(digits)))
 }
 
 // The message of a press with these digits; 5 if they are not six.
-pub(crate) fn of_press(digits: &[u8]) -> Meant
+pub(crate) fn of_press(digits: &[u8]) -> Result<Message, Refusal>
     ensures { Means (PressWith digits.now) result }
 {
     if !is_press(digits) {
-        return Meant::Refused(Refusal::OutOfLimits);
+        return Err(Refusal::OutOfLimits);
     }
-    Meant::Is(Message::Nikobus(Nikobus::Press(pressed(digits))))
+    Ok(Message::Nikobus(Nikobus::Press(pressed(digits))))
 }
 
 // Whether a message, with a link's digits beside it, is one of the table.
-pub(crate) fn allowed(message: Nikobus, digits: &[u8]) -> Standing
+pub(crate) fn allowed(message: Nikobus, digits: &[u8]) -> Result<(), Refusal>
     ensures { StandsSo (SaysNikobus message digits.now) result }
 {
     match message {
+        // (Fields that are not read are named here: the proof knows the range of a field only by its name.)
         Nikobus::Read { group, address } => limits::standing(is_group(group)),
         Nikobus::Set {
             group,
@@ -75,14 +75,14 @@ pub(crate) fn allowed(message: Nikobus, digits: &[u8]) -> Standing
             address,
             third,
             out,
-        } => Standing::Good,
+        } => Ok(()),
         Nikobus::Press(six) => press_allowed(six),
-        Nikobus::Tail => Standing::Good,
+        Nikobus::Tail => Ok(()),
         Nikobus::Link => link_allowed(digits),
     }
 }
 
-fn press_allowed(digits: Six) -> Standing
+fn press_allowed(digits: Six) -> Result<(), Refusal>
     ensures { StandsSo (Only (press (six digits))) result }
 {
     let chars = [digits.a, digits.b, digits.c, digits.d, digits.e, digits.f];
@@ -90,37 +90,15 @@ fn press_allowed(digits: Six) -> Standing
 }
 
 // Whether a link is one of the table: no message above it has its payload.
-fn link_allowed(digits: &[u8]) -> Standing
+fn link_allowed(digits: &[u8]) -> Result<(), Refusal>
     ensures { StandsSo (SaysNikobus Link digits.now) result }
 {
     if !is_link(digits) {
-        return Standing::Refused(Refusal::OutOfLimits);
+        return Err(Refusal::OutOfLimits);
     }
-    if row(linked(digits)) < row(Nikobus::Link) {
-        return Standing::Refused(Refusal::ContentAbove);
-    }
-    Standing::Good
-}
-
-// The row of a message in the table.
-fn row(message: Nikobus) -> u8
-    ensures { result ≡ row_of (of_nikobus message []) }
-{
-    match message {
-        Nikobus::Read { group, address } => 1,
-        Nikobus::Set {
-            group,
-            address,
-            out,
-        } => 2,
-        Nikobus::Answer {
-            address,
-            third,
-            out,
-        } => 3,
-        Nikobus::Press(six) => 4,
-        Nikobus::Tail => 5,
-        Nikobus::Link => 6,
+    match linked(digits) {
+        Nikobus::Link => Ok(()),
+        _ => Err(Refusal::ContentAbove),
     }
 }
 
@@ -129,13 +107,7 @@ fn is_link(digits: &[u8]) -> bool
     ensures { Decides (LinkDigits digits.now) result }
 {
     let n = digits.len();
-    if n < 2 {
-        return false;
-    }
-    if 244 < n {
-        return false;
-    }
-    if n % 2 != 0 {
+    if n < 2 || 244 < n || n % 2 != 0 {
         return false;
     }
     nikobus::all_digits(digits)
@@ -145,23 +117,14 @@ fn is_link(digits: &[u8]) -> bool
 fn is_press(digits: &[u8]) -> bool
     ensures { Decides ((length digits.now ≡ 6) × T (all is_hex digits.now)) result }
 {
-    if digits.len() != 6 {
-        return false;
-    }
-    nikobus::all_digits(digits)
+    digits.len() == 6 && nikobus::all_digits(digits)
 }
 
 // Whether a module has this group.
 fn is_group(group: u8) -> bool
     ensures { Decides (Group group) result }
 {
-    if group == 1 {
-        return true;
-    }
-    if group == 2 {
-        return true;
-    }
-    false
+    group == 1 || group == 2
 }
 
 // The message of a frame with this payload.
@@ -198,37 +161,24 @@ fn linked(digits: &[u8]) -> Nikobus
     requires { LinkDigits digits.now }
     ensures { LinkSaid digits.now result }
 {
-    let n = digits.len() / 2;
     let code = byte_at(digits, 0);
-    if n == 3 {
-        if is_one_of(code, 0x12, 0x17) {
-            return Nikobus::Read {
-                group: group_of(code, 0x12),
-                address: word_at(digits, 1),
-            };
-        }
-        return Nikobus::Link;
-    }
-    if n == 9 {
-        return Nikobus::Answer {
+    match digits.len() / 2 {
+        3 if code == 0x12 || code == 0x17 => Nikobus::Read {
+            group: group_of(code, 0x12),
+            address: word_at(digits, 1),
+        },
+        9 => Nikobus::Answer {
             address: word_at(digits, 0),
             third: byte_at(digits, 2),
             out: six_at(digits),
-        };
+        },
+        10 if (code == 0x15 || code == 0x16) && byte_at(digits, 9) == 0xFF => Nikobus::Set {
+            group: group_of(code, 0x15),
+            address: word_at(digits, 1),
+            out: six_at(digits),
+        },
+        _ => Nikobus::Link,
     }
-    if n == 10 {
-        if is_one_of(code, 0x15, 0x16) {
-            if byte_at(digits, 9) == 0xFF {
-                return Nikobus::Set {
-                    group: group_of(code, 0x15),
-                    address: word_at(digits, 1),
-                    out: six_at(digits),
-                };
-            }
-        }
-        return Nikobus::Link;
-    }
-    Nikobus::Link
 }
 
 // The byte with this number that digits are.
@@ -236,10 +186,7 @@ fn byte_at(digits: &[u8], i: usize) -> u8
     requires { i * 2 + 2 ≤ length digits.now }
     ensures { ByteAt digits.now i result }
 {
-    match hex::byte_of(digits[i * 2], digits[i * 2 + 1]) {
-        Byte::Is(b) => b,
-        Byte::NoDigit => 0,
-    }
+    hex::byte_of(digits[i * 2], digits[i * 2 + 1]).unwrap_or(0)
 }
 
 // The number of two bytes from a place on, low byte first.
@@ -247,7 +194,7 @@ fn word_at(digits: &[u8], i: usize) -> u16
     requires { i * 2 + 4 ≤ length digits.now }
     ensures { WordAt digits.now i result }
 {
-    byte_at(digits, i) as u16 + 256 * byte_at(digits, i + 1) as u16
+    u16::from_le_bytes([byte_at(digits, i), byte_at(digits, i + 1)])
 }
 
 // The six values behind the first three bytes.
@@ -263,12 +210,6 @@ fn six_at(digits: &[u8]) -> Six
         e: byte_at(digits, 7),
         f: byte_at(digits, 8),
     }
-}
-
-fn is_one_of(code: u8, first: u8, second: u8) -> bool
-    ensures { result ≡ (eqb code first || eqb code second) }
-{
-    code == first || code == second
 }
 
 // The group of a code; `first` is the code of group 1.

@@ -7,5 +7,5 @@ pub(crate) fn word(s: &[u8], at: usize) -> u16
     requires { at + 2 ≤ length s.now }
     ensures { result ≡ u16_at at s.now }
 {
-    s[at] as u16 + 256 * s[at + 1] as u16
+    u16::from_le_bytes([s[at], s[at + 1]])
 }

@@ -10,45 +10,37 @@ ghost use Rattle.numbers.specs.Paper.ByteValues.{stands_below, of_twos};
 
 use super::raw;
 use digits::low_first;
-use digits::low_first::Number;
 use digits::refusal::Refusal;
 use puts::Written;
-
-// What bytes are read as.
-#[derive(Clone, Copy)]
-pub enum Value {
-    Is(i64),
-    Refused(Refusal),
-}
 
 // Writes a number as `width` bytes from the front of the room.
 pub fn write(raw: i64, width: usize, signed: bool, room: &mut [u8]) -> Written
     ensures { Writes (ValueCause width signed raw (length room.old)) (value_bytes width raw) room.old result room.new }
 {
     if !is_width(width) {
-        return Written::Refused(Refusal::BadForm);
+        return Err(Refusal::BadForm);
     }
     if !holds(raw, width, signed) {
-        return Written::Refused(Refusal::OutOfLimits);
+        return Err(Refusal::OutOfLimits);
     }
     let four = low_first::four(in_twos(raw, width));
     puts::front(&four[0..width], room)
 }
 
 // The number that `width` bytes are.
-pub fn read(s: &[u8], width: usize, signed: bool) -> Value
+pub fn read(s: &[u8], width: usize, signed: bool) -> Result<i64, Refusal>
     ensures { AnswersValue width signed s.now result }
 {
     if !is_width(width) {
-        return Value::Refused(Refusal::BadForm);
+        return Err(Refusal::BadForm);
     }
     if s.len() != width {
-        return Value::Refused(Refusal::OutOfLimits);
+        return Err(Refusal::OutOfLimits);
     }
-    let Number::Is(n) = low_first::number_of(s) else {
-        return Value::Refused(Refusal::OutOfLimits);
+    let Some(n) = low_first::number_of(s) else {
+        return Err(Refusal::OutOfLimits);
     };
-    Value::Is(of_twos(n, width, signed))
+    Ok(of_twos(n, width, signed))
 }
 
 fn is_width(width: usize) -> bool

@@ -8,34 +8,27 @@ use super::{raw, single};
 use digits::refusal::Refusal;
 
 // A raw number, as a single float if it fits and as a double otherwise.
-#[derive(Clone, Copy)]
+#[derive(Clone, Copy, Debug, PartialEq)]
 pub enum Value {
     Single(f32),
     Double(f64),
 }
 
-// What the panel is shown of a number.
-#[derive(Clone, Copy)]
-pub enum Shown {
-    Is(Value),
-    Refused(Refusal),
-}
-
 // A climate message's counts.
-#[derive(Clone, Copy)]
+#[derive(Clone, Copy, Debug, PartialEq)]
 pub struct Climate {
     pub temperature: f32,
     pub humidity: f32,
 }
 
 // The raw number for the panel.
-pub fn of(raw: i64) -> Shown
+pub fn of(raw: i64) -> Result<Value, Refusal>
     ensures { AnswersPanel raw result }
 {
     if !raw::in_range(raw) {
-        return Shown::Refused(Refusal::OutOfLimits);
+        return Err(Refusal::OutOfLimits);
     }
-    Shown::Is(in_range_of(raw))
+    Ok(in_range_of(raw))
 }
 
 // A climate message's counts for the panel. (A single holds every number of 16 bits.)

@@ -7,21 +7,14 @@ ghost use Rattle.numbers.specs.Paper.Answers.{AnswersFits};
 use super::raw;
 use digits::refusal::Refusal;
 
-// Whether a single float holds a number.
-#[derive(Clone, Copy)]
-pub enum Fit {
-    Is(bool),
-    Refused(Refusal),
-}
-
 // Whether a single float holds the raw number.
-pub fn fits(raw: i64) -> Fit
+pub fn fits(raw: i64) -> Result<bool, Refusal>
     ensures { AnswersFits raw result }
 {
     if !raw::in_range(raw) {
-        return Fit::Refused(Refusal::OutOfLimits);
+        return Err(Refusal::OutOfLimits);
     }
-    Fit::Is(in_range_fits(raw))
+    Ok(in_range_fits(raw))
 }
 
 // The same of a number in range: of its 32 bits, the zeros before the first one and behind the last leave 24 at most.

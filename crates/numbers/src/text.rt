@@ -14,14 +14,14 @@ use digits::{decimal, slices};
 use puts::Written;
 
 // What a text is read as: a number and its decimals.
-#[derive(Clone, Copy)]
-pub enum Reading {
-    Is(i64, u32),
-    Refused(Refusal),
+#[derive(Clone, Copy, Debug, PartialEq, Eq)]
+pub struct Reading {
+    pub raw: i64,
+    pub decimals: u32,
 }
 
-// A text at the front of twelve characters.
-#[derive(Clone, Copy)]
+// A text at the front of twelve characters. (A buffer with its length, not a String: the library uses no heap.)
+#[derive(Clone, Copy, Debug, PartialEq, Eq)]
 struct Text {
     chars: [u8; 12],
     len: usize,
@@ -34,10 +34,10 @@ pub fn write(raw: i64, decimals: u32, room: &mut [u8]) -> Written
     let few = decimals <= 3;
     let in_range = raw::in_range(raw);
     if !few {
-        return Written::Refused(Refusal::BadForm);
+        return Err(Refusal::BadForm);
     }
     if !in_range {
-        return Written::Refused(Refusal::OutOfLimits);
+        return Err(Refusal::OutOfLimits);
     }
     let t = text_of(raw, decimals);
     let chars = t.chars;
@@ -46,24 +46,27 @@ pub fn write(raw: i64, decimals: u32, room: &mut [u8]) -> Written
 }
 
 // The number whose text t is, with its decimals.
-pub fn read(t: &[u8]) -> Reading
+pub fn read(t: &[u8]) -> Result<Reading, Refusal>
     ensures { ReadsText t.now result }
 {
     if 12 < t.len() {
-        return Reading::Refused(Refusal::BadForm);
+        return Err(Refusal::BadForm);
     }
     let decimals = after_point(t);
     if 3 < decimals {
-        return Reading::Refused(Refusal::BadForm);
+        return Err(Refusal::BadForm);
     }
     let raw = raw::with_sign(minus_first(t), number_in(t));
     if !raw::in_range(raw) {
-        return Reading::Refused(Refusal::BadForm);
+        return Err(Refusal::BadForm);
     }
     if is_text(raw, decimals as u32, t) {
-        return Reading::Is(raw, decimals as u32);
+        return Ok(Reading {
+            raw,
+            decimals: decimals as u32,
+        });
     }
-    Reading::Refused(Refusal::BadForm)
+    Err(Refusal::BadForm)
 }
 
 // The text of a raw number.
@@ -149,12 +152,10 @@ fn is_text(raw: i64, decimals: u32, t: &[u8]) -> bool
 fn after_point(t: &[u8]) -> usize
     ensures { result ≡ behind t.now }
 {
-    let mut i = 0;
-    while i < t.len() {
+    for i in 0..t.len() {
         if t[i] == b'.' {
             return t.len() - (i + 1);
         }
-        i += 1;
     }
     0
 }
@@ -174,10 +175,8 @@ fn number_in(t: &[u8]) -> u64
     ensures { (result ≡ value 0 t.now) × (result < 2 ^ 48) }
 {
     let mut n: u64 = 0;
-    let mut i = 0;
-    while i < t.len() {
-        n = stepped(n, t[i]);
-        i += 1;
+    for c in t {
+        n = stepped(n, *c);
     }
     n
 }

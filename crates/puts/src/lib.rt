@@ -13,11 +13,7 @@ use digits::refusal::Refusal;
 use digits::{decimal, hex};
 
 // What a call answers that writes into a lent room: how many bytes it wrote, or why it wrote none.
-#[derive(Clone, Copy)]
-pub enum Written {
-    Bytes(usize),
-    Refused(Refusal),
-}
+pub type Written = Result<usize, Refusal>;
 
 // Writes the bytes of s from the front of the room: all of them, or none if the room is too short.
 pub fn front(s: &[u8], room: &mut [u8]) -> Written
@@ -26,9 +22,9 @@ pub fn front(s: &[u8], room: &mut [u8]) -> Written
     let n = all_or_none(s.len(), room.len());
     bytes(&s[0..n], room, 0);
     if n < s.len() {
-        return Written::Refused(Refusal::NoRoom);
+        return Err(Refusal::NoRoom);
     }
-    Written::Bytes(n)
+    Ok(n)
 }
 
 // How many of n bytes are written.
@@ -69,15 +65,13 @@ pub fn bytes(s: &[u8], room: &mut [u8], at: usize) -> usize
     clipped(s, room, at)
 }
 
-// Copies the bytes of s to a place of a room that has room for them there.
+// Copies the bytes of s to a place of a room that has room for them there. (Not by `copy_from_slice`: the objects for C would need `memmove`.)
 fn copy(s: &[u8], room: &mut [u8], at: usize)
     requires { at + length s.now ≤ length room.old }
     ensures { room.new ≡ sets room.old at s.now }
 {
-    let mut i = 0;
-    while i < s.len() {
+    for i in 0..s.len() {
         room[at + i] = s[i];
-        i += 1;
     }
 }
 
@@ -86,10 +80,8 @@ fn clipped(s: &[u8], room: &mut [u8], at: usize) -> usize
     ensures { Put room.old room.new at result s.now }
 {
     let mut next = at;
-    let mut i = 0;
-    while i < s.len() {
-        next = byte(s[i], room, next);
-        i += 1;
+    for b in s {
+        next = byte(*b, room, next);
     }
     next
 }
@@ -162,12 +154,10 @@ fn spell(s: &[u8], room: &mut [u8], at: usize)
     requires { at + 2 * length s.now ≤ length room.old }
     ensures { room.new ≡ sets room.old at (hex_bytes s.now) }
 {
-    let mut i = 0;
-    while i < s.len() {
+    for i in 0..s.len() {
         let pair = hex::two_digits(s[i]);
         room[at + 2 * i] = pair[0];
         room[at + 2 * i + 1] = pair[1];
-        i += 1;
     }
 }
 
@@ -176,11 +166,8 @@ fn hex_clipped(s: &[u8], room: &mut [u8], at: usize) -> usize
     ensures { Put room.old room.new at result (hex_bytes s.now) }
 {
     let mut next = at;
-    let mut i = 0;
-    while i < s.len() {
-        let two = hex::two_digits(s[i]);
-        next = bytes(&two, room, next);
-        i += 1;
+    for b in s {
+        next = bytes(&hex::two_digits(*b), room, next);
     }
     next
 }

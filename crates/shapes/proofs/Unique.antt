@@ -4,7 +4,7 @@ use mathlib.Core.List.{List}
 use mathlib.Core.Path.{◌≡◌, sym, ◌∙◌}
 use Prim.Native.Nat.{ℕ}
 use Rattle.puts.proofs.Unique.{one_written}
-use Rattle.puts.specs.declared.Written.{Written}
+use Rattle.puts.specs.Paper.Wrote.{Written}
 use Rattle.shapes.specs.Paper.Members.{names, sort_at, WritesName}
 use Rattle.shapes.specs.Paper.Shapes.{shape_at}
 use Rattle.shapes.specs.declared.Sort.{Sort as Coded}

@@ -12,8 +12,8 @@ use digits::refusal::Refusal;
 use puts::Written;
 
 // What a member's value is to be: a whole number; so many bytes in hex; so many hex digits; bytes in hex; a string; true or false; a reading
-// with so many decimals. `Nothing` of a member that no row has.
-#[derive(Clone, Copy)]
+// with so many decimals. `Nothing` of a member that no row has (and no Option: the promise of `sort_of` is Paper's `sort_at`, which names it).
+#[derive(Clone, Copy, Debug, PartialEq, Eq)]
 pub enum Sort {
     Nothing,
     Number,
@@ -42,7 +42,7 @@ pub fn name_of(row: u8, member: u8, room: &mut [u8]) -> Written
     if row <= 23 {
         return names::homiq(member, room);
     }
-    Written::Refused(Refusal::OutOfLimits)
+    Err(Refusal::OutOfLimits)
 }
 
 // What the value of a member of a row is to be.

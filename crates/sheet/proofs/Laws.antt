@@ -1,3 +1,4 @@
+pub mod Options
 pub mod Chars
 pub mod Rows
 pub mod Carried

@@ -9,8 +9,7 @@ use Rattle.digits.specs.Paper.Refusals.{refusal_order, First, after}
 use Rattle.digits.proofs.Laws.Refusals.{cause-at}
 use Rattle.numbers.proofs.Laws.Values.{size, held_in, in_held}
 use Rattle.puts.specs.Paper.Right.{WroteRight}
-use Rattle.puts.specs.Paper.Wrote.{written_refusal, written_count}
-use Rattle.puts.specs.declared.Written.{Written}
+use Rattle.puts.specs.Paper.Wrote.{written_refusal, written_count, Written}
 use Rattle.puts.proofs.Laws.Right.{first_of, written-right}
 use Rattle.sheet.specs.Paper.Sheet.{Row, LF, fields, sheet, Rising, done, next, Sheet, Lookup, find}
 use Rattle.sheet.specs.Paper.Map.{map_of, lookup_in}

@@ -3,52 +3,51 @@
 use mathlib.Core.Path.{◌≡◌, refl, sym, ap, ap₂, ◌∙◌, subst}
 use mathlib.Core.Bool.{Bool}
 use mathlib.Core.List.{List, [], ◌∷◌}
-use Prim.Native.Nat.{ℕ}
+use Prim.Native.Nat.{ℕ, ◌-◌}
+use native.Mathlib.Omega.{arith}
 use lib.ListN.{length, get_or}
 use Rattle.digits.specs.declared.refusal.Refusal.{Refusal}
 use Rattle.digits.proofs.Laws.Refusals.{one_answer, same_answer}
 use Rattle.digits.proofs.Unique.{test}
 use Rattle.digits.specs.Paper.Read.{Decides}
-use Rattle.puts.specs.declared.Written.{Written}
+use Rattle.puts.specs.Paper.Wrote.{Written}
 use Rattle.puts.proofs.Laws.Right.{one-wrote}
+use Rattle.std.specs.Prelude.{Option, Some, None, Result, Ok, Err}
 use Rattle.sheet.specs.Paper.Sheet.{RegisterType, Row, Lookup, find}
 use Rattle.sheet.specs.Paper.Map.{map_of}
 use Rattle.sheet.specs.Paper.Split.{Unsolicited, Pair, Splits, data_of, pair_bytes}
-use Rattle.sheet.specs.Paper.Answers.{rows_refusal, rows_count, HasRows, Opens, typed_refusal, typed_value, TypesIn, HasType, Types, IsMap, Maps, IsSplit, SplitsInto, IsJoin, Joins, SomeSplit, test_number, Faults}
-use Rattle.sheet.specs.declared.Rows.{Rows}
-use Rattle.sheet.specs.declared.Rows.TheVariants.{Count, Refused as NoRows}
+use Rattle.sheet.specs.Paper.Answers.{rows_refusal, rows_count, HasRows, Opens, typed_refusal, typed_value, TypesIn, HasType, Types, IsMap, Maps, IsSplit, SplitsInto, IsJoin, Joins, SomeSplit, test_number, fault_line, fault_test, Faults}
 use Rattle.sheet.specs.declared.Typed.{Typed}
-use Rattle.sheet.specs.declared.Typed.TheVariants.{Is, Refused as NoType}
 use Rattle.sheet.specs.declared.faults.Test.{Test}
-use Rattle.sheet.specs.declared.faults.Test.TheVariants.{Passed, Form, Register, TypeName, Decimals, NotRising, Over500, NoLastLF}
+use Rattle.sheet.specs.declared.faults.Test.TheVariants.{Form, Register, TypeName, Decimals, NotRising, Over500, NoLastLF}
 use Rattle.sheet.specs.declared.faults.Fault.{Fault}
 use Rattle.sheet.proofs.Laws.Faults.{one-fault}
 use Rattle.sheet.proofs.Laws.Pairs.{one_split, one_type}
-use Rattle.sheet.proofs.Laws.Scans.{one-sheet}
+use Rattle.sheet.proofs.Laws.Scans.{one-sheet, some-test}
 use Rattle.sheet.proofs.Laws.Tens.{one-pairs}
 
 -- ---- an answer is its number and its value
 
-rows-cases : (P : Rows → Type 0) → ((n : ℕ) → P (Count n)) → ((why : Refusal) → P (NoRows why)) → (r : Rows) → P r
-rows-cases P f g (Count n) = f n
-rows-cases P f g (NoRows why) = g why
+cases : {A : Type 0} (P : Result A Refusal → Type 0) → ((a : A) → P (Ok a)) → ((why : Refusal) → P (Err why)) → (r : Result A Refusal) → P r
+cases P f g (Ok a) = f a
+cases P f g (Err why) = g why
 
-rows-answer : (r q : Rows) → rows_refusal r ≡ rows_refusal q → rows_count r ≡ rows_count q → r ≡ q
-rows-answer = same_answer Count NoRows rows_refusal rows_count (λ n. refl) (λ why. refl) (λ n. refl) rows-cases
+rows-answer : (r q : Result ℕ Refusal) → rows_refusal r ≡ rows_refusal q → rows_count r ≡ rows_count q → r ≡ q
+rows-answer = same_answer Ok Err rows_refusal rows_count (λ n. refl) (λ why. refl) (λ n. refl) cases
 
-abbrev typed : RegisterType → Typed
-typed t = Is t.width t.signed t.decimals
+abbrev typed : RegisterType → Result Typed Refusal
+typed t = Ok (record { width = t.width; signed = t.signed; decimals = t.decimals })
 
-typed-cases : (P : Typed → Type 0) → ((t : RegisterType) → P (typed t)) → ((why : Refusal) → P (NoType why)) → (r : Typed) → P r
-typed-cases P f g (Is w s d) = f (record { width = w; signed = s; decimals = d })
-typed-cases P f g (NoType why) = g why
+typed-cases : (P : Result Typed Refusal → Type 0) → ((t : RegisterType) → P (typed t)) → ((why : Refusal) → P (Err why)) → (r : Result Typed Refusal) → P r
+typed-cases P f g (Ok t) = f (record { width = t.width; signed = t.signed; decimals = t.decimals })
+typed-cases P f g (Err why) = g why
 
-typed-answer : (r q : Typed) → typed_refusal r ≡ typed_refusal q → typed_value r ≡ typed_value q → r ≡ q
-typed-answer = same_answer typed NoType typed_refusal typed_value (λ t. refl) (λ why. refl) (λ t. refl) typed-cases
+typed-answer : (r q : Result Typed Refusal) → typed_refusal r ≡ typed_refusal q → typed_value r ≡ typed_value q → r ≡ q
+typed-answer = same_answer typed Err typed_refusal typed_value (λ t. refl) (λ why. refl) (λ t. refl) typed-cases
 
 -- ---- open
 
-pub opened : (text : List ℕ) (r q : Rows) → Opens text r → Opens text q → r ≡ q
+pub opened : (text : List ℕ) (r q : Result ℕ Refusal) → Opens text r → Opens text q → r ≡ q
 opened text r q a b = let e = one_answer one a b in rows-answer r q e.0 e.1
   where
     one : (m n : ℕ) → HasRows text m → HasRows text n → m ≡ n
@@ -56,10 +55,10 @@ opened text r q a b = let e = one_answer one a b in rows-answer r q e.0 e.1
 
 -- ---- type_in and type_of
 
-pub type-in : (look : Lookup) (register : ℕ) (r q : Typed) → TypesIn look register r → TypesIn look register q → r ≡ q
+pub type-in : (look : Lookup) (register : ℕ) (r q : Result Typed Refusal) → TypesIn look register r → TypesIn look register q → r ≡ q
 type-in look register r q a b = let e = one_answer (λ t u x y. one_type x y) a b in typed-answer r q e.0 e.1
 
-pub type-of : (text : List ℕ) (register : ℕ) (r q : Typed) → Types text register r → Types text register q → r ≡ q
+pub type-of : (text : List ℕ) (register : ℕ) (r q : Result Typed Refusal) → Types text register r → Types text register q → r ≡ q
 type-of text register r q a b = let e = one_answer one a b in typed-answer r q e.0 e.1
   where
     one : (t u : RegisterType) → HasType text register t → HasType text register u → t ≡ u
@@ -106,10 +105,9 @@ unsolicited command r q a b = test a b
 -- ---- fault
 
 abbrev named : ℕ → Test
-named n = get_or (Passed ∷ Form ∷ Register ∷ TypeName ∷ Decimals ∷ NotRising ∷ Over500 ∷ NoLastLF ∷ []) n Passed
+named n = get_or (Form ∷ Register ∷ TypeName ∷ Decimals ∷ NotRising ∷ Over500 ∷ NoLastLF ∷ []) (n - 1) Form
 
 name_of : (t : Test) → named (test_number t) ≡ t
-name_of Passed = refl
 name_of Form = refl
 name_of Register = refl
 name_of TypeName = refl
@@ -121,6 +119,11 @@ name_of NoLastLF = refl
 one-test : (t u : Test) → test_number t ≡ test_number u → t ≡ u
 one-test t u e = sym (name_of t) ∙ ap named e ∙ name_of u
 
-pub fault : (text : List ℕ) (r q : Fault) → Faults text r → Faults text q → r ≡ q
-fault text r q a b =
-    let e = one-fault a b in ap₂ (λ (l : ℕ) (t : Test). record { line = l; test = t }) e.0 (one-test r.test q.test e.1)
+same-fault : (r q : Option Fault) → fault_line r ≡ fault_line q → fault_test r ≡ fault_test q → r ≡ q
+same-fault None None e f = refl
+same-fault None (Some g) e f = absurd (omega (arith, some-test g.test))
+same-fault (Some g) None e f = absurd (omega (arith, some-test g.test))
+same-fault (Some g) (Some h) e f = ap₂ (λ (l : ℕ) (t : Test). Some (record { line = l; test = t })) e (one-test g.test h.test f)
+
+pub fault : (text : List ℕ) (r q : Option Fault) → Faults text r → Faults text q → r ≡ q
+fault text r q a b = let e = one-fault a b in same-fault r q e.0 e.1

@@ -1,9 +1,8 @@
 // What is wrong with a sheet.
 
 // The tests of a sheet's line, in their order.
-#[derive(Clone, Copy)]
+#[derive(Clone, Copy, Debug, PartialEq, Eq)]
 pub enum Test {
-    Passed,
     Form,
     Register,
     TypeName,
@@ -13,8 +12,8 @@ pub enum Test {
     NoLastLF,
 }
 
-// The first line that is wrong, counted from 1, and the first test that it fails; 0 and `Passed` if the sheet is good.
-#[derive(Clone, Copy)]
+// The first line that is wrong, counted from 1, and the first test that it fails.
+#[derive(Clone, Copy, Debug, PartialEq, Eq)]
 pub struct Fault {
     pub line: usize,
     pub test: Test,

@@ -3,7 +3,7 @@ ghost use Rattle.std.specs.Prelude.{◌≡◌, List, ◌++◌, ◌≤◌, length
 ghost use Rattle.sheet.specs.Paper.Sheet.{Row};
 ghost use Rattle.sheet.specs.Paper.Map.{in_byte};
 ghost use Rattle.sheet.specs.Work.Lines.{RowsFrom};
-ghost use Rattle.sheet.specs.Work.Maps.{width_in, signed_in, decimals_in, Known, zeros, Filled};
+ghost use Rattle.sheet.specs.Work.Maps.{width_said, signed_in, decimals_in, Known, zeros, Filled};
 
 use super::reader;
 
@@ -29,14 +29,13 @@ pub(crate) fn fill(text: &[u8], map: &mut [u8])
     requires { (65536 ≤ length map.old) × ((rows : List Row) × RowsFrom 0 1 text.now rows) }
     ensures { Filled text.now map.old map.new }
 {
-    let mut at = 0;
+    let mut left = text;
     let mut least: u32 = 0;
     let mut number: usize = 1;
-    while at < text.len() {
-        let line = reader::first(&text[at..], least, number);
+    while let Ok(line) = reader::first(left, least, number) {
         let register = line.register as usize;
         map[register] = line.byte;
-        at += line.length;
+        left = &left[line.length..];
         least = line.register + 1;
         number += 1;
     }
@@ -53,23 +52,16 @@ pub(crate) fn byte_of(map: &[u8], register: u16) -> u8
     0
 }
 
-// The width of the type that a byte says; 0 if it says none.
-pub(crate) fn width(b: u8) -> usize
-    ensures { result ≡ width_in (in_byte b) }
+// The width of the type that a byte says, if it says one.
+pub(crate) fn width(b: u8) -> Option<usize>
+    ensures { result ≡ width_said (in_byte b) }
 {
-    if b == 0 {
-        return 0;
+    match b {
+        1..=8 => Some(1),
+        9..=16 => Some(2),
+        17..=24 => Some(4),
+        _ => None,
     }
-    if b < 9 {
-        return 1;
-    }
-    if b < 17 {
-        return 2;
-    }
-    if b < 25 {
-        return 4;
-    }
-    0
 }
 
 // Whether the type that a byte says has a sign.

@@ -4,13 +4,13 @@ use mathlib.Core.Bool.{Bool, true, false}
 use mathlib.Core.List.{List}
 use mathlib.Core.Path.{◌≡◌, refl, sym, subst, ◌∙◌}
 use Prim.Native.Nat.{ℕ, ◌≤◌, zero-le}
-use native.Mathlib.Omega.{arith}
 use lib.Dec.{eqb, le→leb}
 use lib.IntN.{ℤ, pos, negsuc}
 use lib.ListN.{length}
 use borrow.Author.Tests.{eqb-true, eqb-false}
 use mir.Syntax.{w64}
 use mir.Val.{of_z}
+use Rattle.std.specs.Prelude.{Ok, Err}
 use Rattle.digits.specs.Paper.Ascii.{ascii}
 use Rattle.digits.specs.Paper.Read.{Decides, holds, fails}
 use Rattle.numbers.specs.Paper.Raw.{Between}
@@ -20,32 +20,31 @@ use Rattle.asked.specs.Paper.Field.{Has, Spells, as_plain, as-chars}
 use Rattle.shapes.specs.Paper.Shapes.{Sort, number, string, IsOf, a-number, a-string}
 use Rattle.asked.specs.Work.Got.{Limit, between, up_to, Holds, Reads, ReadsIn, slot}
 use Rattle.asked.specs.Work.Got as got
+use Rattle.asked.specs.declared.values.Reason.{Reason}
 use Rattle.asked.proofs.Laws.Lift.{one_in, one-string}
 
 -- ---- a member that was read, or not
 
-module _ {s n : List ℕ} {sort : Sort} {limit : Limit} {f : Field} where
-  pub was_read : {st : ℕ} → ReadsIn s (slot n sort limit) f st → st ≡ 0 → Has Spells s (n ∶ f)
-  was_read (got.ReadsIn.is o h l) e = h
-  was_read (got.ReadsIn.large o h l) e = absurd (omega arith)
-  was_read (got.ReadsIn.none k) e = absurd (omega arith)
+module _ {s n : List ℕ} {sort : Sort} {limit : Limit} where
+  pub was_read : {f : Field} → ReadsIn s (slot n sort limit) (Ok f) → IsOf sort f × Has Spells s (n ∶ f) × Holds limit f
+  was_read (got.ReadsIn.is o h l) = (o, h, l)
 
-  pub unread : {st : ℕ} {g : Field} → ReadsIn s (slot n sort limit) f st → (st ≡ 0 → ⊥) → IsOf sort g → Holds limit g → Has Spells s (n ∶ g) → ⊥
-  unread (got.ReadsIn.is o h l) e i j k = e refl
-  unread (got.ReadsIn.large o h l) e i j k = l (subst (Holds limit) (sym (one_in o i h k)) j)
-  unread (got.ReadsIn.none l) e i j k = l _ i k
+  -- a member within the limit is read
+  pub unread : {why : Reason} {g : Field} → ReadsIn s (slot n sort limit) (Err why) → IsOf sort g → Holds limit g → Has Spells s (n ∶ g) → ⊥
+  unread (got.ReadsIn.large o h l) i j k = l (subst (Holds limit) (sym (one_in o i h k)) j)
+  unread (got.ReadsIn.none l) i j k = l _ i k
 
 -- ---- decimals
 
 abbrev Dec : List ℕ → ℤ → Type 0
 Dec v z = Has Spells v (ascii "dec" ∶ plain (whole z))
 
-module _ {v : List ℕ} {z : ℤ} {st d : ℕ} (r : ReadsIn v (slot (ascii "dec") number (between (pos 0) (pos 3))) (plain (whole z)) st) where
-  pub no-decimals : (st ≡ 0 → ⊥) → d ≤ 3 → Decides (Dec v (pos d)) false
-  no-decimals e h = fails (unread r e a-number (record { low = record { le = le→leb 0 d zero-le }; high = record { le = le→leb d 3 h } }))
+module _ {v : List ℕ} {d : ℕ} where
+  pub no-decimals : {why : Reason} → ReadsIn v (slot (ascii "dec") number (between (pos 0) (pos 3))) (Err why) → d ≤ 3 → Decides (Dec v (pos d)) false
+  no-decimals r h = fails (unread r a-number (record { low = record { le = le→leb 0 d zero-le }; high = record { le = le→leb d 3 h } }))
 
-  pub decimals-so : st ≡ 0 → Between (pos 0) (pos 3) z → Decides (Dec v (pos d)) (eqb (of_z w64 z) d)
-  decimals-so e b = by z (was_read r e) b
+  pub decimals-so : {z : ℤ} → ReadsIn v (slot (ascii "dec") number (between (pos 0) (pos 3))) (Ok (plain (whole z))) → Decides (Dec v (pos d)) (eqb (of_z w64 z) d)
+  decimals-so {z} r = let (o, h, b) = was_read r in by z h b
     where
       told : (n : ℕ) → Dec v (pos n) → (b : Bool) → eqb n d ≡ b → Decides (Dec v (pos d)) b
       told n h true f = holds (subst (λ (x : ℕ). Dec v (pos x)) (eqb-true n d f) h)
@@ -58,15 +57,12 @@ module _ {v : List ℕ} {z : ℤ} {st d : ℕ} (r : ReadsIn v (slot (ascii "dec"
 -- ---- strings
 
 module _ {v : List ℕ} {most : ℕ} where
-  pub string-read : {st : ℕ} {cs : List ℕ} → Reads v string (up_to most) (plain (chars cs)) st → st ≡ 0 → IsString v cs
-  string-read (got.Reads.is o (as_plain (as-chars x)) l) e = x
-  string-read (got.Reads.large o x l) e = absurd (omega arith)
-  string-read (got.Reads.none k) e = absurd (omega arith)
+  pub string-read : {cs : List ℕ} → Reads v string (up_to most) (Ok (plain (chars cs))) → IsString v cs
+  string-read (got.Reads.is o (as_plain (as-chars x)) l) = x
 
-  pub string-unread : {st : ℕ} {ds : List ℕ} {f : Field} → Reads v string (up_to most) f st → (st ≡ 0 → ⊥) → (IsString v ds → length ds ≤ most) → Decides (IsString v ds) false
-  string-unread (got.Reads.is o x l) e h = absurd (e refl)
-  string-unread (got.Reads.large a-string (as_plain (as-chars x)) l) e h = fails (λ y. l (subst (λ (c : List ℕ). length c ≤ most) (one-string y x) (h y)))
-  string-unread (got.Reads.none k) e h = fails (λ y. k _ a-string (as_plain (as-chars y)))
+  pub string-unread : {ds : List ℕ} {why : Reason} → Reads v string (up_to most) (Err why) → (IsString v ds → length ds ≤ most) → Decides (IsString v ds) false
+  string-unread (got.Reads.large a-string (as_plain (as-chars x)) l) h = fails (λ y. l (subst (λ (c : List ℕ). length c ≤ most) (one-string y x) (h y)))
+  string-unread (got.Reads.none k) h = fails (λ y. k _ a-string (as_plain (as-chars y)))
 
 -- a string by its characters, compared as they stand in two rooms
 pub same-string : {v cs ds es fs : List ℕ} {b : Bool} → IsString v cs → es ≡ cs → fs ≡ ds → Decides (es ≡ fs) b → Decides (IsString v ds) b

@@ -1,15 +1,15 @@
 -- The answers of `read` and `encode`, from the draft of the text.
 -- Assumes nothing.
 use mathlib.Core.Bool.{Bool, true, false, ◌||◌, true≢false}
-use mathlib.Core.List.{List, [], ◌∷◌, ◌++◌}
-use mathlib.Core.Option.{some}
+use mathlib.Core.List.{List, ◌++◌}
 use mathlib.Core.Path.{◌≡◌, refl, sym, ap, ◌∙◌, subst}
-use Prim.Native.Nat.{ℕ, ◌≤◌, ◌<◌}
+use Prim.Native.Nat.{ℕ, ◌≤◌}
 use native.Mathlib.Omega.{arith}
 use lib.Dec.{T, eqb, lit<}
 use borrow.Author.Tests.{ne_eqb}
 use lib.IntN.{nat_abs}
-use lib.ListN.{length, take, drop}
+use lib.ListN.{length, drop}
+use Rattle.std.specs.Prelude.{Result, Ok, Err}
 use Rattle.digits.proofs.Laws.Refusals.{one-first, cause-at, cause-of, pass-over, some_number}
 use Rattle.digits.proofs.Laws.Parts.{part-front}
 use Rattle.digits.proofs.Laws.Tests.{T_true}
@@ -17,13 +17,11 @@ use Rattle.digits.specs.Paper.Bytes.{part}
 use Rattle.digits.specs.Paper.LowFirst.{Width}
 use Rattle.digits.specs.Paper.Refusals.{refusal_number, refusal_order, First, clear, here, after, answers, refuses}
 use Rattle.digits.specs.declared.refusal.Refusal.{Refusal}
-use Rattle.digits.specs.declared.refusal.Refusal.TheVariants.{NoRoom, OutOfLimits, BadForm, NotInGrammar, BadMembers}
+use Rattle.digits.specs.declared.refusal.Refusal.TheVariants.{OutOfLimits}
 use Rattle.frames.specs.Paper.Kinds.{known, number_of}
 use Rattle.layouts.specs.Paper.Chars.{one_of}
 use Rattle.puts.specs.Paper.Right.{WroteRight, wrote, refused}
-use Rattle.puts.specs.Paper.Wrote.{written_refusal, written_count}
-use Rattle.puts.specs.declared.Written.{Written}
-use Rattle.puts.specs.declared.Written.TheVariants.{Bytes, Refused as NotWritten}
+use Rattle.puts.specs.Paper.Wrote.{Written}
 use Rattle.messages.specs.Paper.Allowed.{StandingCause, Allows}
 use Rattle.messages.specs.Paper.Allowed as allowing
 use Rattle.commands.proofs.Laws.Kinds.{said-kind}
@@ -32,19 +30,18 @@ use Rattle.messages.specs.Paper.Message.{Message, row}
 use Rattle.messages.specs.Paper.Says.{Says, kind_in}
 use Rattle.messages.specs.Paper.Table.{content_of, Limits, Above, Good, HasWidth, in-reply, in-put}
 use Rattle.messages.specs.declared.Message.{Message as Coded}
-use Rattle.messages.specs.declared.Standing.TheVariants.{Refused as NotAllowed}
-use Rattle.commands.specs.Paper.Answers.{MessageCause, outside, taken, short, EncodeCause, no_kind, no-width, other-kind, by-message, MeantBytes, Encodes}
+use Rattle.commands.specs.Paper.Answers.{MessageCause, outside, taken, short, EncodeCause, no_kind, no-width, other-kind, by-message, MeantBytes}
 use Rattle.jsontext.specs.Paper.Names.{InGrammar}
 use Rattle.asked.specs.Paper.Answers.{AskedCause, ReadCause, EncodesAsked, ReadsAsked, zero_asked, beside}
 use Rattle.asked.specs.Paper.Answers as paper
 use Rattle.shapes.specs.Paper.Fields.{Field}
 use Rattle.asked.specs.Paper.Means.{Fills, Means}
 use Rattle.shapes.specs.Paper.Shapes.{shape_at, a-number}
-use Rattle.asked.specs.Work.Draft.{DraftsText, Filled, Said, Hands, HandsAllowed, Frames, reason_of}
+use Rattle.asked.specs.Work.Draft.{DraftsText, Filled, Said, Hands, HandsAllowed, Frames}
 use Rattle.asked.specs.Work.Draft as draft
 use Rattle.asked.specs.Work.Got.{number_in}
 use Rattle.asked.specs.declared.Asked.{Asked}
-use Rattle.asked.specs.declared.Asked.TheVariants.{Is, Refused}
+use Rattle.asked.specs.declared.Drafted.{Drafted}
 use Rattle.asked.proofs.Laws.Lift.{head-has, one_in}
 use Rattle.shapes.proofs.Laws.Rows.{each_row}
 use Rattle.asked.proofs.Laws.OneMeaning.{one-meaning}
@@ -84,13 +81,11 @@ module _ {s : List ℕ} {Cause : ℕ → Type 0} (causes : Causes s Cause) where
   first-12 g n = pass-over ours only-asked refusal_order (after (no-11 g) (here (paper.no-message n)))
 
   -- a text that is refused by its draft
-  pub refused-first : {content : List ℕ} {r len st : ℕ} {e : Coded} → DraftsText s content r e len st → (st ≡ 0 → ⊥)
-      → First (AskedCause s Cause) refusal_order (refusal_number (reason_of st))
-  refused-first (draft.is g f x) n = absurd (n refl)
-  refused-first (draft.outside g f x) n =
+  pub refused-first : {content : List ℕ} {why : Refusal} → DraftsText s content (Err why) → First (AskedCause s Cause) refusal_order (refusal_number why)
+  refused-first (draft.outside g f x) =
       pass-over ours only-asked refusal_order (after (no-11 g) (after (no-12 f) (here (paper.by-message (causes.five x)))))
-  refused-first (draft.none g x) n = first-12 g x
-  refused-first (draft.not-json x) n = first-11 x
+  refused-first (draft.none g x) = first-12 g x
+  refused-first (draft.not-json x) = first-11 x
 
   -- one that is not, by the causes of its message
   five-of : AskedCause s Cause 5 → Cause 5
@@ -148,14 +143,12 @@ read-causes s n = record { only = by; not-11 = n-11; not-12 = n-12; five = λ f.
 
 -- ---- REFUSED by its draft
 
-module _ {s content room : List ℕ} {r len st : ℕ} {e : Coded} (x : DraftsText s content r e len st) (n : st ≡ 0 → ⊥) {why : Refusal} (is : why ≡ reason_of st) where
-  pub not-encoded : EncodesAsked s room (NotWritten why) room
-  not-encoded = refused (some_number why) (subst (λ (w : Refusal). First (AskedCause s (MessageCause (Means s) (length room))) refusal_order (refusal_number w)) (sym is)
-      (refused-first (encode-causes s (length room)) x n))
+module _ {s content room : List ℕ} {why : Refusal} (x : DraftsText s content (Err why)) where
+  pub not-encoded : EncodesAsked s room (Err why) room
+  not-encoded = refused (some_number why) (refused-first (encode-causes s (length room)) x)
 
-  pub not-read : ReadsAsked s room (Refused why) room
-  not-read = refuses (some_number why) (subst (λ (w : Refusal). First (AskedCause s (ReadCause s (length room))) refusal_order (refusal_number w)) (sym is)
-      (refused-first (read-causes s (length room)) x n))
+  pub not-read : ReadsAsked s room (Err why) room
+  not-read = refuses (some_number why) (refused-first (read-causes s (length room)) x)
 
 -- ---- a text that is not refused by its draft
 
@@ -166,27 +159,28 @@ pub record Ready (s c : List ℕ) (r : ℕ) (e : Coded) : Type 0 where
   pub from : (m : Message) → Says e c m → Means s m
   pub stands : (m : Message) → Says e c m → beside m ≡ c
 
-pub ready : {s content : List ℕ} {r len st : ℕ} {e : Coded} → DraftsText s content r e len st → st ≡ 0 → Ready s (part 0 len content) r e
-ready {s} {content} {r} {len} {e = e} (draft.is g f x) z =
-    subst (λ (c : List ℕ). Ready s c r e) (sym (part-front len content))
-    (record { grammar = g; filled = f; some = x.some; from = x.from; stands = x.stands })
-ready (draft.outside g f x) z = absurd (omega (arith, z))
-ready (draft.none g x) z = absurd (omega (arith, z))
-ready (draft.not-json x) z = absurd (omega (arith, z))
+module _ {s content : List ℕ} {d : Drafted} (x : DraftsText s content (Ok d)) where
+  pub ready : Ready s (part 0 d.draft.len content) d.row d.draft.message
+  ready = by x
+    where
+      by : DraftsText s content (Ok d) → Ready s (part 0 d.draft.len content) d.row d.draft.message
+      by (draft.is g f y) =
+          subst (λ (c : List ℕ). Ready s c d.row d.draft.message) (sym (part-front d.draft.len content))
+          (record { grammar = g; filled = f; some = y.some; from = y.from; stands = y.stands })
 
--- the row is one of the table
-pub row_of : {s content : List ℕ} {r len st : ℕ} {e : Coded} → DraftsText s content r e len st → st ≡ 0 → (1 ≤ r) × (r ≤ 23)
-row_of (draft.is g f x) z = (f.fills.low, f.fills.high)
-row_of (draft.outside g f x) z = absurd (omega (arith, z))
-row_of (draft.none g x) z = absurd (omega (arith, z))
-row_of (draft.not-json x) z = absurd (omega (arith, z))
+  -- the row is one of the table
+  pub row_of : (1 ≤ d.row) × (d.row ≤ 23)
+  row_of = by x
+    where
+      by : DraftsText s content (Ok d) → (1 ≤ d.row) × (d.row ≤ 23)
+      by (draft.is g f y) = (f.fills.low, f.fills.high)
 
--- what stands beside it is a part of the content
-pub inside : {s content : List ℕ} {r len st : ℕ} {e : Coded} → DraftsText s content r e len st → st ≡ 0 → len ≤ length content
-inside (draft.is g f x) z = x.within
-inside (draft.outside g f x) z = absurd (omega (arith, z))
-inside (draft.none g x) z = absurd (omega (arith, z))
-inside (draft.not-json x) z = absurd (omega (arith, z))
+  -- what stands beside it is a part of the content
+  pub inside : d.draft.len ≤ length content
+  inside = by x
+    where
+      by : DraftsText s content (Ok d) → d.draft.len ≤ length content
+      by (draft.is g f y) = y.within
 
 -- whatever it means is said
 said : {s c : List ℕ} {r : ℕ} {e : Coded} → Ready s c r e → (m : Message) → Means s m → Says e c m
@@ -257,7 +251,7 @@ module _ {s c : List ℕ} {r : ℕ} {e : Coded} (y : Ready s c r e) (room : List
       seven (short a b) h = omega (arith, h)
 
   no-frame : {no i : ℕ} {l : List ℕ} → WroteRight (EncodeCause (shape_at r).kind e c (length room)) (MeantBytes (Says e c)) room no i l → no ≡ 7
-      → EncodesAsked s room (NotWritten OutOfLimits) l
+      → EncodesAsked s room (Err OutOfLimits) l
   no-frame (wrote f x) h = absurd (omega (arith, h))
   no-frame (refused p f) h =
       refused (lit< tt) (first-5 (encode-causes s (length room)) y.grammar y.filled (outside (width-outside (cause-at f p) h)))
@@ -296,7 +290,7 @@ module _ {s c : List ℕ} {r : ℕ} {e : Coded} (y : Ready s c r e) (room : List
         let l : length (beside k) ≡ length c = ap (λ (i : Message). length (beside i)) (same k a) ∙ ap length (y.stands m says) in omega (arith, h, b, l)
     none-4 h (paper.standing x) = elim x [ ]
 
-    handed : {q : Asked} {l : List ℕ} → Hands (shape_at r).kind e c room q l → ReadsAsked s room q l
+    handed : {q : Result Asked Refusal} {l : List ℕ} → Hands (shape_at r).kind e c room q l → ReadsAsked s room q l
     handed (draft.all h) =
         let b : beside m ≡ c = y.stands m says in
         answers (first-0 (read-causes s (length room)) y.grammar y.filled none-5 none-6 (none-4 h))
@@ -327,7 +321,7 @@ module _ {s c : List ℕ} {r : ℕ} {e : Coded} (y : Ready s c r e) (room : List
       five (paper.standing (allowing.outside f)) = allowing.outside (λ m a. f m (y.from m a))
 
   -- READ
-  pub asked-read : {q : Asked} {l : List ℕ} → HandsAllowed (shape_at r).kind e c room q l → ReadsAsked s room q l
+  pub asked-read : {q : Result Asked Refusal} {l : List ℕ} → HandsAllowed (shape_at r).kind e c room q l → ReadsAsked s room q l
   asked-read (draft.good {m = m} says good h) = handed m says good h
   asked-read (draft.refused {why = why} x) =
       let f = cause-of x in

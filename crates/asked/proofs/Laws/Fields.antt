@@ -9,7 +9,7 @@ use lib.Dec.{T}
 use lib.IntN.{ℤ, pos}
 use lib.ListN.{length, get_or, take, length-append}
 use lib.Seq.{take_all}
-use borrow.Author.Tests.{ne_eqb}
+use Rattle.std.specs.Prelude.{Result, Ok, Err}
 use mir.Syntax.{w64}
 use mir.Val.{SFits, to_z, of_z}
 use Rattle.digits.specs.Paper.Ascii.{ascii}
@@ -23,16 +23,18 @@ use Rattle.layouts.specs.Paper.Chars.{one_of}
 use Rattle.messages.specs.Paper.Table.{u16_at, v_in, v_op, v_bat}
 use Rattle.numbers.proofs.Laws.Signs.{read_back, signed-fits}
 use Rattle.asked.specs.Paper.Answers.{wired_payload}
-use Rattle.shapes.specs.Paper.Fields.{Field, plain, chars}
-use Rattle.shapes.specs.Paper.Shapes.{string, number, number_field, wired_fields}
+use Rattle.shapes.specs.Paper.Fields.{plain, chars}
+use Rattle.shapes.specs.Paper.Shapes.{string, wired_fields}
 use Rattle.asked.specs.Work.Got as got
-use Rattle.asked.specs.Work.Got.{Reads, up_to, wire-type, typed_of, Volts, ReadsIn, ReadsAll, ValueIn, slot, between, worse}
-use Rattle.asked.specs.Work.Homiq.{Wires, PutsField, wired_slots}
-use Rattle.asked.proofs.Laws.Lift.{nothing, lifted}
+use Rattle.asked.specs.Work.Got.{Reads, up_to, wire-type, typed_of, Volts, ReadsAll, mapped}
+use Rattle.asked.specs.Work.Homiq as homiq
+use Rattle.asked.specs.Work.Homiq.{Wires, wired_slots}
+use Rattle.asked.specs.declared.values.Reason.{Reason}
+use Rattle.asked.specs.declared.values.Reason.TheVariants.{Large}
+use Rattle.asked.proofs.Laws.Lift.{nothing}
 use Rattle.asked.proofs.Laws.Strings.{T_false}
 use Rattle.digits.proofs.Laws.Decimal.{length-decimal}
 use Rattle.layouts.specs.Paper.Made.{Wire}
-use Rattle.asked.proofs.Laws.Shaped.{last}
 
 -- six bytes, one by one
 pub six-all : (s : List ℕ) → length s ≡ 6 → ats s 0 6 ≡ s
@@ -40,37 +42,32 @@ six-all s h = sym (take-ats s 6 0 (omega arith)) ∙ take_all 6 s (omega arith)
 
 -- ---- the type: `s` or `a`
 
-no-letter : {v : List ℕ} {g : Field} {st : ℕ} → Reads v string (up_to 1) (plain (chars [])) st → st ≡ 0 → Reads v string wire-type g 5
-no-letter (got.Reads.is a x l) e = got.Reads.large a x (λ w. nothing w.is)
-no-letter (got.Reads.large a x l) e = absurd (omega arith)
-no-letter (got.Reads.none f) e = absurd (omega arith)
+module _ {v : List ℕ} where
+  no-letter : Reads v string (up_to 1) (Ok (plain (chars []))) → Reads v string wire-type (Err Large)
+  no-letter (got.Reads.is a x l) = got.Reads.large a x (λ w. nothing w.is)
 
-one-letter : {v : List ℕ} (y : ℕ) {st : ℕ} → Reads v string (up_to 1) (plain (chars (y ∷ []))) st → st ≡ 0
-    → Reads v string wire-type (plain (chars (y ∷ []))) (cond (one_of (ascii "sa") y) 0 5)
-one-letter {v} y (got.Reads.is a x l) e = by (one_of (ascii "sa") y) refl
-  where
-    by : (b : Bool) → one_of (ascii "sa") y ≡ b → Reads v string wire-type (plain (chars (y ∷ []))) (cond b 0 5)
-    by true t = got.Reads.is a x (record { letter = y; one = rw t tt; is = refl })
-    by false t =
-        got.Reads.large a x
-        (λ w. let s : w.letter ≡ y = cc w.is in T_false (one_of (ascii "sa") y) t (subst (λ (z : ℕ). T (one_of (ascii "sa") z)) s w.one))
-one-letter y (got.Reads.large a x l) e = absurd (omega arith)
-one-letter y (got.Reads.none f) e = absurd (omega arith)
+  one-letter : (y : ℕ) → Reads v string (up_to 1) (Ok (plain (chars (y ∷ []))))
+      → Reads v string wire-type (mapped (λ l. plain (chars (l ∷ []))) (typed_of 1 y))
+  one-letter y (got.Reads.is a x l) = by (one_of (ascii "sa") y) refl
+    where
+      by : (b : Bool) → one_of (ascii "sa") y ≡ b → Reads v string wire-type (mapped (λ l. plain (chars (l ∷ []))) (cond b (Ok y) (Err Large)))
+      by true t = got.Reads.is a x (record { letter = y; one = rw t tt; is = refl })
+      by false t =
+          got.Reads.large a x
+          (λ w. let s : w.letter ≡ y = cc w.is in T_false (one_of (ascii "sa") y) t (subst (λ (z : ℕ). T (one_of (ascii "sa") z)) s w.one))
 
--- one that was not read
-unlettered : {v : List ℕ} {f g : Field} {st : ℕ} → Reads v string (up_to 1) f st → (st ≡ 0 → ⊥) → Reads v string wire-type g st
-unlettered (got.Reads.is a x l) h = absurd (h refl)
-unlettered (got.Reads.large a x l) h = got.Reads.large a x (λ w. l (omega (arith, ap length w.is)))
-unlettered (got.Reads.none f) h = got.Reads.none f
+  -- one that was not read
+  pub unlettered : {why : Reason} → Reads v string (up_to 1) (Err why) → Reads v string wire-type (Err why)
+  unlettered (got.Reads.large a x l) = got.Reads.large a x (λ w. l (omega (arith, ap length w.is)))
+  unlettered (got.Reads.none f) = got.Reads.none f
 
-pub letter-read : {v : List ℕ} (s : List ℕ) (len : ℕ) {st q : ℕ} → Reads v string (up_to 1) (plain (chars (take len s))) st × ((len ≤ 1) × (length s ≡ 1))
-    → q ≡ typed_of st len (get_or s 0 0) → Reads v string wire-type (plain (chars (get_or s 0 0 ∷ []))) q
-letter-read [] len (r, (l, k)) e = absurd (omega arith)
-letter-read (y ∷ z ∷ s) len (r, (l, k)) e = absurd (omega arith)
-letter-read (y ∷ []) zero {st = zero} (r, (l, k)) e = rw e (no-letter r refl)
-letter-read (y ∷ []) (suc zero) {st = zero} (r, (l, k)) e = rw e (one-letter y r refl)
-letter-read (y ∷ []) (suc (suc n)) {st = zero} (r, (l, k)) e = absurd (omega arith)
-letter-read (y ∷ []) len {st = suc st} (r, (l, k)) e = rw (e, ne_eqb (suc st) 0 (λ z. omega arith)) (unlettered r (λ z. omega arith))
+  pub letter-read : (s : List ℕ) (len : ℕ) {q : Result ℕ Reason} → Reads v string (up_to 1) (Ok (plain (chars (take len s)))) → len ≤ 1 → length s ≡ 1
+      → q ≡ typed_of len (get_or s 0 0) → Reads v string wire-type (mapped (λ l. plain (chars (l ∷ []))) q)
+  letter-read [] len r l k e = absurd (omega arith)
+  letter-read (y ∷ z ∷ s) len r l k e = absurd (omega arith)
+  letter-read (y ∷ []) zero r l k e = rw e (no-letter r)
+  letter-read (y ∷ []) (suc zero) r l k e = rw e (one-letter y r)
+  letter-read (y ∷ []) (suc (suc n)) r l k e = absurd (omega arith)
 
 -- ---- CMD;VAL;SRC;DST;ID;TYPE
 
@@ -78,28 +75,16 @@ regroup : (z a b c d e t : List ℕ)
     → (a ++ z) ++ ((b ++ z) ++ ((c ++ z) ++ ((d ++ z) ++ (e ++ (z ++ t))))) ≡ a ++ z ++ b ++ z ++ c ++ z ++ d ++ z ++ e ++ z ++ t
 regroup z a b c d e t = simp append_assoc
 
--- a wire's fields, read and put one behind the other
-module _ {s content : List ℕ} (room : length content ≡ 8192) where
-  pub wires : {u v w x q c1 c2 c3 c4 : List ℕ} {i j k l a b d e f g : ℕ} {id letter : ℕ}
-      → ValueIn s (ascii "cmd") u → PutsField u 8 content c1 0 i a → ValueIn s (ascii "val") v → PutsField v 16 c1 c2 i j b
-      → ValueIn s (ascii "src") w → PutsField w 4 c2 c3 j k d → ValueIn s (ascii "dst") x → PutsField x 4 c3 c4 k l e
-      → ReadsIn s (slot (ascii "id") number (between (pos 0) (pos 511))) (number_field id) f → id ≤ 511
-      → ValueIn s (ascii "type") q → Reads q string wire-type (plain (chars (letter ∷ []))) g
-      → {later : List ℕ} {len st : ℕ} → Put c4 later l len (decimal id ++ (59 ∷ letter ∷ [])) → st ≡ worse a (worse b (worse d (worse e (worse f g))))
-      → Wires s later len st
-  wires {id = id} {letter = letter} u p v q w r x t y few z o {later} {len} put st-is =
-      let all : Wire = record { cmd = p.field; val = q.field; src = r.field; dst = t.field; id = id; type = letter } in
-      let there : Put content later 0 len (wired_payload all) =
-      puts-as (regroup (59 ∷ []) p.field q.field r.field t.field (decimal id) (letter ∷ [])) (p.put then (q.put then (r.put then (t.put then put)))) in
-      let fits : length (wired_payload all) ≤ length content =
-      simp length-append (omega (arith, p.short, q.short, r.short, t.short, length-decimal 2 id (omega arith), room)) in
-      record {
-        wire = all;
-        reads = subst (ReadsAll s wired_slots (wired_fields all)) (sym st-is)
-            (got.and (lifted u p.reads) (got.and (lifted v q.reads) (got.and (lifted w r.reads) (got.and (lifted x t.reads) (got.and y (last (lifted z o)))))));
-        within = omega (arith, front-count there fits, put-length there, fits);
-        joined = front_bytes there fits;
-      }
+-- a wire's fields, put one behind the other
+pub wires : (wire : Wire) {s content c1 c2 c3 c4 later : List ℕ} {i j k l len : ℕ} → length content ≡ 8192 → ReadsAll s wired_slots (Ok (wired_fields wire))
+    → Put content c1 0 i (wire.cmd ++ (59 ∷ [])) → Put c1 c2 i j (wire.val ++ (59 ∷ [])) → Put c2 c3 j k (wire.src ++ (59 ∷ [])) → Put c3 c4 k l (wire.dst ++ (59 ∷ []))
+    → Put c4 later l len (decimal wire.id ++ (59 ∷ wire.type ∷ [])) → length wire.cmd ≤ 8 → length wire.val ≤ 16 → length wire.src ≤ 4 → length wire.dst ≤ 4 → wire.id ≤ 511
+    → Wires s later (Ok len)
+wires wire {content = content} {later = later} room reads p q r t put a b d e few =
+    let there : Put content later 0 _ (wired_payload wire) =
+    puts-as (regroup (59 ∷ []) wire.cmd wire.val wire.src wire.dst (decimal wire.id) (wire.type ∷ [])) (p then (q then (r then (t then put)))) in
+    let fits : length (wired_payload wire) ≤ length content = simp length-append (omega (arith, a, b, d, e, length-decimal 2 wire.id (omega arith), room)) in
+    homiq.is reads (omega (arith, front-count there fits, put-length there, fits)) (front_bytes there fits)
 
 -- ---- a state's voltages
 

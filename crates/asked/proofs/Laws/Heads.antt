@@ -1,45 +1,30 @@
 -- The row of a text, by the kind and the msg that were read.
 -- Assumes nothing.
-use mathlib.Core.Bool.{Bool, true, false}
 use mathlib.Core.List.{List}
-use mathlib.Core.Path.{◌≡◌, refl, sym, subst}
+use mathlib.Core.Path.{◌≡◌, sym, subst}
 use Prim.Native.Nat.{ℕ, zero, suc, ◌≤◌}
 use native.Mathlib.Omega.{arith}
-use lib.Dec.{eqb, leb, leb→le, le→leb}
+use lib.Dec.{leb, leb→le, le→leb}
 use lib.IntN.{ℤ, pos, nat_abs}
 use lib.ListN.{length, take}
 use lib.Signed.{le_z_yes}
-use borrow.Author.Tests.{eqb-true, eqb-false}
+use Rattle.std.specs.Prelude.{Option, None, Ok, Err}
 use Rattle.digits.specs.Paper.Ascii.{ascii}
 use Rattle.digits.specs.Paper.Bytes.{part}
 use Rattle.digits.proofs.Laws.Parts.{part-front}
 use Rattle.numbers.proofs.Laws.Signs.{back}
-use Rattle.numbers.specs.Paper.Raw.{Between}
-use Rattle.shapes.specs.Paper.Fields.{◌∶◌, whole, chars, Field, plain}
+use Rattle.shapes.specs.Paper.Fields.{◌∶◌, whole, chars, plain}
 use Rattle.asked.specs.Paper.Field.{Spells, Has}
 use Rattle.asked.specs.Paper.Means.{HeadOf}
-use Rattle.shapes.specs.Paper.Shapes.{Sort, IsOf, a-number, a-string, number, string, shapes, shape_at, number_field}
-use Rattle.asked.specs.Work.Got as got
-use Rattle.asked.specs.Work.Got.{Limit, Holds, Reads, between, up_to, ValueIn, ReadsIn, slot}
+use Rattle.shapes.specs.Paper.Shapes.{a-number, a-string, number, string, shapes, shape_at, number_field}
+use Rattle.asked.specs.Work.Got.{Holds, Reads, between, up_to, ValueIn}
+use Rattle.asked.specs.declared.values.Reason.{Reason}
 use Rattle.asked.specs.Work.Rows.{row_named, RowOf}
 use Rattle.asked.proofs.Laws.Casts.{as-count}
-use Rattle.asked.proofs.Laws.Lift.{lifted, one_in}
+use Rattle.asked.proofs.Laws.Agree.{was_read, unread}
+use Rattle.asked.proofs.Laws.Lift.{lifted, one_in, is_held}
 use Rattle.shapes.proofs.Laws.Rows.{each_row}
-use Rattle.asked.proofs.Laws.Named.{Placed, row-found, row-none}
-
--- ---- a member that was read, or is not what is asked for
-
-module _ {s n : List ℕ} {sort : Sort} {limit : Limit} where
-  read_has : {f : Field} {st : ℕ} → ReadsIn s (slot n sort limit) f st → st ≡ 0 → IsOf sort f × Has Spells s (n ∶ f)
-  read_has (got.ReadsIn.is a h l) z = (a, h)
-  read_has (got.ReadsIn.large a h l) z = absurd (omega arith)
-  read_has (got.ReadsIn.none k) z = absurd (omega arith)
-
-  -- a member within the limit is read
-  unread-has : {f g : Field} {st : ℕ} → ReadsIn s (slot n sort limit) f st → (st ≡ 0 → ⊥) → IsOf sort g → Holds limit g → Has Spells s (n ∶ g) → ⊥
-  unread-has (got.ReadsIn.is a h l) z b m k = z refl
-  unread-has (got.ReadsIn.large a h l) z b m k = l (subst (Holds limit) (sym (one_in a b h k)) m)
-  unread-has (got.ReadsIn.none f) z b m k = f _ b k
+use Rattle.asked.proofs.Laws.Named.{Placed, Found, at, nowhere, row-found}
 
 -- ---- a row's kind and msg are within the limits of what reads them
 
@@ -51,12 +36,12 @@ msg-holds r h = leb→le (length (shape_at r).msg) 8 (each_row (λ j. leb (lengt
 
 -- ---- the row
 
-module _ {s v : List ℕ} {f : Field} {st : ℕ} where
-  pub no-kind-read : ValueIn s (ascii "kind") v → Reads v number (between (pos 0) (pos 255)) f st → (st ≡ 0 → ⊥) → RowOf s 0
-  no-kind-read i x z = RowOf.none (λ r h. unread-has (lifted i x) z a-number (kind-holds r h.high) h.kind)
+module _ {s v : List ℕ} {why : Reason} where
+  pub no-kind-read : ValueIn s (ascii "kind") v → Reads v number (between (pos 0) (pos 255)) (Err why) → RowOf s None
+  no-kind-read i x = RowOf.none (λ r h. unread (lifted i x) a-number (kind-holds r h.high) h.kind)
 
-  pub no-msg-read : ValueIn s (ascii "msg") v → Reads v string (up_to 8) f st → (st ≡ 0 → ⊥) → RowOf s 0
-  no-msg-read i x z = RowOf.none (λ r h. unread-has (lifted i x) z a-string (msg-holds r h.high) h.msg)
+  pub no-msg-read : ValueIn s (ascii "msg") v → Reads v string (up_to 8) (Err why) → RowOf s None
+  no-msg-read i x = RowOf.none (λ r h. unread (lifted i x) a-string (msg-holds r h.high) h.msg)
 
 module _ {s : List ℕ} (k : ℕ) (n : List ℕ) (kind : Has Spells s (ascii "kind" ∶ number_field k)) (msg : Has Spells s (ascii "msg" ∶ plain (chars n))) where
   kind-of : (r : ℕ) → HeadOf s r → (shape_at r).kind ≡ k
@@ -65,9 +50,9 @@ module _ {s : List ℕ} (k : ℕ) (n : List ℕ) (kind : Has Spells s (ascii "ki
   msg-of : (r : ℕ) → HeadOf s r → (shape_at r).msg ≡ n
   msg-of r h = let e : plain (chars (shape_at r).msg) ≡ plain (chars n) = one_in a-string a-string h.msg msg in cc
 
-  no-head : row_named k n ≡ 0 → (r : ℕ) → HeadOf s r → ⊥
-  no-head e zero h = omega (arith, h.low)
-  no-head e (suc j) h = row-none k n e j (omega (arith, h.high)) (kind-of (suc j) h) (msg-of (suc j) h)
+  no-head : Found 1 shapes k n None → (r : ℕ) → HeadOf s r → ⊥
+  no-head (nowhere f) zero h = omega (arith, h.low)
+  no-head (nowhere f) (suc j) h = f j (omega (arith, h.high)) (kind-of (suc j) h) (msg-of (suc j) h)
 
   head_at : {r : ℕ} → Placed 1 shapes k n r → HeadOf s r
   head_at {r} p =
@@ -80,19 +65,18 @@ module _ {s : List ℕ} (k : ℕ) (n : List ℕ) (kind : Has Spells s (ascii "ki
         msg = subst (λ (x : List ℕ). Has Spells s (ascii "msg" ∶ plain (chars x))) (sym p.msg) msg;
       })
 
-  row_by : (b : Bool) → eqb (row_named k n) 0 ≡ b → RowOf s (row_named k n)
-  row_by true e = let z : row_named k n ≡ 0 = eqb-true (row_named k n) 0 e in subst (RowOf s) (sym z) (RowOf.none (no-head z))
-  row_by false e = RowOf.is (head_at (row-found k n (eqb-false (row_named k n) 0 e)))
+  row_by : {r : Option ℕ} → Found 1 shapes k n r → RowOf s r
+  row_by (at p) = RowOf.is (head_at p)
+  row_by (nowhere f) = RowOf.none (no-head (nowhere f))
 
-pub row_read : {s v w : List ℕ} {z : ℤ} {a b r : ℕ} (name : List ℕ) (len : ℕ) → ValueIn s (ascii "kind") v
-    → Reads v number (between (pos 0) (pos 255)) (plain (whole z)) a × Between (pos 0) (pos 255) z → a ≡ 0
-    → ValueIn s (ascii "msg") w → Reads w string (up_to 8) (plain (chars (take len name))) b → b ≡ 0
-    → r ≡ row_named (nat_abs (back z)) (part 0 len name) → RowOf s r
-row_read {s} {z = z} name len i (x, h) d j y e f =
+pub row_read : {s v w : List ℕ} {z : ℤ} {r : Option ℕ} (name : List ℕ) (len : ℕ) → ValueIn s (ascii "kind") v
+    → Reads v number (between (pos 0) (pos 255)) (Ok (plain (whole z))) → ValueIn s (ascii "msg") w
+    → Reads w string (up_to 8) (Ok (plain (chars (take len name)))) → r ≡ row_named (nat_abs (back z)) (part 0 len name) → RowOf s r
+row_read {s} {z = z} name len i x j y f =
     let k : ℕ = nat_abs (back z) in
     let n : List ℕ = part 0 len name in
     let kind : Has Spells s (ascii "kind" ∶ number_field k) =
-    subst (λ (q : ℤ). Has Spells s (ascii "kind" ∶ plain (whole q))) (as-count {m = 255} (omega arith) z h) (read_has (lifted i x) d).1 in
+    subst (λ (q : ℤ). Has Spells s (ascii "kind" ∶ plain (whole q))) (as-count {m = 255} (omega arith) z (is_held x)) (was_read (lifted i x)).1 in
     let msg : Has Spells s (ascii "msg" ∶ plain (chars n)) =
-    subst (λ (q : List ℕ). Has Spells s (ascii "msg" ∶ plain (chars q))) (sym (part-front len name)) (read_has (lifted j y) e).1 in
-    rw f (row_by k n kind msg (eqb (row_named k n) 0) refl)
+    subst (λ (q : List ℕ). Has Spells s (ascii "msg" ∶ plain (chars q))) (sym (part-front len name)) (was_read (lifted j y)).1 in
+    rw f (row_by k n kind msg (row-found k n))

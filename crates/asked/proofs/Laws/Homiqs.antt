@@ -2,18 +2,19 @@
 -- Assumes nothing.
 use mathlib.Core.List.{List, [], ◌∷◌}
 use mathlib.Core.Path.{◌≡◌, refl, sym, ap, ◌∙◌, subst}
-use Prim.Native.Nat.{ℕ, ◌≤◌, ◌<◌, ◌^◌}
+use Prim.Native.Nat.{ℕ}
 use native.Mathlib.Omega.{arith}
 use lib.Dec.{T, leb→le}
-use lib.ListN.{length, take, get_or}
+use lib.ListN.{get_or}
+use Rattle.std.specs.Prelude.{Result, Ok, Err}
 use Rattle.checks.proofs.Laws.Feed.{check-lt}
 use Rattle.checks.specs.Paper.Buses.{homiq_crc}
 use Rattle.digits.specs.Paper.Ascii.{ascii}
 use Rattle.layouts.specs.Paper.Chars.{one_of}
 use Rattle.layouts.specs.Paper.Homiq as homiqs
-use Rattle.layouts.specs.Paper.Made.{Wire, closed, homiq_of, Payload}
+use Rattle.layouts.specs.Paper.Made.{Wire, closed, homiq_of}
 use Rattle.messages.specs.Paper.Message.{row}
-use Rattle.messages.specs.Paper.Says.{Says, of_homiq}
+use Rattle.messages.specs.Paper.Says.{of_homiq}
 use Rattle.messages.specs.declared.Message.TheVariants.{Homiq as OnHomiq}
 use Rattle.messages.specs.declared.homiq.Homiq.{Homiq}
 use Rattle.messages.specs.declared.homiq.Homiq.TheVariants.{Output, Input, Shutter, Beat, Other}
@@ -23,8 +24,11 @@ use Rattle.asked.specs.Paper.Means.{state_row}
 use Rattle.shapes.specs.Paper.Shapes.{shape_at, fields_of, wired_fields}
 use Rattle.asked.specs.Work.Draft.{Drafts}
 use Rattle.asked.specs.Work.Got.{Slot, ReadsAll}
+use Rattle.asked.specs.Work.Homiq as homiq
 use Rattle.asked.specs.Work.Homiq.{Wires, wired_slots, row_of_homiq}
-use Rattle.asked.proofs.Laws.Drafts.{Settled, settled, SaysRow, drafts, members_of}
+use Rattle.asked.specs.declared.Draft.{Draft}
+use Rattle.asked.specs.declared.values.Reason.{Reason}
+use Rattle.asked.proofs.Laws.Drafts.{Settled, settled, SaysRow, drafted, no-draft, members_of}
 use Rattle.asked.proofs.Laws.Drafts as settling
 use Rattle.asked.proofs.Laws.Shaped.{said_row}
 use Rattle.asked.proofs.Laws.Slots.{AllHeld, slots_at, slotted}
@@ -96,18 +100,22 @@ limits_of w (slots.and a (slots.and b (slots.and c (slots.and d (slots.and i (sl
     }
 
 -- THE DRAFT
-pub homiq-draft : (e : Homiq) {s content : List ℕ} {len st r : ℕ} → row_of_homiq e ≡ r → Wires s content len st → Drafts s r content (OnHomiq e) len st
-homiq-draft e {s} {content} {len} {st} row_is x =
-    subst (λ (r : ℕ). Drafts s r content (OnHomiq e) len st) row_is
-    (drafts (row_of_homiq e) (members-of e) (no-state e) refl (subst (λ (l : List Slot). ReadsAll s l (wired_fields w) st) (sym (slots-of e)) x.reads)
-    (λ h. by (settled x.reads) h))
-  where
-    w : Wire
-    w = x.wire
+all-read : (e : Homiq) {s : List ℕ} {q : Result (List Field) Reason} → ReadsAll s wired_slots q → ReadsAll s (slots_at (row_of_homiq e)) q
+all-read e {s} {q} x = subst (λ (l : List Slot). ReadsAll s l q) (sym (slots-of e)) x
 
-    by : {q : ℕ} → Settled s wired_slots (wired_fields w) q → q ≡ 0 → SaysRow (row_of_homiq e) content (OnHomiq e) len (wired_fields w)
-    by (settling.all o h k) z =
-        said_row (of_homiq e w) (row_of e w) (fields-of e w) x.within
-        (record { wire = w; payload = record { limits = limits_of w k; laid = x.joined }; is = refl }) (beside-of e w ∙ sym x.joined)
-    by (settling.large gs o h n) z = absurd (omega arith)
-    by (settling.none n) z = absurd (omega arith)
+module _ (e : Homiq) {s content : List ℕ} {r : ℕ} (row_is : row_of_homiq e ≡ r) where
+  pub homiq-draft : {len : ℕ} → Wires s content (Ok len) → {d : Draft} → d.message ≡ OnHomiq e → d.len ≡ len → Drafts s r content (Ok d)
+  homiq-draft {len} (homiq.is {wire = w} x within joined) {d} f g =
+      subst (λ (r : ℕ). Drafts s r content (Ok d)) row_is
+      (drafted (row_of_homiq e) (members-of e) (no-state e) (λ (l : List Field). l) (all-read e x) refl
+      (rw (f, g) (by (settled x))))
+    where
+      by : Settled s wired_slots (Ok (wired_fields w)) → SaysRow (row_of_homiq e) content (OnHomiq e) len (wired_fields w)
+      by (settling.all o h k) =
+          said_row (of_homiq e w) (row_of e w) (fields-of e w) within
+          (record { wire = w; payload = record { limits = limits_of w k; laid = joined }; is = refl }) (beside-of e w ∙ sym joined)
+
+  pub no-homiq : {why : Reason} → Wires s content (Err why) → Drafts s r content (Err why)
+  no-homiq {why} (homiq.not x) =
+      subst (λ (r : ℕ). Drafts s r content (Err why)) row_is
+      (no-draft (row_of_homiq e) (members-of e) (no-state e) (λ (l : List Field). l) (all-read e x) refl)

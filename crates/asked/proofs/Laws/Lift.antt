@@ -9,13 +9,14 @@ use Prim.Native.Nat.{ℕ, ◌^◌, ◌/◌}
 use native.Mathlib.Omega.{arith}
 use lib.IntN.{ℤ, nat_abs}
 use lib.ListN.{length}
+use Rattle.std.specs.Prelude.{Result, Ok, Err}
 use Rattle.digits.proofs.Laws.Decimal.{length_some}
 use Rattle.digits.proofs.Laws.Hex.{hex-inj}
 use Rattle.digits.specs.Paper.Bytes.{Bytes}
 use Rattle.digits.specs.Paper.Hex.{hex_bytes}
 use Rattle.numbers.proofs.Laws.Reader.{text-inj}
 use Rattle.numbers.proofs.Laws.Text.{length-text}
-use Rattle.numbers.specs.Paper.Text.{text, below_zero}
+use Rattle.numbers.specs.Paper.Text.{below_zero}
 use Rattle.json_values.specs.Paper.Json as json
 use Rattle.jsontext.proofs.Theorems.{one_name, one-object}
 use Rattle.jsontext.proofs.Unique.{one-first}
@@ -29,7 +30,8 @@ use Rattle.shapes.specs.Paper.Fields.{Field, plain, reading}
 use Rattle.asked.specs.Paper.Field.{Spells, as_plain, as-reading, SpellsReading}
 use Rattle.shapes.specs.Paper.Shapes.{Sort, IsOf, a-number, some_bytes, some-digits, a-content, a-string, a-bool, a-reading}
 use Rattle.asked.specs.Work.Got as got
-use Rattle.asked.specs.Work.Got.{Limit, Reads, ValueIn, ReadsIn, slot}
+use Rattle.asked.specs.Work.Got.{Limit, Reads, ValueIn, ReadsIn, slot, mapped, Holds}
+use Rattle.asked.specs.declared.values.Reason.{Reason}
 
 -- ---- an empty text
 
@@ -97,11 +99,24 @@ pub value_in : {s n v : List ℕ} {f : Field} → ValueIn s n v → Has Spells s
 value_in (got.ValueIn.is o i) h = spelt-so o i h
 value_in (got.ValueIn.none k) h = absurd (k h.members h.member h.object h.first)
 
-pub lifted : {s n v : List ℕ} {sort : Sort} {limit : Limit} {f : Field} {st : ℕ}
-    → ValueIn s n v → Reads v sort limit f st → ReadsIn s (slot n sort limit) f st
+pub lifted : {s n v : List ℕ} {sort : Sort} {limit : Limit} {r : Result Field Reason}
+    → ValueIn s n v → Reads v sort limit r → ReadsIn s (slot n sort limit) r
 lifted w (got.Reads.is a x l) = got.ReadsIn.is a (in-value w x) l
 lifted w (got.Reads.large a x l) = got.ReadsIn.large a (in-value w x) l
 lifted w (got.Reads.none k) = got.ReadsIn.none (λ g a h. k g a (value_in w h))
+
+-- a value that was read, by the answer
+pub read-at : {A : Type 0} (f : A → Field) {v : List ℕ} {sort : Sort} {limit : Limit} {r : Result A Reason} {x : A}
+    → Reads v sort limit (mapped f r) → r ≡ Ok x → Reads v sort limit (Ok (f x))
+read-at f {v} {sort} {limit} x e = subst (λ q. Reads v sort limit (mapped f q)) e x
+
+pub reason-at : {A : Type 0} (f : A → Field) {v : List ℕ} {sort : Sort} {limit : Limit} {r : Result A Reason} {why : Reason}
+    → Reads v sort limit (mapped f r) → r ≡ Err why → Reads v sort limit (Err why)
+reason-at f {v} {sort} {limit} x e = subst (λ q. Reads v sort limit (mapped f q)) e x
+
+-- and it is held
+pub is_held : {v : List ℕ} {sort : Sort} {limit : Limit} {f : Field} → Reads v sort limit (Ok f) → Holds limit f
+is_held (got.Reads.is a x l) = l
 
 -- ---- one field
 

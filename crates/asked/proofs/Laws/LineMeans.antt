@@ -29,7 +29,7 @@ use Rattle.json_values.specs.Paper.Json as json
 use Rattle.jsontext.specs.Paper.Names.{most_depth}
 use Rattle.lines.specs.Paper.Line as lines
 use Rattle.lines.specs.Paper.Line.{high_byte_first, members}
-use Rattle.shapes.specs.Paper.Fields.{Field, plain, reading, hex, chars}
+use Rattle.shapes.specs.Paper.Fields.{plain, reading, hex, chars}
 use Rattle.asked.specs.Paper.Field.{Spells}
 use Rattle.asked.specs.Paper.Line.{command_line}
 use Rattle.asked.specs.Paper.Means.{named, Means}

@@ -1,11 +1,11 @@
 -- A reading as its four members, and what `reading` answers of them.
 -- Assumes nothing.
-use mathlib.Core.Bool.{Bool, cond}
+use mathlib.Core.Bool.{Bool}
 use mathlib.Core.List.{List}
-use mathlib.Core.Path.{◌≡◌, refl, sym, ap, subst, ◌∙◌}
+use mathlib.Core.Path.{◌≡◌, sym, ap, subst, ◌∙◌}
 use Prim.Native.Nat.{ℕ, ◌≤◌}
-use native.Mathlib.Omega.{arith}
 use lib.IntN.{ℤ, pos, neg_ℤ}
+use Rattle.std.specs.Prelude.{Result, Err}
 use Rattle.digits.specs.Paper.Ascii.{ascii}
 use Rattle.digits.specs.Paper.Read.{Decides, holds, fails}
 use Rattle.numbers.proofs.Laws.Signs.{back}
@@ -18,9 +18,10 @@ use Rattle.asked.specs.Paper.Field.{Has, none, and, SpellsPlain, as-whole, as-ch
 use Rattle.shapes.specs.Paper.Fields.{Field, plain, reading}
 use Rattle.asked.specs.Paper.Field.{SpellsReading, Spells, as_plain, as-reading}
 use Rattle.shapes.specs.Paper.Shapes.{number, bool, measured, IsOf, a-number, a-bool, a-reading}
-use Rattle.asked.specs.Work.Got.{Limit, between, any, Reads, ReadsIn, ValueIn, slot, Within, FourMembers, pointed}
+use Rattle.asked.specs.Work.Got.{Limit, between, any, Reads, ReadsIn, ValueIn, slot, Within, FourMembers, pointed, mapped, beyond_of}
 use Rattle.asked.specs.Work.Got as got
-use Rattle.asked.proofs.Laws.Agree.{unread}
+use Rattle.asked.specs.declared.values.Reason.{Reason}
+use Rattle.asked.specs.declared.values.Reason.TheVariants.{Large, NoValue}
 use Rattle.asked.proofs.Laws.Lift.{head-has, tail-has, in-value, value_in, one_in}
 use Rattle.asked.proofs.Laws.Numbers.{nested, raw-back}
 use Rattle.asked.proofs.Laws.Points.{pointed-text}
@@ -85,36 +86,32 @@ from_parts p =
 
 -- ---- what is answered
 
-module _ {v : List ℕ} {d : ℕ} {limit : Limit} {f : Field} where
-  none_so : ((z : ℤ) → Parts v z d → ⊥) → Reads v (measured d) limit f 12
+module _ {v : List ℕ} {d : ℕ} {limit : Limit} where
+  none_so : ((z : ℤ) → Parts v z d → ⊥) → Reads v (measured d) limit (Err NoValue)
   none_so n = got.Reads.none (λ g o s. by o s)
     where
       by : {g : Field} → IsOf (measured d) g → Spells v g → ⊥
       by (a-reading {z = z}) (as-reading x) = n z (to-parts x)
 
-  pub not-four : (FourMembers v → ⊥) → Reads v (measured d) limit f 12
+  pub not-four : (FourMembers v → ⊥) → Reads v (measured d) limit (Err NoValue)
   not-four n = none_so (λ z p. n p.four)
 
-  pub not-dec : (Decs v d → ⊥) → Reads v (measured d) limit f 12
+  pub not-dec : (Decs v d → ⊥) → Reads v (measured d) limit (Err NoValue)
   not-dec n = none_so (λ z p. n p.dec)
 
-  pub not-single : {g : Field} {st : ℕ} → ReadsIn v (slot (ascii "f32") bool any) g st → (st ≡ 0 → ⊥) → Reads v (measured d) limit f 12
-  not-single r n = none_so (λ z p. unread r n a-bool tt p.single)
+  pub not-single : {why : Reason} → ReadsIn v (slot (ascii "f32") bool any) (Err why) → Reads v (measured d) limit (Err why)
+  not-single (got.ReadsIn.large o h l) = absurd (l tt)
+  not-single (got.ReadsIn.none n) = none_so (λ z p. n _ a-bool p.single)
 
-  pub not-raw : {g : Field} {st : ℕ} {m : Limit} → ReadsIn v (slot (ascii "raw") number m) g st → st ≡ 12 → Reads v (measured d) limit f 12
-  not-raw r e = none_so (λ z p. by r e p.raw)
-    where
-      by : {g : Field} {st : ℕ} {m : Limit} {z : ℤ} → ReadsIn v (slot (ascii "raw") number m) g st → st ≡ 12 → Raws v z → ⊥
-      by (got.ReadsIn.is o h l) e k = omega arith
-      by (got.ReadsIn.large o h l) e k = omega arith
-      by (got.ReadsIn.none n) e k = n _ a-number k
+  pub not-raw : {m : Limit} → ReadsIn v (slot (ascii "raw") number m) (Err NoValue) → Reads v (measured d) limit (Err NoValue)
+  not-raw (got.ReadsIn.none n) = none_so (λ z p. n _ a-number p.raw)
 
 -- with its number, another member that is not so
 one-raw : {v : List ℕ} {y z : ℤ} → Raws v y → Raws v z → y ≡ z
 one-raw h k = cc (one_in a-number a-number h k)
 
-module _ {v : List ℕ} {d : ℕ} {limit : Limit} {f : Field} {z : ℤ} (h : Raws v z) where
-  pub not-text-so : {t : List ℕ} → ValueIn v (ascii "text") t → (IsString t (text z d) → ⊥) → Reads v (measured d) limit f 12
+module _ {v : List ℕ} {d : ℕ} {limit : Limit} {z : ℤ} (h : Raws v z) where
+  pub not-text-so : {t : List ℕ} → ValueIn v (ascii "text") t → (IsString t (text z d) → ⊥) → Reads v (measured d) limit (Err NoValue)
   not-text-so {t} w n =
       none_so
       (λ y p. let e : y ≡ z = one-raw p.raw h in
@@ -125,10 +122,10 @@ module _ {v : List ℕ} {d : ℕ} {limit : Limit} {f : Field} {z : ℤ} (h : Raw
 
   -- where the machine reads the number back
   module _ (r : Raw z) where
-    pub not-text : {t : List ℕ} → ValueIn v (ascii "text") t → (IsString t (text (back z) d) → ⊥) → Reads v (measured d) limit f 12
+    pub not-text : {t : List ℕ} → ValueIn v (ascii "text") t → (IsString t (text (back z) d) → ⊥) → Reads v (measured d) limit (Err NoValue)
     not-text {t} w n = not-text-so w (λ s. n (subst (λ (x : ℤ). IsString t (text x d)) (sym (raw-back r)) s))
 
-    pub not-fits : {b : Bool} → Singles v b → (b ≡ fits_single (back z) → ⊥) → Reads v (measured d) limit f 12
+    pub not-fits : {b : Bool} → Singles v b → (b ≡ fits_single (back z) → ⊥) → Reads v (measured d) limit (Err NoValue)
     not-fits {b} k n =
         none_so
         (λ y p. let e : y ≡ z = one-raw p.raw h in
@@ -150,38 +147,31 @@ all-agree {t = t} {d = d} {b = b} h r m n k e w s =
     }
 
 -- a raw number that is read, and one that is none of 01's
-abbrev pub RawIn : List ℕ → ℤ → ℕ → Type 0
-RawIn v z st = ReadsIn v (slot (ascii "raw") number (between (neg_ℤ (pos 2147483648)) (pos 4294967295))) (plain (whole z)) st
-
-pub raw-read : {v : List ℕ} {z : ℤ} {st : ℕ} → RawIn v z st → (st ≡ 12 → ⊥) → (st ≡ 5 → ⊥) → Raws v z
-raw-read (got.ReadsIn.is o h l) e f = h
-raw-read (got.ReadsIn.large o h l) e f = absurd (f refl)
-raw-read (got.ReadsIn.none k) e f = absurd (e refl)
+abbrev pub RawIn : List ℕ → Result Field Reason → Type 0
+RawIn v r = ReadsIn v (slot (ascii "raw") number (between (neg_ℤ (pos 2147483648)) (pos 4294967295))) r
 
 record Beyond (v : List ℕ) : Type 0 where
   z : ℤ
   raw : Raws v z
   large : Raw z → ⊥
 
-far-raw : {v : List ℕ} {z : ℤ} {st : ℕ} → RawIn v z st → st ≡ 5 → Beyond v
-far-raw (got.ReadsIn.is o h l) e = absurd (omega arith)
-far-raw (got.ReadsIn.large (a-number {z = z}) h l) e = record { z = z; raw = h; large = l }
-far-raw (got.ReadsIn.none k) e = absurd (omega arith)
+far-raw : {v : List ℕ} → RawIn v (Err Large) → Beyond v
+far-raw (got.ReadsIn.large (a-number {z = z}) h l) = record { z = z; raw = h; large = l }
 
 module _ {v : List ℕ} {d : ℕ} {least most : ℤ} where
-  pub whole-so : {z value : ℤ} {state : ℕ} → Parts v z d → Within z least most value state → Reads v (measured d) (between least most) (reading value d) state
+  pub whole-so : {z : ℤ} {r : Result ℤ Reason} → Parts v z d → Within z least most r → Reads v (measured d) (between least most) (mapped (λ y. reading y d) r)
   whole-so p (got.Within.is b) = got.Reads.is a-reading (as-reading (from_parts p)) b
   whole-so {z} p (got.outside n) = got.Reads.large (a-reading {z = z}) (as-reading (from_parts p)) n
 
-  pub beyond-so : {y : ℤ} {st : ℕ} {t w : List ℕ} {a b : Bool} {f : Field} → Raw least → Raw most → d ≤ 3 → FourMembers v → Decs v d → Singles v b
-      → RawIn v y st → st ≡ 5 → ValueIn v (ascii "text") t → ValueIn v (ascii "raw") w → Decides (IsString t (pointed d w)) a
-      → Reads v (measured d) (between least most) f (cond a 5 12)
-  beyond-so {t = t} {w = w} {a = a} {b = b} {f = f} x y few m n s r e i j c = by (far-raw r e)
+  pub beyond-so : {t w : List ℕ} {a b : Bool} {why : Reason} → Raw least → Raw most → d ≤ 3 → FourMembers v → Decs v d → Singles v b
+      → RawIn v (Err Large) → ValueIn v (ascii "text") t → ValueIn v (ascii "raw") w → Decides (IsString t (pointed d w)) a → why ≡ beyond_of a
+      → Reads v (measured d) (between least most) (Err why)
+  beyond-so {t = t} {w = w} {a = a} {b = b} x y few m n s r i j c e = rw e (by (far-raw r))
     where
       whole_of : {z : ℤ} → Spells w (plain (whole z)) → w ≡ text z 0
       whole_of (as_plain (as-whole e)) = e
 
-      so : {a : Bool} (k : Beyond v) → Decides (IsString t (text k.z d)) a → Reads v (measured d) (between least most) f (cond a 5 12)
+      so : {a : Bool} (k : Beyond v) → Decides (IsString t (text k.z d)) a → Reads v (measured d) (between least most) (Err (beyond_of a))
       so k (holds q) =
           got.Reads.large (a-reading {z = k.z})
           (as-reading
@@ -189,7 +179,7 @@ module _ {v : List ℕ} {d : ℕ} {least most : ℤ} where
           (λ b. k.large (nested x y b))
       so k (fails q) = not-text-so k.raw i q
 
-      by : Beyond v → Reads v (measured d) (between least most) f (cond a 5 12)
+      by : Beyond v → Reads v (measured d) (between least most) (Err (beyond_of a))
       by k =
           let e : pointed d w ≡ text k.z d = ap (pointed d) (whole_of (value_in j k.raw)) ∙ pointed-text k.z d k.large few in
           so k (subst (λ (l : List ℕ). Decides (IsString t l) a) e c)

@@ -2,13 +2,13 @@
 -- Assumes nothing.
 use mathlib.Core.Bool.{Bool, true, false, ◌&&◌, ◌||◌, cond, false≢true, true≢false}
 use mathlib.Core.List.{List, [], ◌∷◌}
-use mathlib.Core.Logic.{◌⊎◌, inl, inr}
 use mathlib.Core.Path.{◌≡◌, refl, sym, ap, ◌∙◌}
 use Prim.Native.Nat.{ℕ, zero, suc, ◌+◌, ◌≤◌, ◌<◌}
 use native.Mathlib.Omega.{arith}
 use lib.Dec.{T, eqb, leb, eqb→eq, leb→le}
 use lib.ListN.{length, get_or}
 use borrow.Author.Tests.{eqb-true, eq-eqb, ne_eqb}
+use Rattle.std.specs.Prelude.{Option, Some, None}
 use Rattle.frames.specs.Paper.Kinds.{known, number_of}
 use Rattle.frames.specs.declared.kinds.Kind.{Kind}
 use Rattle.layouts.specs.Paper.Chars.{one_of}
@@ -52,6 +52,11 @@ pub record Placed (i : ℕ) (shs : List Shape) (k : ℕ) (n : List ℕ) (r : ℕ
   pub kind : (get_or shs place no_shape).kind ≡ k
   pub msg : (get_or shs place no_shape).msg ≡ n
 
+-- or no place has them
+pub data Found (i : ℕ) (shs : List Shape) (k : ℕ) (n : List ℕ) : Option ℕ → Type 0 where
+  at : {r : ℕ} → Placed i shs k n r → Found i shs k n (Some r)
+  nowhere : ((j : ℕ) → j < length shs → (get_or shs j no_shape).kind ≡ k → (get_or shs j no_shape).msg ≡ n → ⊥) → Found i shs k n None
+
 module _ (k : ℕ) (n : List ℕ) where
   abbrev fits : Shape → Bool
   fits sh = eqb sh.kind k && same_text sh.msg n
@@ -66,49 +71,31 @@ module _ (k : ℕ) (n : List ℕ) where
   so-fits : (sh : Shape) → sh.kind ≡ k → sh.msg ≡ n → fits sh ≡ true
   so-fits sh e f = rw (eq-eqb sh.kind k e, f) (same_text_lem n)
 
-  -- the row is a place of the list
-  pub row-placed : (shs : List Shape) (i : ℕ) → (row_in i shs k n ≡ 0) ⊎ Placed i shs k n (row_in i shs k n)
+  -- the row is the first such place of the list, or no place has them
+  pub row_found : (shs : List Shape) (i : ℕ) → Found i shs k n (row_in i shs k n)
   unfolding row_in
-  row-placed [] i = inl refl
-  row-placed (sh ∷ shs) i = by (fits sh) refl (row-placed shs (i + 1))
+  row_found [] i = nowhere (λ j l p q. omega arith)
+  row_found (sh ∷ shs) i = by (fits sh) refl (row_found shs (i + 1))
     where
       later : {r : ℕ} → Placed (i + 1) shs k n r → Placed i (sh ∷ shs) k n r
       later p = record { place = suc p.place; inside = omega (arith, p.inside); is = omega (arith, p.is); kind = p.kind; msg = p.msg }
 
-      by : (b : Bool) → fits sh ≡ b → (row_in (i + 1) shs k n ≡ 0) ⊎ Placed (i + 1) shs k n (row_in (i + 1) shs k n)
-          → (cond b i (row_in (i + 1) shs k n) ≡ 0) ⊎ Placed i (sh ∷ shs) k n (cond b i (row_in (i + 1) shs k n))
-      by true e r = let f = fits-so sh e in inr (record { place = 0; inside = omega arith; is = omega arith; kind = f.0; msg = f.1 })
-      by false e (inl z) = inl z
-      by false e (inr p) = inr (later p)
+      further : fits sh ≡ false → ((j : ℕ) → j < length shs → (get_or shs j no_shape).kind ≡ k → (get_or shs j no_shape).msg ≡ n → ⊥)
+          → (j : ℕ) → j < suc (length shs) → (get_or (sh ∷ shs) j no_shape).kind ≡ k → (get_or (sh ∷ shs) j no_shape).msg ≡ n → ⊥
+      further e f zero l p q = true≢false (sym (so-fits sh p q) ∙ e)
+      further e f (suc j) l p q = f j (omega arith) p q
 
-  -- if it is none, no place has them
-  pub none-placed : (shs : List Shape) (i : ℕ) → 0 < i → row_in i shs k n ≡ 0 → (j : ℕ) → j < length shs → (get_or shs j no_shape).kind ≡ k
-      → (get_or shs j no_shape).msg ≡ n → ⊥
-  unfolding row_in
-  none-placed [] i h e j l p q = omega arith
-  none-placed (sh ∷ shs) i h e zero l p q =
-      let z : cond (fits sh) i (row_in (i + 1) shs k n) ≡ 0 = e in
-      let y : i ≡ 0 = rw (so-fits sh p q) at z in omega arith
-  none-placed (sh ∷ shs) i h e (suc j) l p q = by (fits sh) e (λ z. none-placed shs (i + 1) (omega arith) z j (omega arith) p q)
-    where
-      by : (b : Bool) → cond b i (row_in (i + 1) shs k n) ≡ 0 → (row_in (i + 1) shs k n ≡ 0 → ⊥) → ⊥
-      by true z f = omega arith
-      by false z f = f z
+      by : {r : Option ℕ} (b : Bool) → fits sh ≡ b → Found (i + 1) shs k n r → Found i (sh ∷ shs) k n (cond b (Some i) r)
+      by true e r = let f = fits-so sh e in at (record { place = 0; inside = omega arith; is = omega arith; kind = f.0; msg = f.1 })
+      by false e (at p) = at (later p)
+      by false e (nowhere f) = nowhere (further e f)
 
-  pub row-found : (row_named k n ≡ 0 → ⊥) → Placed 1 shapes k n (row_named k n)
+  pub row-found : Found 1 shapes k n (row_named k n)
   unfolding row_named
-  row-found h = by (row-placed shapes 1)
-    where
-      by : (row_in 1 shapes k n ≡ 0) ⊎ Placed 1 shapes k n (row_in 1 shapes k n) → Placed 1 shapes k n (row_in 1 shapes k n)
-      by (inl z) = absurd (h z)
-      by (inr p) = p
-
-  pub row-none : row_named k n ≡ 0 → (j : ℕ) → j < 23 → (shape_at (suc j)).kind ≡ k → (shape_at (suc j)).msg ≡ n → ⊥
-  unfolding row_named
-  row-none e j l p q = none-placed shapes 1 (omega arith) e j l p q
+  row-found = row_found shapes 1
 
   -- a kind that is none
-  pub no_kind : (1 ≡ k → ⊥) → (2 ≡ k → ⊥) → (3 ≡ k → ⊥) → (4 ≡ k → ⊥) → (5 ≡ k → ⊥) → 0 ≡ row_named k n
+  pub no_kind : (1 ≡ k → ⊥) → (2 ≡ k → ⊥) → (3 ≡ k → ⊥) → (4 ≡ k → ⊥) → (5 ≡ k → ⊥) → None ≡ row_named k n
   unfolding row_named row_in
   no_kind a b c d e = simp (ne_eqb 1 k a, ne_eqb 2 k b, ne_eqb 3 k c, ne_eqb 4 k d, ne_eqb 5 k e)
 
@@ -134,11 +121,11 @@ pub above : (k : ℕ) {n : ℕ} → k ≤ n → (n ≡ k → ⊥) → suc k ≤ 
 above k h f = omega (arith, f)
 
 -- a kind's row, whatever the kind is called
-pub by_kind : {k d : Kind} (n : List ℕ) {r : ℕ} → k ≡ d → r ≡ row_named (number_of d) n → r ≡ row_named (number_of k) n
+pub by_kind : {k d : Kind} (n : List ℕ) {r : Option ℕ} → k ≡ d → r ≡ row_named (number_of d) n → r ≡ row_named (number_of k) n
 by_kind n e f = f ∙ ap (λ (i : Kind). row_named (number_of i) n) (sym e)
 
 -- a number that is no kind's has no row
-pub unknown-row : (k : ℕ) (n : List ℕ) → known k ≡ false → 0 ≡ row_named k n
+pub unknown-row : (k : ℕ) (n : List ℕ) → known k ≡ false → None ≡ row_named k n
 unfolding known one_of
 unknown-row k n h =
     no_kind k n (λ e. true≢false (ap known e ∙ h)) (λ e. true≢false (ap known e ∙ h)) (λ e. true≢false (ap known e ∙ h)) (λ e. true≢false (ap known e ∙ h))

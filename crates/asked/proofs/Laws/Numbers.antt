@@ -2,7 +2,7 @@
 -- Assumes nothing.
 use mathlib.Core.Bool.{true, false}
 use mathlib.Core.List.{List}
-use mathlib.Core.Path.{◌≡◌, refl, sym, ap, subst, ◌∙◌}
+use mathlib.Core.Path.{◌≡◌, refl, sym, ◌∙◌}
 use Prim.Native.Nat.{ℕ, ◌<◌}
 use native.Mathlib.Nat.{le_trans}
 use native.Mathlib.Omega.{arith}
@@ -11,26 +11,26 @@ use lib.IntN.{ℤ, pos, negsuc}
 use lib.Signed.{le_z}
 use mir.Syntax.{w64}
 use mir.Val.{SFits}
+use Rattle.std.specs.Prelude.{Result, Ok, Err}
 use Rattle.digits.proofs.Laws.Reads.{answered}
-use Rattle.digits.proofs.Laws.Refusals.{some_number, cause-of, cause-at}
+use Rattle.digits.proofs.Laws.Refusals.{some_number}
 use Rattle.digits.proofs.Laws.Tests.{untold}
 use Rattle.digits.specs.Paper.Read.{Decides, holds}
 use Rattle.digits.specs.Paper.Read as read
 use Rattle.digits.specs.declared.refusal.Refusal.{Refusal}
 use Rattle.numbers.proofs.Laws.Reader.{text-inj}
-use Rattle.numbers.proofs.Laws.Signs.{back, said, read_back, raw-fits}
-use Rattle.numbers.specs.Paper.Answers.{ReadsText, reading_refusal, reading_value, AnswersFits, RangeCause, range}
+use Rattle.numbers.proofs.Laws.Signs.{back, read_back, raw-fits}
+use Rattle.numbers.specs.Paper.Answers.{ReadsText}
 use Rattle.numbers.specs.Paper.Raw.{Between, Raw}
 use Rattle.numbers.specs.Paper.Text.{text, Number, InLimits}
-use Rattle.numbers.specs.declared.single.Fit.{Fit}
-use Rattle.numbers.specs.declared.single.Fit.TheVariants.{Refused as NoFit}
 use Rattle.numbers.specs.declared.text.Reading.{Reading}
-use Rattle.numbers.specs.declared.text.Reading.TheVariants.{Is, Refused}
 use Rattle.shapes.specs.Paper.Fields.{whole, plain, Field}
 use Rattle.asked.specs.Paper.Field.{Spells, as_plain, as-whole}
-use Rattle.shapes.specs.Paper.Shapes.{Sort, number, IsOf, a-number}
-use Rattle.asked.specs.Work.Got.{Within, SpellsWhole, Reads, between}
+use Rattle.shapes.specs.Paper.Shapes.{number, IsOf, a-number}
+use Rattle.asked.specs.Work.Got.{Within, SpellsWhole, Reads, between, mapped}
 use Rattle.asked.specs.Work.Got as got
+use Rattle.asked.specs.declared.values.Reason.{Reason}
+use Rattle.asked.specs.declared.values.Reason.TheVariants.{Large, NoValue}
 
 -- ---- ranges
 
@@ -49,27 +49,20 @@ nested {low} {high} {least} {most} {z} x y b =
     record { low = record { le = le-steps low least z x.low.le b.low.le }; high = record { le = le-steps z most high b.high.le y.high.le } }
 
 module _ {raw least most : ℤ} where
-  pub out_of : {value : ℤ} {state : ℕ} → Decides (Between least most raw) false → (state ≡ 5) × (value ≡ pos 0) → Within raw least most value state
-  out_of d (e, f) = rw (e, f) (got.outside (untold d refl))
+  pub out_of : Decides (Between least most raw) false → Within raw least most (Err Large)
+  out_of d = got.outside (untold d refl)
 
-  pub in-range : Decides (Between least most raw) true → back raw ≡ raw → Within raw least most (back raw) 0
+  pub in-range : Decides (Between least most raw) true → back raw ≡ raw → Within raw least most (Ok (back raw))
   in-range (holds b) e = rw e (got.Within.is b)
 
   -- as the machine reads the numbers back
-  pub read-within : {value : ℤ} {state : ℕ} → SFits w64 raw → SFits w64 least → SFits w64 most
-      → Within (back raw) (back least) (back most) value state → Within raw least most value state
-  read-within {value} {state} f g h w = rw (read_back raw f, read_back least g, read_back most h) at w
+  pub read-within : {r : Result ℤ Reason} → SFits w64 raw → SFits w64 least → SFits w64 most
+      → Within (back raw) (back least) (back most) r → Within raw least most r
+  read-within f g h w = rw (read_back raw f, read_back least g, read_back most h) at w
 
 -- a raw number is read back
 pub raw-back : {z : ℤ} → Raw z → back z ≡ z
 raw-back {z} r = read_back z (raw-fits z r)
-
--- a number in range is never refused
-pub no-refusal : (z : ℤ) {r : Fit} {why : Refusal} → SFits w64 z → Raw z → AnswersFits (back z) r → r ≡ NoFit why → ⊥
-no-refusal z {r} {why} f h a e = by (cause-at (cause-of (said (λ (y : ℤ). AnswersFits y r) z f a)) (rw e (some_number why)))
-  where
-    by : {k : ℕ} → RangeCause z k → ⊥
-    by (range n) = n h
 
 -- ---- a whole number
 
@@ -79,46 +72,31 @@ none_read : {t : List ℕ} {k : ℕ} {v : Number} → 0 < k
 none_read h (read.is l e) = absurd (omega arith)
 none_read h (read.none f) = f
 
-module _ {v : List ℕ} {r : Reading} (a : ReadsText v r) where
-  pub read_number : {z : ℤ} {d : ℕ} → r ≡ Is z d → text z d ≡ v
-  read_number {z} {d} e = subst (λ (n : Number). text n.raw n.decimals ≡ v) (ap reading_value e) (answered (lit< tt) a (ap reading_refusal e)).1
+module _ {v : List ℕ} {n : Reading} (a : ReadsText v (Ok n)) where
+  pub read_number : text n.raw n.decimals ≡ v
+  read_number = (answered (lit< tt) a refl).1
 
-  pub read-raw : {z : ℤ} {d : ℕ} → r ≡ Is z d → Raw z
-  read-raw e = subst (λ (n : Number). Raw n.raw) (ap reading_value e) (answered (lit< tt) a (ap reading_refusal e)).0.in-range
+  pub read-raw : Raw n.raw
+  read-raw = (answered (lit< tt) a refl).0.in-range
 
-  pub not-read : {why : Refusal} → r ≡ Refused why → (z : ℤ) → Raw z → text z 0 ≡ v → ⊥
-  not-read {why} e z w = none_read (rw e (some_number why)) a (record { raw = z; decimals = 0 }) (record { in-range = w; few = omega arith })
+pub not-read : {v : List ℕ} (why : Refusal) → ReadsText v (Err why) → (z : ℤ) → Raw z → text z 0 ≡ v → ⊥
+not-read why a z w = none_read (some_number why) a (record { raw = z; decimals = 0 }) (record { in-range = w; few = omega arith })
 
 -- the number that a whole field is
 whole_of : {v : List ℕ} {g : Field} → IsOf number g → Spells v g → SpellsWhole v
 whole_of (a-number {z = z}) (as_plain (as-whole e)) = (z, e)
 
 module _ {v : List ℕ} {least most : ℤ} where
-  pub has-point : (z : ℤ) (d : ℕ) {f : Field} → text z d ≡ v → (d ≡ 0 → ⊥) → Reads v number (between least most) f 12
+  pub has-point : (z : ℤ) (d : ℕ) → text z d ≡ v → (d ≡ 0 → ⊥) → Reads v number (between least most) (Err NoValue)
   has-point z d e n = got.Reads.none (λ g o s. let (y, x) = whole_of o s in n (text-inj z y d 0 (e ∙ x)).1)
 
-  pub in-or-out : {z value : ℤ} (d : ℕ) {state : ℕ} → text z d ≡ v → d ≡ 0 → Within z least most value state → Reads v number (between least most) (plain (whole value)) state
-  in-or-out {z} d e n (got.Within.is b) = got.Reads.is a-number (as_plain (as-whole (sym (rw n at e)))) b
+  pub in-or-out : {z : ℤ} (d : ℕ) {r : Result ℤ Reason} → text z d ≡ v → d ≡ 0 → Within z least most r
+      → Reads v number (between least most) (mapped (λ y. plain (whole y)) r)
+  in-or-out d e n (got.Within.is b) = got.Reads.is a-number (as_plain (as-whole (sym (rw n at e)))) b
   in-or-out {z} d e n (got.outside f) = got.Reads.large (a-number {z = z}) (as_plain (as-whole (sym (rw n at e)))) f
 
-  pub is-large : {f : Field} → Raw least → Raw most → ((z : ℤ) → Raw z → text z 0 ≡ v → ⊥) → SpellsWhole v → Reads v number (between least most) f 5
+  pub is-large : Raw least → Raw most → ((z : ℤ) → Raw z → text z 0 ≡ v → ⊥) → SpellsWhole v → Reads v number (between least most) (Err Large)
   is-large x y n (z, e) = got.Reads.large (a-number {z = z}) (as_plain (as-whole e)) (λ b. n z (nested x y b) (sym e))
 
-  pub no_number : {f : Field} → (SpellsWhole v → ⊥) → Reads v number (between least most) f 12
+  pub no_number : (SpellsWhole v → ⊥) → Reads v number (between least most) (Err NoValue)
   no_number n = got.Reads.none (λ g o s. n (whole_of o s))
-
-pub within-limits : {least most z value : ℤ} {state : ℕ} → Between least most (pos 0) → Within z least most value state → Between least most value
-within-limits o (got.Within.is b) = b
-within-limits o (got.outside f) = o
-
--- an answer without a number
-pub without : {v : List ℕ} {sort : Sort} {least most value : ℤ} {f : Field} {state n : ℕ} → Between least most (pos 0) → (state ≡ n) × (value ≡ pos 0)
-    → Reads v sort (between least most) f n → Reads v sort (between least most) f state × Between least most value
-without o (e, g) r = (rw e r, rw g o)
-
-pub without-reads : {v : List ℕ} {sort : Sort} {least most value : ℤ} {f : Field} {state n : ℕ} → (state ≡ n) × (value ≡ pos 0)
-    → Reads v sort (between least most) f n → Reads v sort (between least most) f state
-without-reads (e, g) r = rw e r
-
-pub without-between : {least most value : ℤ} {state n : ℕ} → Between least most (pos 0) → (state ≡ n) × (value ≡ pos 0) → Between least most value
-without-between o (e, g) = rw g o

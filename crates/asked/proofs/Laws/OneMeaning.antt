@@ -4,6 +4,7 @@ use mathlib.Core.List.{List, [], ◌∷◌}
 use mathlib.Core.Path.{◌≡◌, refl, sym, ap, ap₂, subst, ◌∙◌}
 use Prim.Native.Nat.{ℕ}
 use lib.IntN.{nat_abs}
+use Rattle.std.specs.Prelude.{Option, Some}
 use Rattle.layouts.specs.Paper.Made.{Wire}
 use Rattle.messages.specs.Paper.Message.{Message, read, set, answer, press, tail, link, command, climate, state, break, end, text, response, ask, reply, put, done, nibe, output, input, shutter, beat, homiq, row}
 use Rattle.messages.specs.Paper.Table.{Good}
@@ -21,7 +22,7 @@ use Rattle.asked.proofs.Laws.Rebuilt.{built}
 -- ---- the row
 
 -- a row is known by its kind and its msg
-row-known : (m : Message) → row_named (shape_at (row m)).kind (shape_at (row m)).msg ≡ row m
+row-known : (m : Message) → row_named (shape_at (row m)).kind (shape_at (row m)).msg ≡ Some (row m)
 unfolding row_named row_in same_text
 row-known (read g a) = refl
 row-known (set g a out) = refl
@@ -53,7 +54,7 @@ one-row m n x y =
     let msgs = one_in a-string a-string (head-has (tail-has x.each)) (head-has (tail-has y.each)) in
     let k : (shape_at (row m)).kind ≡ (shape_at (row n)).kind = ap (λ (f : Field). nat_abs (number_in f)) kinds in
     let l : (shape_at (row m)).msg ≡ (shape_at (row n)).msg = ap list_in msgs in
-    sym (row-known m) ∙ ap₂ row_named k l ∙ row-known n
+    let e : ◌≡◌ {A = Option ℕ} (Some (row m)) (Some (row n)) = sym (row-known m) ∙ ap₂ row_named k l ∙ row-known n in cc
 
 -- ---- the fields
 

@@ -2,17 +2,17 @@
 -- Assumes nothing.
 use mathlib.Core.Bool.{Bool, false}
 use mathlib.Core.List.{List, [], ◌∷◌}
-use mathlib.Core.Path.{◌≡◌, refl, sym, ap, ◌∙◌, subst}
+use mathlib.Core.Path.{◌≡◌, refl, sym, ap, ◌∙◌}
 use Prim.Native.Nat.{ℕ, ◌+◌, ◌*◌, ◌/◌, ◌%◌}
 use native.Mathlib.Omega.{arith}
-use lib.IntN.{ℤ, pos, nat_abs}
+use lib.IntN.{pos, nat_abs}
 use lib.ListN.{get_or}
 use Rattle.frames.specs.Paper.Kinds.{number_of}
 use Rattle.layouts.specs.Paper.Made.{Wire}
 use Rattle.messages.specs.Paper.Content.{kind_of}
 use Rattle.messages.specs.Paper.Message.{Message, read, set, answer, press, tail, link, command, climate, state, break, end, text, response, ask, reply, put, done, nibe, output, input, shutter, beat, homiq, row, name}
 use Rattle.messages.specs.Paper.Table.{content_of}
-use Rattle.shapes.specs.Paper.Fields.{Plain, whole, hex, chars, truth, Field, plain, reading}
+use Rattle.shapes.specs.Paper.Fields.{whole, hex, chars, truth, Field, plain, reading}
 use Rattle.shapes.specs.Paper.Shapes.{shape_at, fields_of}
 use Rattle.asked.specs.Work.Got.{number_in, list_in}
 

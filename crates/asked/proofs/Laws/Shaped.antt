@@ -3,9 +3,9 @@
 use mathlib.Core.Bool.{true≢false, false}
 use mathlib.Core.List.{List, [], ◌∷◌}
 use mathlib.Core.Path.{◌≡◌, refl, sym, ap, ◌∙◌, subst}
-use Prim.Native.Nat.{ℕ, suc, ◌≤◌}
+use Prim.Native.Nat.{ℕ, ◌≤◌}
 use native.Mathlib.Omega.{arith}
-use borrow.Author.Tests.{le-ltb}
+use Rattle.std.specs.Prelude.{Result, Ok, Err}
 use lib.IntN.{ℤ, pos, negsuc, nat_abs}
 use mir.Syntax.{w16}
 use mir.Val.{to_z, of_z}
@@ -25,7 +25,6 @@ use Rattle.messages.specs.declared.Message.TheVariants.{Nikobus as OnNikobus}
 use Rattle.messages.specs.declared.nikobus.Nikobus.{Nikobus}
 use Rattle.messages.specs.declared.nikobus.Nikobus.TheVariants.{Link}
 use Rattle.numbers.proofs.Laws.Signs.{back}
-use Rattle.numbers.specs.Paper.Raw.{Between}
 use Rattle.shapes.specs.Paper.Fields.{Field, plain, whole, hex, reading}
 use Rattle.asked.specs.Paper.Field.{as_plain, as-hex}
 use Rattle.asked.specs.Paper.Answers.{beside}
@@ -33,31 +32,53 @@ use Rattle.shapes.specs.Paper.Shapes.{Sort, number, content, measured, a-content
 use Rattle.asked.specs.Paper.Means.{state_row}
 use Rattle.asked.specs.Work.Draft.{Drafts}
 use Rattle.asked.specs.Work.Draft as draft
-use Rattle.asked.specs.Work.Got.{Slot, slot, Limit, between, up_to, Reads, ReadsIn, ReadsAll, ValueIn, worse}
+use Rattle.asked.specs.Work.Got.{Slot, slot, between, up_to, Reads, ReadsIn, ReadsAll, ValueIn, mapped, both, joined}
+use Rattle.asked.specs.declared.Draft.{Draft}
+use Rattle.asked.specs.declared.values.Reason.{Reason}
 use Rattle.asked.specs.Work.Got as got
 use Rattle.asked.proofs.Laws.Casts.{as-count, as-signed}
-use Rattle.asked.proofs.Laws.Drafts.{SaysRow, drafts, members_of}
-use Rattle.asked.proofs.Laws.Lift.{lifted}
+use Rattle.asked.proofs.Laws.Drafts.{SaysRow, drafted, members_of}
+use Rattle.asked.proofs.Laws.Lift.{lifted, is_held}
 use Rattle.asked.proofs.Laws.Rebuilt.{built}
 use Rattle.asked.proofs.Laws.Slots.{slots_at}
 
--- the last member's number is its own
-worse-zero : (a : ℕ) → worse a 0 ≡ a
-worse-zero a = rw (le-ltb a 0 (omega arith))
+-- members one behind the other, as their answers are joined
+pub more : {A B : Type 0} (f : A → Field) (g : B → List Field) (a : Result A Reason) (b : Result B Reason) {s : List ℕ} {i : Slot} {is : List Slot}
+    {r : Result (A × B) Reason} → ReadsIn s i (mapped f a) → ReadsAll s is (mapped g b) → r ≡ joined a b
+    → ReadsAll s (i ∷ is) (mapped (λ (p : A × B). f p.0 ∷ g p.1) r)
+more {A} {B} f g a b {s} {i} {is} x y e = rw e (subst (ReadsAll s (i ∷ is)) (same a b) (got.and x y))
+  where
+    same : (a : Result A Reason) (b : Result B Reason) → both ◌∷◌ (mapped f a) (mapped g b) ≡ mapped (λ (p : A × B). f p.0 ∷ g p.1) (joined a b)
+    same (Ok x) (Ok y) = refl
+    same (Ok x) (Err w) = refl
+    same (Err w) (Ok y) = refl
+    same (Err w) (Err u) = refl
 
-pub last : {s : List ℕ} {i : Slot} {f : Field} {a : ℕ} → ReadsIn s i f a → ReadsAll s (i ∷ []) (f ∷ []) a
-last {s} {i} {f} {a} x = subst (ReadsAll s (i ∷ []) (f ∷ [])) (worse-zero a) (got.and x got.none)
+pub last : {A : Type 0} (f : A → Field) (a : Result A Reason) {s : List ℕ} {i : Slot} → ReadsIn s i (mapped f a)
+    → ReadsAll s (i ∷ []) (mapped (λ (x : A). f x ∷ []) a)
+last {A} f a {s} {i} x = subst (ReadsAll s (i ∷ [])) (same a) (got.and x got.none)
+  where
+    same : (a : Result A Reason) → both ◌∷◌ (mapped f a) (Ok []) ≡ mapped (λ (x : A). f x ∷ []) a
+    same (Ok x) = refl
+    same (Err w) = refl
+
+pub all-at : {A : Type 0} (f : A → List Field) {s : List ℕ} {is : List Slot} {r q : Result A Reason} → ReadsAll s is (mapped f r) → r ≡ q
+    → ReadsAll s is (mapped f q)
+all-at f {s} {is} x e = subst (λ i. ReadsAll s is (mapped f i)) e x
 
 -- a whole number and a reading, cast as the message has it
-module _ {s n v : List ℕ} {m : ℕ} (small : m ≤ 4294967295) (value : ValueIn s n v) {z : ℤ} (held : Between (pos 0) (pos m) z) {st : ℕ} where
-  pub numbered : Reads v number (between (pos 0) (pos m)) (plain (whole z)) st → ReadsIn s (slot n number (between (pos 0) (pos m))) (number_field (nat_abs (back z))) st
-  numbered r =
-      subst (λ (y : ℤ). ReadsIn s (slot n number (between (pos 0) (pos m))) (plain (whole y)) st) (as-count small z held) (lifted value r)
+module _ {s n v : List ℕ} {m : ℕ} (small : m ≤ 4294967295) (value : ValueIn s n v) where
+  pub numbered : (r : Result ℤ Reason) → Reads v number (between (pos 0) (pos m)) (mapped (λ z. plain (whole z)) r)
+      → ReadsIn s (slot n number (between (pos 0) (pos m))) (mapped (λ z. number_field (nat_abs (back z))) r)
+  numbered (Ok z) x =
+      subst (λ (y : ℤ). ReadsIn s (slot n number (between (pos 0) (pos m))) (Ok (plain (whole y)))) (as-count small z (is_held x)) (lifted value x)
+  numbered (Err w) x = lifted value x
 
-  pub measuring : (d : ℕ) → Reads v (measured d) (between (pos 0) (pos m)) (reading z d) st
-      → ReadsIn s (slot n (measured d) (between (pos 0) (pos m))) (reading (pos (nat_abs (back z))) d) st
-  measuring d r =
-      subst (λ (y : ℤ). ReadsIn s (slot n (measured d) (between (pos 0) (pos m))) (reading y d) st) (as-count small z held) (lifted value r)
+  pub measuring : (d : ℕ) (r : Result ℤ Reason) → Reads v (measured d) (between (pos 0) (pos m)) (mapped (λ z. reading z d) r)
+      → ReadsIn s (slot n (measured d) (between (pos 0) (pos m))) (mapped (λ z. reading (pos (nat_abs (back z))) d) r)
+  measuring d (Ok z) x =
+      subst (λ (y : ℤ). ReadsIn s (slot n (measured d) (between (pos 0) (pos m))) (Ok (reading y d))) (as-count small z (is_held x)) (lifted value x)
+  measuring d (Err w) x = lifted value x
 
 -- ---- the message that is said
 
@@ -78,49 +99,47 @@ pub fixed : (e : Nikobus) → links.is_link e ≡ false → (s : List ℕ) → S
 fixed e h s = another (λ i. true≢false (ap links.is_link (sym i) ∙ h)) refl
 
 -- ---- where nothing stands beside, the content does not matter
-pub without : {s : List ℕ} {r : ℕ} {e : Coded} {st : ℕ} (bytes : List ℕ) {len : ℕ} → Drafts s r [] e len st → Drafts s r bytes e len st
-without {s} {r} {e} bytes {len} (draft.is h x) =
-    let i : len ≡ 0 = omega (arith, x.within) in
-    let k : take len [] ≡ take len bytes = subst (λ (n : ℕ). take n [] ≡ take n bytes) (sym i) refl in
+pub without : {s : List ℕ} {r : ℕ} {q : Result Draft Reason} (bytes : List ℕ) → Drafts s r [] q → Drafts s r bytes q
+without bytes (draft.is {d = d} h x) =
+    let i : d.len ≡ 0 = omega (arith, x.within) in
+    let k : take d.len [] ≡ take d.len bytes = subst (λ (n : ℕ). take n [] ≡ take n bytes) (sym i) refl in
     draft.is h
     (record {
       within = omega (arith, i);
-      some = record { message = x.some.message; says = subst (λ (c : List ℕ). Says e c x.some.message) k x.some.says };
-      to = λ m y l. subst (λ (c : List ℕ). Says e c m) k (x.to m y l);
-      from = λ m y. x.from m (subst (λ (c : List ℕ). Says e c m) (sym k) y);
-      stands = λ m y. x.stands m (subst (λ (c : List ℕ). Says e c m) (sym k) y) ∙ k;
+      some = record { message = x.some.message; says = subst (λ (c : List ℕ). Says d.message c x.some.message) k x.some.says };
+      to = λ m y l. subst (λ (c : List ℕ). Says d.message c m) k (x.to m y l);
+      from = λ m y. x.from m (subst (λ (c : List ℕ). Says d.message c m) (sym k) y);
+      stands = λ m y. x.stands m (subst (λ (c : List ℕ). Says d.message c m) (sym k) y) ∙ k;
     })
 without bytes (draft.outside h n) = draft.outside h n
 without bytes (draft.none n) = draft.none n
 
 -- a message without members
-pub bare : {s : List ℕ} (r : ℕ) (m : Message) {f e : Coded} (bytes : List ℕ) {len st : ℕ} → members_of (slots_at r) ≡ (shape_at r).members → slots_at r ≡ []
-    → (r ≡ state_row → ⊥) → row m ≡ r → fields_of m ≡ [] → beside m ≡ [] → ((c : List ℕ) → Says f c m) → (st ≡ 0) × (e ≡ f) × (len ≡ 0) → Drafts s r bytes e len st
-bare {s} r m {f} {e} bytes {len} {st} same empty other p q b says (x, y, z) =
-    subst (λ (i : Coded). Drafts s r bytes i len st) (sym y)
-    (subst (λ (i : ℕ). Drafts s r bytes f i st) (sym z)
-    (drafts r same other x (subst (λ (l : List Slot). ReadsAll s l [] 0) (sym empty) got.none) (λ h. said_row m p q (omega arith) (says (take 0 bytes)) b)))
+pub bare : {s : List ℕ} (r : ℕ) (m : Message) {f : Coded} {d : Draft} (bytes : List ℕ) → members_of (slots_at r) ≡ (shape_at r).members → slots_at r ≡ []
+    → (r ≡ state_row → ⊥) → row m ≡ r → fields_of m ≡ [] → beside m ≡ [] → ((c : List ℕ) → Says f c m) → (d.message ≡ f) × (d.len ≡ 0) → Drafts s r bytes (Ok d)
+bare {s} r m {f} {d} bytes same empty other p q b says (y, z) =
+    drafted r same other (λ (l : List Field). l) {a = Ok []} (subst (λ (l : List Slot). ReadsAll s l (Ok [])) (sym empty) got.none) refl
+    (rw (y, z) (said_row m p q (omega arith) (says (take 0 bytes)) b))
 
 -- a row by its number
-pub at_row : {s : List ℕ} {r q : ℕ} {bytes : List ℕ} {e : Coded} {len st : ℕ} → q ≡ r → Drafts s r bytes e len st → Drafts s q bytes e len st
-at_row {s} {bytes = bytes} {e} {len} {st} i x = subst (λ (n : ℕ). Drafts s n bytes e len st) (sym i) x
+pub at_row : {s : List ℕ} {r q : ℕ} {bytes : List ℕ} {d : Result Draft Reason} → q ≡ r → Drafts s r bytes d → Drafts s q bytes d
+at_row {s} {bytes = bytes} {d} i x = subst (λ (n : ℕ). Drafts s n bytes d) (sym i) x
 
 -- a limit by another name
-pub resized : {v : List ℕ} {sort : Sort} {f : Field} {st a b : ℕ} → a ≡ b → Reads v sort (up_to a) f st → Reads v sort (up_to b) f st
-resized {v} {sort} {f} {st} e r = subst (λ (n : ℕ). Reads v sort (up_to n) f st) e r
+pub resized : {v : List ℕ} {sort : Sort} {r : Result Field Reason} {a b : ℕ} → a ≡ b → Reads v sort (up_to a) r → Reads v sort (up_to b) r
+resized {v} {sort} {r} e x = subst (λ (n : ℕ). Reads v sort (up_to n) r) e x
 
 -- a reading of 16 bits with its sign
-pub measuring-signed : {s n v : List ℕ} → ValueIn s n v → {z : ℤ} → Between (negsuc 32767) (pos 32767) z → {st : ℕ} (d : ℕ)
-    → Reads v (measured d) (between (negsuc 32767) (pos 32767)) (reading z d) st
-    → ReadsIn s (slot n (measured d) (between (negsuc 32767) (pos 32767))) (reading (to_z w16 (of_z w16 (back z))) d) st
-measuring-signed {s} {n} value {z} held {st} d r =
-    subst (λ (y : ℤ). ReadsIn s (slot n (measured d) (between (negsuc 32767) (pos 32767))) (reading y d) st) (as-signed z held) (lifted value r)
+pub measuring-signed : {s n v : List ℕ} → ValueIn s n v → (d : ℕ) (r : Result ℤ Reason)
+    → Reads v (measured d) (between (negsuc 32767) (pos 32767)) (mapped (λ z. reading z d) r)
+    → ReadsIn s (slot n (measured d) (between (negsuc 32767) (pos 32767))) (mapped (λ z. reading (to_z w16 (of_z w16 (back z))) d) r)
+measuring-signed {s} {n} value d (Ok z) x =
+    subst (λ (y : ℤ). ReadsIn s (slot n (measured d) (between (negsuc 32767) (pos 32767))) (Ok (reading y d))) (as-signed z (is_held x)) (lifted value x)
+measuring-signed value d (Err w) x = lifted value x
 
 -- the bytes of a content that was read
-pub read-bytes : {v p : List ℕ} {l : Limit} {st : ℕ} → Reads v content l (plain (hex p)) st → st ≡ 0 → Bytes p
-read-bytes (got.is a-content (as_plain (as-hex b x)) h) e = b
-read-bytes (got.large o x n) e = absurd (omega arith)
-read-bytes (got.none n) e = absurd (omega arith)
+pub read-bytes : {v p : List ℕ} {l : got.Limit} → Reads v content l (Ok (plain (hex p))) → Bytes p
+read-bytes (got.is a-content (as_plain (as-hex b x)) h) = b
 
 -- a link, its digits put at the front of the content
 pub linked : (n : ℕ) (payload : List ℕ) {len : ℕ} {room later : List ℕ} → Bytes (take n payload) → n ≤ 122 → length room ≡ 8192

@@ -2,8 +2,8 @@
 -- Assumes nothing.
 use mathlib.Core.Bool.{true}
 use mathlib.Core.List.{List, [], ◌∷◌}
-use mathlib.Core.Logic.{◌⊎◌, inl, inr, ⊎_elim}
-use mathlib.Core.Path.{◌≡◌, refl, sym, ap, ◌∙◌, subst}
+use mathlib.Core.Logic.{⊎_elim}
+use mathlib.Core.Path.{refl}
 use Prim.Native.Nat.{ℕ, ◌+◌, ◌≤◌, ◌<◌}
 use native.Mathlib.Nat.{le_trans}
 use native.Mathlib.Omega.{arith}
@@ -30,8 +30,7 @@ use Rattle.shapes.specs.Paper.Fields.{Named, Field}
 use Rattle.asked.specs.Paper.Means.{AreOf}
 use Rattle.asked.specs.Paper.Means as means
 use Rattle.shapes.specs.Paper.Shapes.{Sort, shape_at, fields_of, a-number, some_bytes, some-digits, a-content, a-string, a-bool, a-reading, wired, wired_fields}
-use Rattle.asked.specs.Work.Got.{Limit, between, up_to, wire-field, wire-type, any, Holds, Slot, slot, valued_slots}
-use Rattle.asked.specs.Work.Homiq.{wired_slots}
+use Rattle.asked.specs.Work.Got.{Limit, between, up_to, wire-field, wire-type, any, Holds, Slot}
 
 -- ---- the table
 

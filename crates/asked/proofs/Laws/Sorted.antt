@@ -1,12 +1,13 @@
 -- What a row's members are called, of which sorts they are, and whether a value is of one.
 -- Assumes nothing.
-use mathlib.Core.Bool.{Bool, true, false, not, ◌&&◌}
+use mathlib.Core.Bool.{Bool, true, false, ◌&&◌}
 use mathlib.Core.List.{List, [], ◌∷◌}
 use mathlib.Core.Path.{◌≡◌, refl, sym, ap, ◌∙◌, subst}
 use Prim.Native.Nat.{ℕ, zero, suc, ◌≤◌, ◌<◌}
 use native.Mathlib.Omega.{arith}
-use lib.Dec.{T, eqb, leb, leb→le}
+use lib.Dec.{T, leb, leb→le}
 use lib.ListN.{length, get_or, drop, replicate, length-append, length-replicate}
+use Rattle.std.specs.Prelude.{Result, Ok, Err, is_ok}
 use Rattle.digits.proofs.Laws.Parts.{part-front, length_part}
 use Rattle.digits.proofs.Laws.Refusals.{cause-at, some_number}
 use Rattle.digits.proofs.Laws.Tests.{T_and}
@@ -17,15 +18,15 @@ use Rattle.jsontext.specs.Paper.Members.{FindsValue}
 use Rattle.jsontext.specs.declared.members.Value.{Value}
 use Rattle.puts.proofs.Laws.Right.{as-right, first_of, written-right}
 use Rattle.puts.specs.Paper.Wrote as puts
-use Rattle.puts.specs.Paper.Wrote.{Wrote}
-use Rattle.puts.specs.declared.Written.{Written}
-use Rattle.puts.specs.declared.Written.TheVariants.{Bytes, Refused}
+use Rattle.puts.specs.Paper.Wrote.{Wrote, Written}
 use Rattle.shapes.specs.Paper.Fields.{Named, Field}
 use Rattle.shapes.specs.Paper.Members.{names, name_in, sort_of, sorts, sort_at, NameCause, no_name, short, WritesName}
 use Rattle.asked.specs.Paper.Lacks.{HasOf}
 use Rattle.shapes.specs.Paper.Shapes.{Sort, number, bytes, digits, content, string, bool, measured, shape_at}
 use Rattle.asked.specs.Work.Got as got
-use Rattle.asked.specs.Work.Got.{Limit, Reads, ValueIn}
+use Rattle.asked.specs.Work.Got.{Limit, any, Reads, ValueIn, mapped, is_spelt}
+use Rattle.asked.specs.declared.values.Reason.{Reason}
+use Rattle.asked.specs.declared.values.Reason.TheVariants.{Large, NoValue}
 use Rattle.asked.specs.Work.Lacks.{no_member, member_at, Spelt, SpeltAs, decimals_of}
 use Rattle.shapes.specs.declared.Sort.{Sort as Coded}
 use Rattle.shapes.specs.declared.Sort.TheVariants.{Nothing, Reading}
@@ -80,20 +81,20 @@ module _ (r i : ℕ) {room later : List ℕ} {w : Written} (wrote : WritesName (
   as-answered : {q : Written} → w ≡ q → WritesName (names (shape_at r).members) i room q later
   as-answered e = subst (λ (q : Written). WritesName (names (shape_at r).members) i room q later) e wrote
 
-  pub within-room : {n : ℕ} → w ≡ Bytes n → n ≤ length later
+  pub within-room : {n : ℕ} → w ≡ Ok n → n ≤ length later
   within-room e = by (as-answered e)
     where
       by : {bs room later : List ℕ} {Cause : ℕ → Type 0} {k n : ℕ} → Wrote Cause bs room k n later → n ≤ length later
       by {bs} {room} (puts.wrote f) = omega (arith, length-append bs (drop (length bs) room))
       by (puts.refused p f) = omega arith
 
-  pub found-by : {s : List ℕ} {n : ℕ} (v : Value) → w ≡ Bytes n → FindsValue s (part 0 n later) v → FindsValue s (member_at r i).name v
+  pub found-by : {s : List ℕ} {n : ℕ} (v : Result Value Refusal) → w ≡ Ok n → FindsValue s (part 0 n later) v → FindsValue s (member_at r i).name v
   found-by {s} {n} v e f =
       let its : part 0 n later ≡ (member_at r i).name =
       part-front n later ∙ written-right (as-right {Right = λ bs. bs ≡ name_in (names (shape_at r).members) i} refl (as-answered e)) refl ∙ its-name (shape_at r).members i in
       subst (λ (l : List ℕ). FindsValue s l v) its f
 
-  pub always-written : {why : Refusal} → w ≡ Refused why → r ≤ 23 → i < length (shape_at r).members → length room ≡ 8 → ⊥
+  pub always-written : {why : Refusal} → w ≡ Err why → r ≤ 23 → i < length (shape_at r).members → length room ≡ 8 → ⊥
   always-written {why} e h l m =
       by (cause-at (first_of (as-right {Right = λ bs. bs ≡ name_in (names (shape_at r).members) i} refl (as-answered e))) (some_number why))
     where
@@ -103,11 +104,25 @@ module _ (r i : ℕ) {room later : List ℕ} {w : Written} (wrote : WritesName (
 
 -- ---- a value of a sort
 
--- a reader that does not answer 12 has read one
-pub some-spelt : {v : List ℕ} {sort : Sort} {limit : Limit} {f : Field} {st : ℕ} → Reads v sort limit f st → Decides (Spelt v sort) (not (eqb st 12))
-some-spelt (got.Reads.is a x l) = holds (record { field = _; of = a; spelt = x })
-some-spelt (got.Reads.large a x l) = holds (record { field = _; of = a; spelt = x })
-some-spelt (got.Reads.none n) = fails (λ s. n s.field s.of s.spelt)
+-- a reader that answers a value or a large one has read one
+pub some-spelt : {A : Type 0} (f : A → Field) (r : Result A Reason) {v : List ℕ} {sort : Sort} {limit : Limit} {b : Bool}
+    → Reads v sort limit (mapped f r) → b ≡ is_spelt r → Decides (Spelt v sort) b
+some-spelt {A} f r {v} {sort} {limit} x e = rw e (by r x)
+  where
+    by : (r : Result A Reason) → Reads v sort limit (mapped f r) → Decides (Spelt v sort) (is_spelt r)
+    by (Ok y) (got.Reads.is a x l) = holds (record { field = _; of = a; spelt = x })
+    by (Err Large) (got.Reads.large a x l) = holds (record { field = _; of = a; spelt = x })
+    by (Err NoValue) (got.Reads.none n) = fails (λ s. n s.field s.of s.spelt)
+
+-- one of so many elements, which is none if it is not read
+pub exactly-spelt : (f : Field) (q : Result Unit Reason) {v : List ℕ} {sort : Sort} {b : Bool} → Reads v sort any (mapped (λ (u : Unit). f) q) → b ≡ is_ok q
+    → Decides (Spelt v sort) b
+exactly-spelt f q {v} {sort} x e = rw e (by q x)
+  where
+    by : (q : Result Unit Reason) → Reads v sort any (mapped (λ (u : Unit). f) q) → Decides (Spelt v sort) (is_ok q)
+    by (Ok u) (got.Reads.is a x l) = holds (record { field = _; of = a; spelt = x })
+    by (Err Large) (got.Reads.large a x l) = absurd (l tt)
+    by (Err NoValue) (got.Reads.none n) = fails (λ s. n s.field s.of s.spelt)
 
 same-sort : (v : List ℕ) (u : Sort) → SpeltAs v (sort_of u) ≡ Spelt v u
 same-sort v number = refl

@@ -3,10 +3,11 @@
 use mathlib.Core.Bool.{Bool}
 use mathlib.Core.List.{List, [], ◌∷◌}
 use mathlib.Core.Path.{◌≡◌, refl, sym, ap, ◌∙◌, subst}
-use Prim.Native.Nat.{ℕ, ◌≤◌, ◌<◌}
+use Prim.Native.Nat.{ℕ, ◌≤◌}
 use native.Mathlib.Omega.{arith}
 use lib.IntN.{ℤ, pos}
 use lib.ListN.{length, take, get_or}
+use Rattle.std.specs.Prelude.{Result, Ok, Err}
 use Rattle.digits.proofs.Laws.Hex.{length-hex}
 use Rattle.digits.specs.Paper.Ascii.{ascii}
 use Rattle.digits.proofs.Laws.Parts.{part-front}
@@ -17,12 +18,11 @@ use Rattle.jsontext.proofs.Theorems.{string-length}
 use Rattle.numbers.proofs.Laws.Signs.{back}
 use Rattle.numbers.specs.Paper.Raw.{Between}
 use Rattle.messages.specs.Paper.Message.{state}
-use Rattle.messages.specs.Paper.Says.{Says}
 use Rattle.messages.specs.Paper.Table.{v_in, v_op, v_bat}
 use Rattle.messages.specs.declared.Message.TheVariants.{Response as AsResponse}
 use Rattle.messages.specs.declared.nest.Response.TheVariants.{State}
 use Rattle.asked.specs.Paper.Answers.{beside}
-use Rattle.shapes.specs.Paper.Fields.{Named, ◌∶◌, Field, plain, hex, reading}
+use Rattle.shapes.specs.Paper.Fields.{◌∶◌, Field, plain, hex, reading}
 use Rattle.asked.specs.Paper.Field.{Spells, as_plain, as-hex, Has, HasEach}
 use Rattle.asked.specs.Paper.Field as paper
 use Rattle.asked.specs.Paper.Means.{named, HasRow}
@@ -30,13 +30,17 @@ use Rattle.asked.specs.Paper.Means as means
 use Rattle.shapes.specs.Paper.Shapes.{IsOf, content, measured, a-content, a-reading, shape_at, fields_of}
 use Rattle.asked.specs.Work.Draft.{HasMessage, Drafts}
 use Rattle.asked.specs.Work.Draft as draft
-use Rattle.asked.specs.Work.Got.{Slot, slot, Limit, between, up_to, Holds, Reads, ReadsIn, ReadsAll, ValueIn, Volts, number_in, list_in, worse, firm_of}
+use Rattle.asked.specs.Work.Got.{Slot, slot, Limit, between, up_to, Holds, Reads, ReadsIn, ReadsAll, ValueIn, Volts, number_in, list_in, mapped, joined, firm_of}
 use Rattle.asked.specs.Work.Got as got
+use Rattle.asked.specs.declared.Draft.{Draft}
+use Rattle.asked.specs.declared.values.Reason.{Reason}
+use Rattle.asked.specs.declared.values.Reason.TheVariants.{NoValue}
 use Rattle.asked.proofs.Laws.Casts.{back-again}
 use Rattle.asked.proofs.Laws.Drafts.{Settled, settled, SaysRow, one_each, members_of}
 use Rattle.asked.proofs.Laws.Drafts as drafts
 use Rattle.asked.proofs.Laws.Lift.{lifted, one_in}
-use Rattle.asked.proofs.Laws.Shaped.{last, said_row}
+use Rattle.asked.proofs.Laws.Results.{firm-is, firm-none}
+use Rattle.asked.proofs.Laws.Shaped.{last, more, said_row}
 use Rattle.asked.proofs.Laws.Slots.{AllHeld, u16-le, natural, are-of}
 use Rattle.asked.proofs.Laws.Slots as slots
 
@@ -111,23 +115,24 @@ agreeing {s} {p} {q} {a} {b} {d} x hs h = by (one_each (readings _ _ _) (reading
 
 -- a state with these members is said
 stated : {s bytes : List ℕ} {len : ℕ} {a b d : ℤ} → len ≤ length bytes → HasEach Spells s (named (members_of volt_slots) (volt_fields a b d))
-    → Has Spells s (ascii "data" ∶ plain (hex (take len bytes))) → Volts (take len bytes) a b d → Drafts s 9 bytes (AsResponse State) len 0
+    → Has Spells s (ascii "data" ∶ plain (hex (take len bytes))) → Volts (take len bytes) a b d → {e : Draft} → e.message ≡ AsResponse State → e.len ≡ len
+    → Drafts s 9 bytes (Ok e)
 unfolding members_of named fields_of beside
-stated {s} {bytes} {len} {a} {b} {d} l (paper.and x (paper.and y (paper.and z paper.none))) h v =
+stated {s} {bytes} {len} {a} {b} {d} l (paper.and x (paper.and y (paper.and z paper.none))) h v {e} f g =
     let p : List ℕ = take len bytes in
     let fs : List Field = reading a 2 ∷ reading b 3 ∷ reading d 3 ∷ plain (hex p) ∷ [] in
     let same : fs ≡ fields_of (state p) = rw (sym v.is-in, sym v.is-op, sym v.is-bat) in
     let each : HasEach Spells s (named (shape_at 9).members fs) = paper.and x (paper.and y (paper.and z (paper.and h paper.none))) in
     let sorts : means.AreOf (shape_at 9).members fs = means.and a-reading (means.and a-reading (means.and a-reading (means.and a-content means.none))) in
     let k = said_row {fs = fs} {bytes = bytes} {e = AsResponse State} {len = len} (state p) refl (sym same) l refl refl in
-    draft.is (record { fields = fs; of = record { sorts = sorts; agree = λ e. record { payload = p; enough = v.enough; is = same } }; each = each })
-    (record {
+    draft.is (record { fields = fs; of = record { sorts = sorts; agree = λ i. record { payload = p; enough = v.enough; is = same } }; each = each })
+    (rw (f, g) (record {
       within = l;
       some = k.some;
       to = λ m i j. k.to m i.its-row (one_each (subst (λ (r : ℕ). means.AreOf (shape_at r).members (fields_of m)) i.its-row (are-of m j)) sorts i.each each) j;
       from = λ m i. record { its-row = (k.from m i).0; each = subst (λ (l : List Field). HasEach Spells s (named (shape_at 9).members l)) (sym (k.from m i).1) each };
       stands = k.stands;
-    })
+    }))
 
 too_many : {s : List ℕ} {g : Field} → IsOf content g → Has Spells s (ascii "data" ∶ g) → (Holds (up_to 8192) g → ⊥) → ⊥
 too_many a-content h n = n (few h.spelt)
@@ -146,14 +151,6 @@ module _ {s : List ℕ} where
   no-data : ((f : Field) → IsOf content f → Has Spells s (ascii "data" ∶ f) → ⊥) → HasRow s 9 → ⊥
   no-data n g = let (q, t) = state-in g in n (plain (hex q)) a-content t.its-data
 
-refused : {s p : List ℕ} {a b d : ℤ} {v w : ℕ} → Settled s volt_slots (volt_fields a b d) v → ReadsIn s data_slot (plain (hex p)) w → (Volts p a b d → ⊥)
-    → HasRow s 9 → ⊥
-refused (drafts.all o h i) (got.is x y z) k g = let (q, t) = state-in g in k (agreeing t h y)
-refused (drafts.all o h i) (got.large x y n) k g = too_many x y n
-refused (drafts.all o h i) (got.none n) k g = no-data n g
-refused (drafts.large gs o h n) y k g = no-large gs o h n g
-refused (drafts.none n) y k g = no-volts n g
-
 -- that the voltages agree is told of the bytes that were read, and of numbers that come back from their 64 bits
 abbrev InWord : ℤ → Type 0
 InWord z = Between (pos 0) (pos 65535) z
@@ -167,32 +164,52 @@ agreed bytes n {a} {b} {d} {r} x y z k =
     (subst (λ (i : ℤ). Decides (Volts (part 0 n bytes) (back a) i d) r) (f b y)
     (subst (λ (i : ℤ). Decides (Volts (part 0 n bytes) (back a) (back b) i) r) (f d z) k)))
 
--- voltages that were read, with the highest of their numbers
-pub three : {s u v w : List ℕ} {a b d : ℤ} {i j k m n : ℕ} → ValueIn s (ascii "vin") u → Reads u (measured 2) word (reading a 2) i
-    → ValueIn s (ascii "vop") v → Reads v (measured 3) word (reading b 3) j → ValueIn s (ascii "vbat") w → Reads w (measured 3) word (reading d 3) k
-    → m ≡ worse j k → n ≡ worse i m → ReadsAll s volt_slots (volt_fields a b d) n
-three {s} {a = a} {b} {d} {i} u x v y w z e f =
-    subst (ReadsAll s volt_slots (volt_fields a b d)) (sym (f ∙ ap (worse i) e)) (got.and (lifted u x) (got.and (lifted v y) (last (lifted w z))))
+-- three voltages that were read
+abbrev pub Three : Type 0
+Three = ℤ × (ℤ × ℤ)
 
--- THE DRAFT OF A STATE whose voltages and data were read
-module _ {s bytes : List ℕ} {len : ℕ} where
-  twelve : {w : ℕ} → ReadsIn s data_slot (plain (hex (take len bytes))) w → (HasRow s 9 → ⊥) → Drafts s 9 bytes (AsResponse State) len (worse 12 w)
-  twelve (got.is x y z) n = draft.none n
-  twelve (got.large x y z) n = draft.none n
-  twelve (got.none x) n = draft.none n
+pub three : (a b d : Result ℤ Reason) {s u v w : List ℕ} {q : Result (ℤ × ℤ) Reason} {r : Result Three Reason}
+    → ValueIn s (ascii "vin") u → Reads u (measured 2) word (mapped (λ z. reading z 2) a)
+    → ValueIn s (ascii "vop") v → Reads v (measured 3) word (mapped (λ z. reading z 3) b)
+    → ValueIn s (ascii "vbat") w → Reads w (measured 3) word (mapped (λ z. reading z 3) d)
+    → q ≡ joined b d → r ≡ joined a q → ReadsAll s volt_slots (mapped (λ (z : Three). volt_fields z.0 z.1.0 z.1.1) r)
+three a b d {q = q} u x v y w z e f =
+    more (λ z. reading z 2) (λ (z : ℤ × ℤ). reading z.0 3 ∷ reading z.1 3 ∷ []) a q (lifted u x)
+    (more (λ z. reading z 3) (λ z. reading z 3 ∷ []) b d (lifted v y) (last (λ z. reading z 3) d (lifted w z)) e) f
 
-  pub agree-state : {a b d : ℤ} {v w : ℕ} → len ≤ length bytes → ReadsAll s volt_slots (volt_fields a b d) v → ReadsIn s data_slot (plain (hex (take len bytes))) w
-      → Volts (take len bytes) a b d → Drafts s 9 bytes (AsResponse State) len (worse (firm_of v) w)
-  agree-state {a} {b} {d} within x y k = by (settled x) y
+-- THE DRAFT OF A STATE, from voltages that were read
+module _ {s : List ℕ} (r : Result Three Reason) {q : Result Three Reason} (volts : ReadsAll s volt_slots (mapped (λ (z : Three). volt_fields z.0 z.1.0 z.1.1) r))
+    (firm : q ≡ firm_of r) where
+  its-at : {a : Result Three Reason} → r ≡ a → Settled s volt_slots (mapped (λ (z : Three). volt_fields z.0 z.1.0 z.1.1) a)
+  its-at e = settled (subst (λ (a : Result Three Reason). ReadsAll s volt_slots (mapped (λ (z : Three). volt_fields z.0 z.1.0 z.1.1) a)) e volts)
+
+  -- or not
+  pub volts-unread : {bytes : List ℕ} {why : Reason} → q ≡ Err why → Drafts s 9 bytes (Err why)
+  volts-unread e = let (n, w, f) = firm-none r (sym firm ∙ e) in rw n (draft.none (by (its-at f)))
     where
-      by : {v w : ℕ} → Settled s volt_slots (volt_fields a b d) v → ReadsIn s data_slot (plain (hex (take len bytes))) w
-          → Drafts s 9 bytes (AsResponse State) len (worse (firm_of v) w)
-      by (drafts.all o h i) (got.is p q r) = stated within h q k
-      by (drafts.all o h i) (got.large p q n) = absurd (too_many p q n)
-      by (drafts.all o h i) (got.none n) = draft.none (no-data n)
-      by (drafts.large gs o h n) y = twelve y (no-large gs o h n)
-      by (drafts.none n) y = twelve y (no-volts n)
+      by : {w : Reason} → Settled s volt_slots (Err w) → HasRow s 9 → ⊥
+      by (drafts.large gs o h n) = no-large gs o h n
+      by (drafts.none n) = no-volts n
 
-  pub disagree-state : {a b d : ℤ} {v w : ℕ} → ReadsAll s volt_slots (volt_fields a b d) v → ReadsIn s data_slot (plain (hex (take len bytes))) w
-      → (Volts (take len bytes) a b d → ⊥) → Drafts s 9 bytes (AsResponse State) len 12
-  disagree-state x y k = draft.none (refused (settled x) y k)
+  -- with data that were read, or not
+  module _ {z : Three} (e : q ≡ Ok z) where
+    read_three : Settled s volt_slots (Ok (volt_fields z.0 z.1.0 z.1.1))
+    read_three = its-at (firm-is r (sym firm ∙ e))
+
+    pub disagree-state : {bytes p : List ℕ} → ReadsIn s data_slot (Ok (plain (hex p))) → (Volts p z.0 z.1.0 z.1.1 → ⊥) → Drafts s 9 bytes (Err NoValue)
+    disagree-state {p = p} y k = draft.none (by read_three y)
+      where
+        by : Settled s volt_slots (Ok (volt_fields z.0 z.1.0 z.1.1)) → ReadsIn s data_slot (Ok (plain (hex p))) → HasRow s 9 → ⊥
+        by (drafts.all o h i) (got.is x y l) g = let (q, t) = state-in g in k (agreeing t h y)
+
+    pub agree-state : {bytes : List ℕ} {len : ℕ} → len ≤ length bytes → ReadsIn s data_slot (Ok (plain (hex (take len bytes)))) → Volts (take len bytes) z.0 z.1.0 z.1.1
+        → {d : Draft} → d.message ≡ AsResponse State → d.len ≡ len → Drafts s 9 bytes (Ok d)
+    agree-state {bytes} {len} within y k {d} f g = by read_three y
+      where
+        by : Settled s volt_slots (Ok (volt_fields z.0 z.1.0 z.1.1)) → ReadsIn s data_slot (Ok (plain (hex (take len bytes)))) → Drafts s 9 bytes (Ok d)
+        by (drafts.all o h i) (got.is x y l) = stated within h y k f g
+
+-- data that were not read
+pub data-unread : {s bytes : List ℕ} {why : Reason} → ReadsIn s data_slot (Err why) → Drafts s 9 bytes (Err why)
+data-unread (got.large x y n) = absurd (too_many x y n)
+data-unread (got.none n) = draft.none (no-data n)

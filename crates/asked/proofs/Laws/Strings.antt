@@ -3,19 +3,18 @@
 use mathlib.Core.Bool.{Bool, true, false, not, ◌&&◌, ◌||◌, true≢false}
 use mathlib.Core.List.{List, [], ◌∷◌, ◌++◌, append_assoc, append-nil}
 use mathlib.Core.Path.{◌≡◌, refl, sym, ap, subst, ◌∙◌}
-use Prim.Native.Nat.{ℕ, zero, suc, ◌+◌, ◌*◌, ◌/◌, ◌%◌, ◌≤◌, ◌<◌}
+use Prim.Native.Nat.{ℕ, ◌+◌, ◌*◌, ◌/◌, ◌%◌, ◌≤◌, ◌<◌}
 use native.Mathlib.Omega.{arith}
 use lib.Dec.{T, eqb}
 use lib.ListN.{length, get_or, take, drop, length-append, length-drop, drop_of_length-le}
 use lib.Seq.{sets, take-append_seam, length-sets, length-take-le}
 use borrow.Author.Tests.{le-leb}
+use Rattle.std.specs.Prelude.{Result, Ok, Err, IfOk, Option, Some, None, is_some}
 use Rattle.digits.specs.Paper.Answers.{ReadsDigit, ReadsByte}
 use Rattle.digits.specs.Paper.Bytes.{Bytes, part}
 use Rattle.digits.specs.Paper.Hex.{hex_digit, hex_byte, hex_bytes}
 use Rattle.digits.specs.Paper.Read.{Decides, holds, fails}
 use Rattle.digits.specs.Paper.Refusals.{refusal_number}
-use Rattle.digits.specs.declared.hex.Byte.{Byte}
-use Rattle.digits.specs.declared.hex.Byte.TheVariants.{Is, NoDigit}
 use Rattle.digits.specs.declared.refusal.Refusal.{Refusal}
 use Rattle.digits.proofs.Laws.Bytes.{bytes-nil, bytes-cons, bytes-append}
 use Rattle.digits.proofs.Laws.Hex.{figure-read, letter-read, length-hex, hex-append, digits-at}
@@ -27,8 +26,6 @@ use Rattle.digits.proofs.Laws.Tests.{T_true, told, untold}
 use Rattle.puts.specs.Paper.Put.{Put}
 use Rattle.puts.specs.Paper.Right as right
 use Rattle.puts.specs.Paper.Right.{WroteRight}
-use Rattle.puts.specs.declared.Written.{Written}
-use Rattle.puts.specs.declared.Written.TheVariants.{Bytes as Count, Refused}
 use Rattle.puts.proofs.Laws.Wrote.{by_size}
 use Rattle.layouts.specs.Paper.Chars.{all, one_of, is_hex}
 use Rattle.layouts.specs.Paper.Homiq as homiqs
@@ -41,7 +38,9 @@ use Rattle.shapes.specs.Paper.Fields.{Field, plain, hex, chars}
 use Rattle.asked.specs.Paper.Field.{Spells, as_plain, as-hex, as-chars}
 use Rattle.shapes.specs.Paper.Shapes.{IsOf, a-content, a-string, content, string}
 use Rattle.asked.specs.Work.Got as got
-use Rattle.asked.specs.Work.Got.{Reads, up_to, wire-field, Unhexes, are, many, unwritten_of, Holds}
+use Rattle.asked.specs.Work.Got.{Limit, Reads, up_to, wire-field, Unhexes, are, many, unwritten_of, Holds, mapped}
+use Rattle.asked.specs.declared.values.Reason.{Reason}
+use Rattle.asked.specs.declared.values.Reason.TheVariants.{Large, NoValue}
 use Rattle.asked.proofs.Laws.Lift.{one-string}
 use Rattle.asked.proofs.Laws.Values.{not-4}
 
@@ -56,8 +55,8 @@ pub record Front (R : List ℕ → Type 0) (room later : List ℕ) (len : ℕ) :
 -- the answer's number and count, taken apart
 module _ {v room later : List ℕ} where
   -- all characters were put
-  string-put : {r : Written} {n : ℕ} → WritesCharacters v room r later → r ≡ Count n → Front (IsString v) room later n
-  string-put {n = n} w e = by (subst (λ (q : Written). WritesCharacters v room q later) e w) refl
+  string-put : {n : ℕ} → WritesCharacters v room (Ok n) later → Front (IsString v) room later n
+  string-put w = by w refl
     where
       by : {k m : ℕ} {t : List ℕ} → WroteRight (CharactersCause v (length room)) (IsString v) room k m t → k ≡ 0 → Front (IsString v) room t m
       by (right.wrote {bs = bs} f x) z =
@@ -70,9 +69,8 @@ module _ {v room later : List ℕ} where
       by (right.refused p f) z = absurd (omega arith)
 
   -- or the room is as it was, and there is a cause
-  unput : {r : Written} {why : Refusal} → WritesCharacters v room r later → r ≡ Refused why
-      → CharactersCause v (length room) (refusal_number why) × (length later ≡ length room)
-  unput {why = why} w e = by (subst (λ (q : Written). WritesCharacters v room q later) e w) (some_number why)
+  unput : (why : Refusal) → WritesCharacters v room (Err why) later → CharactersCause v (length room) (refusal_number why) × (length later ≡ length room)
+  unput why w = by w (some_number why)
     where
       by : {k m : ℕ} {t : List ℕ} → WroteRight (CharactersCause v (length room)) (IsString v) room k m t → 0 < k
           → CharactersCause v (length room) k × (length t ≡ length room)
@@ -80,26 +78,27 @@ module _ {v room later : List ℕ} where
       by (right.refused p f) h = (cause-at f h, refl)
 
 -- they are within the room
-pub put-within : {v room later : List ℕ} {r : Written} {n : ℕ} → WritesCharacters v room r later → r ≡ Count n → n ≤ length later
-put-within w e = let f = string-put w e in omega (arith, f.within, f.same)
+pub put-within : {v room later : List ℕ} {n : ℕ} → WritesCharacters v room (Ok n) later → n ≤ length later
+put-within w = let f = string-put w in omega (arith, f.within, f.same)
 
 -- a string of at most so many characters, in an answer
-abbrev pub ReadsChars : List ℕ → List ℕ → List ℕ → ℕ → ℕ → Type 0
-ReadsChars v room later len state =
-    Reads v string (up_to (length room)) (plain (chars (take len later))) state × ((len ≤ length room) × (length later ≡ length room))
+abbrev pub Fits : List ℕ → List ℕ → Result ℕ Reason → Type 0
+Fits room later r = IfOk r (λ n. n ≤ length room) × (length later ≡ length room)
+
+abbrev pub ReadsChars : List ℕ → List ℕ → List ℕ → Limit → Result ℕ Reason → Type 0
+ReadsChars v room later limit r = Reads v string limit (mapped (λ n. plain (chars (take n later))) r)
 
 module _ {v room later : List ℕ} where
-  pub chars-put : {r : Written} {n : ℕ} → WritesCharacters v room r later → r ≡ Count n → ReadsChars v room later n 0
-  chars-put {n = n} w e =
-      let f = string-put w e in
+  pub chars-put : {n : ℕ} → WritesCharacters v room (Ok n) later → ReadsChars v room later (up_to (length room)) (Ok n) × Fits room later (Ok n)
+  chars-put {n} w =
+      let f = string-put w in
       let l : length (take n later) ≡ n = length-take-le n later (omega (arith, f.within, f.same)) in
       (got.Reads.is a-string (as_plain (as-chars f.reads)) (omega (arith, f.within)), (f.within, f.same))
 
-  pub chars-unput : {r : Written} {why : Refusal} {q len state : ℕ} → WritesCharacters v room r later → r ≡ Refused why
-      → q ≡ unwritten_of (refusal_number why) → (state ≡ q) × (len ≡ 0) → ReadsChars v room later len state
-  chars-unput {len = len} w e u (s, z) = let x = unput w e in (rw (s, u) (by x.0), (omega arith, x.1))
+  pub chars-unput : (why : Refusal) {q : Reason} → WritesCharacters v room (Err why) later → q ≡ unwritten_of (refusal_number why) → ReadsChars v room later (up_to (length room)) (Err q) × Fits room later (Err q)
+  chars-unput why w u = let x = unput why w in (rw u (by x.0), (tt, x.1))
     where
-      by : {k : ℕ} {f : Field} → CharactersCause v (length room) k → Reads v string (up_to (length room)) f (unwritten_of k)
+      by : {k : ℕ} → CharactersCause v (length room) k → Reads v string (up_to (length room)) (Err (unwritten_of k))
       by (members.no-string g) = got.Reads.none (λ h a x. no a x)
         where
           no : {h : Field} → IsOf string h → Spells v h → ⊥
@@ -124,11 +123,11 @@ one_byte : (b : ℕ) (t : List ℕ) → hex_bytes (b ∷ []) ++ t ≡ hex_byte b
 unfolding hex_bytes
 one_byte b t = append_assoc (hex_byte b) [] t
 
-pub one_more : {d room later last : List ℕ} {i b m : ℕ} {r : Byte} → i < length d / 2
-    → ReadsByte (get_or d (i * 2) 0) (get_or d (i * 2 + 1) 0) r → r ≡ Is b → Put later last i m (b ∷ []) → Unhexing d room later i
+pub one_more : {d room later last : List ℕ} {i b m : ℕ} → i < length d / 2
+    → ReadsByte (get_or d (i * 2) 0) (get_or d (i * 2 + 1) 0) (Some b) → Put later last i m (b ∷ []) → Unhexing d room later i
     → Unhexing d room last (i + 1)
-one_more {d} {room} {later} {last} {i} {b} h digit e w u =
-    let a = answered (omega arith) (subst (ReadsByte (get_or d (i * 2) 0) (get_or d (i * 2 + 1) 0)) e digit) refl in
+one_more {d} {room} {later} {last} {i} {b} h digit w u =
+    let a = answered (omega arith) digit refl in
     let p = u.passed in
     let rest : List ℕ = drop ((i + 1) * 2) d in
     let place : i ≡ 0 + length p = omega (arith, u.count) in
@@ -153,19 +152,18 @@ unhexing-length {room = room} u = ap length u.put ∙ length-sets room 0 u.passe
 counted : {d : List ℕ} (p : List ℕ) → d ≡ hex_bytes p → length d ≡ length p * 2
 counted p e = ap length e ∙ length-hex p
 
-module _ {d room later : List ℕ} {len state : ℕ} where
-  pub odd-digits : (length d % 2 ≡ 0 → ⊥) → (state ≡ 12) × (len ≡ 0) → length later ≡ length room → Unhexes d room later len state
-  odd-digits h (s, z) k = rw s (got.Unhexes.none (λ p b e. let l = counted p e in h (omega arith)) z k)
+module _ {d room later : List ℕ} where
+  pub odd-digits : (length d % 2 ≡ 0 → ⊥) → length later ≡ length room → Unhexes d room later (Err NoValue)
+  odd-digits h k = got.Unhexes.none (λ p b e. let l = counted p e in h (omega arith)) k
 
-  pub no-pair : {i : ℕ} {r : Byte} → i < length d / 2 → ReadsByte (get_or d (i * 2) 0) (get_or d (i * 2 + 1) 0) r → r ≡ NoDigit
-      → (state ≡ 12) × (len ≡ 0) → length later ≡ length room → Unhexes d room later len state
-  no-pair {i} h digit e (s, z) k =
-      rw s (got.Unhexes.none
+  pub no-pair : {i : ℕ} → i < length d / 2 → ReadsByte (get_or d (i * 2) 0) (get_or d (i * 2 + 1) 0) None → length later ≡ length room → Unhexes d room later (Err NoValue)
+  no-pair {i} h digit k =
+      got.Unhexes.none
       (λ p b f.
       let q : i < length p = omega (arith, counted p f) in
       let g : hex_byte (get_or p i 0) ≡ get_or d (i * 2) 0 ∷ get_or d (i * 2 + 1) 0 ∷ [] =
       digits-at p i q ∙ ap (λ (l : List ℕ). get_or l (i * 2) 0 ∷ get_or l (i * 2 + 1) 0 ∷ []) (sym f) in
-      refused (omega arith) (subst (ReadsByte (get_or d (i * 2) 0) (get_or d (i * 2 + 1) 0)) e digit) refl (get_or p i 0) (b.each i) g) z k)
+      refused (omega arith) digit refl (get_or p i 0) (b.each i) g) k
 
 -- all are read
 module _ {d room later : List ℕ} {i : ℕ} (u : Unhexing d room later i) (even : length d % 2 ≡ 0) (enough : length d / 2 ≤ i) where
@@ -175,40 +173,38 @@ module _ {d room later : List ℕ} {i : ℕ} (u : Unhexing d room later i) (even
   size : length d / 2 ≡ length u.passed
   size = omega (arith, counted u.passed whole)
 
-  pub too_many : {len state : ℕ} → length room < length d / 2 → (state ≡ 5) × (len ≡ 0) → Unhexes d room later len state
-  too_many h (s, z) = rw s (many u.bytes whole (omega (arith, size)) z (unhexing-length u))
+  pub too_many : length room < length d / 2 → Unhexes d room later (Err Large)
+  too_many h = many u.bytes whole (omega (arith, size)) (unhexing-length u)
 
-  pub all_read : length d / 2 ≤ length room → Unhexes d room later (length d / 2) 0
-  all_read h = are u.bytes whole size (omega (arith, size)) u.put
+  pub all_read : length d / 2 ≤ length room → Unhexes d room later (Ok (length d / 2))
+  all_read h = subst (λ (n : ℕ). Unhexes d room later (Ok n)) (sym size) (are u.bytes whole (omega (arith, size)) u.put)
 
 -- ---- bytes in hex
 
-abbrev pub ReadsContent : List ℕ → List ℕ → List ℕ → ℕ → ℕ → Type 0
-ReadsContent v room later len state =
-    Reads v content (up_to (length room)) (plain (hex (take len later))) state × ((len ≤ length room) × (length later ≡ length room))
+abbrev pub ReadsContent : List ℕ → List ℕ → List ℕ → Result ℕ Reason → Type 0
+ReadsContent v room later r = Reads v content (up_to (length room)) (mapped (λ n. plain (hex (take n later))) r) × Fits room later r
 
 module _ {v room later : List ℕ} where
   -- by the string's characters
-  by_digits : {d : List ℕ} {len state : ℕ} → IsString v d → Unhexes d room later len state → ReadsContent v room later len state
-  by_digits x (are {p = p} b e l fits s) =
+  by_digits : {d : List ℕ} {r : Result ℕ Reason} → IsString v d → Unhexes d room later r → ReadsContent v room later r
+  by_digits x (are {p = p} b e fits s) =
       let t : later ≡ p ++ drop (length p) room = s ∙ sets-front p room fits in
       let q : take (length p) later ≡ p = ap {B = List ℕ} (take (length p)) t ∙ take-append_seam p (drop (length p) room) in
-      rw l (rw q (got.Reads.is a-content (as_plain (as-hex b (subst (IsString v) e x))) fits), (fits, ap length s ∙ length-sets room 0 p))
-  by_digits x (many b e h z s) =
-      (got.Reads.large a-content (as_plain (as-hex b (subst (IsString v) e x))) (λ l. omega (arith, l)), (omega arith, s))
-  by_digits {d} x (got.Unhexes.none f z s) = (got.Reads.none (λ g a y. no a y), (omega arith, s))
+      (rw q (got.Reads.is a-content (as_plain (as-hex b (subst (IsString v) e x))) fits), (fits, ap length s ∙ length-sets room 0 p))
+  by_digits x (many b e h s) =
+      (got.Reads.large a-content (as_plain (as-hex b (subst (IsString v) e x))) (λ l. omega (arith, l)), (tt, s))
+  by_digits {d} x (got.Unhexes.none f s) = (got.Reads.none (λ g a y. no a y), (tt, s))
     where
       no : {g : Field} → IsOf content g → Spells v g → ⊥
       no a-content (as_plain (as-hex {p = q} b y)) = f q b (one-string x y)
 
-  pub content-put : {digits put : List ℕ} {r : Written} {n len state : ℕ} → WritesCharacters v digits r put → r ≡ Count n
-      → Unhexes (part 0 n put) room later len state → ReadsContent v room later len state
-  content-put {put = put} {n = n} w e u = by_digits (subst (IsString v) (sym (part-front n put)) (string-put w e).reads) u
+  pub content-put : {digits put : List ℕ} {n : ℕ} {q : Result ℕ Reason} → WritesCharacters v digits (Ok n) put → Unhexes (part 0 n put) room later q → ReadsContent v room later q
+  content-put {put = put} {n = n} w u = by_digits (subst (IsString v) (sym (part-front n put)) (string-put w).reads) u
 
 -- a room of as many bytes as a text may have is never too short
-pub content-unput : (room later : List ℕ) {v digits put : List ℕ} {r : Written} {why : Refusal} {len state : ℕ} → length digits ≡ 8192 → WritesCharacters v digits r put
-    → r ≡ Refused why → (state ≡ 12) × (len ≡ 0) → length later ≡ length room → ReadsContent v room later len state
-content-unput room later {v} {digits} l w e (s, z) k = (rw s (got.Reads.none (λ g a y. no (unput w e).0 a y)), (omega arith, k))
+pub content-unput : (room later : List ℕ) {v digits put : List ℕ} (why : Refusal) → length digits ≡ 8192 → WritesCharacters v digits (Err why) put
+    → length later ≡ length room → ReadsContent v room later (Err NoValue)
+content-unput room later {v} {digits} why l w k = (got.Reads.none (λ g a y. no (unput why w).0 a y), (tt, k))
   where
     no : {j : ℕ} {g : Field} → CharactersCause v (length digits) j → IsOf content g → Spells v g → ⊥
     no (members.no-string f) a-content (as_plain (as-hex b y)) = f _ y
@@ -231,15 +227,17 @@ T_false true e t = true≢false e
 T_false false e t = t
 
 -- a hex digit, by its reading
-pub digit-told : {c v : ℕ} {r : Byte} → ReadsDigit c r → r ≡ Is v → is_hex c ≡ true
-digit-told {c} {v} d e =
-    let a = answered (omega arith) (subst (ReadsDigit c) e d) refl in
+pub digit-told : {c : ℕ} (r : Option ℕ) → ReadsDigit c r → is_some r ≡ true → is_hex c ≡ true
+digit-told {c} (Some v) d e =
+    let a = answered (omega arith) d refl in
     let h : hex_digit v ≡ c = cc a.1 in
     T_true (is_hex c) (subst (λ (x : ℕ). T (is_hex x)) h (digit-hex v a.0))
+digit-told None d e = absurd (true≢false (sym e))
 
-pub digit-none : {c : ℕ} {r : Byte} → ReadsDigit c r → r ≡ NoDigit → T (is_hex c) → ⊥
-digit-none {c} d e t =
-    let no = refused (omega arith) (subst (ReadsDigit c) e d) refl in
+pub digit-none : {c : ℕ} (r : Option ℕ) → ReadsDigit c r → is_some r ≡ false → T (is_hex c) → ⊥
+digit-none (Some v) d e t = true≢false e
+digit-none {c} None d e t =
+    let no = refused (omega arith) d refl in
     hex-cases c ⊥ t
     (λ h k. let a = answered (omega arith) (figure-read c h k) refl in no _ a.0 a.1)
     (λ h k. let a = answered (omega arith) (letter-read c h k) refl in no _ a.0 a.1)
@@ -256,48 +254,35 @@ field-char c h k = simp (le-leb 0x21 c h, le-leb c 0x7E k) (neither (eqb c 59) (
     neither false false true = refl
     neither false false false = refl
 
-abbrev pub ReadsField : List ℕ → List ℕ → List ℕ → ℕ → ℕ → Type 0
-ReadsField v room later len state =
-    Reads v string (wire-field (length room)) (plain (chars (take len later))) state × ((len ≤ length room) × (length later ≡ length room))
-
--- a string that is no field: it is empty, or has another character
-by-string : {v : List ℕ} {most st : ℕ} {f g : Field} → Reads v string (up_to most) f st → st ≡ 0 → (Holds (wire-field most) f → ⊥)
-    → Reads v string (wire-field most) g 5
-by-string (got.Reads.is a x y) e h = got.Reads.large a x h
-by-string (got.Reads.large a x y) e h = absurd (omega arith)
-by-string (got.Reads.none y) e h = absurd (omega arith)
-
-module _ (room later : List ℕ) {v : List ℕ} {n : ℕ} where
+module _ (room later : List ℕ) {v : List ℕ} where
   -- no string, or too long
-  pub no_field : {st len state : ℕ} → ReadsChars v room later n st → (st ≡ 0 → ⊥) → (state ≡ st) × (len ≡ 0) → ReadsField v room later len state
-  no_field (r, (l, k)) h (s, z) = (rw s (by r h), (omega arith, k))
-    where
-      by : {st : ℕ} {f g : Field} → Reads v string (up_to (length room)) f st → (st ≡ 0 → ⊥) → Reads v string (wire-field (length room)) g st
-      by (got.Reads.is a x y) h = absurd (h refl)
-      by (got.Reads.large a x y) h = got.Reads.large a x (λ w. y w.short)
-      by (got.Reads.none y) h = got.Reads.none y
+  pub no_field : {why : Reason} → Reads v string (up_to (length room)) (Err why) → ReadsChars v room later (wire-field (length room)) (Err why)
+  no_field (got.Reads.large a x y) = got.Reads.large a x (λ w. y w.short)
+  no_field (got.Reads.none y) = got.Reads.none y
 
-  pub empty-field : {st len state : ℕ} → ReadsChars v room later n st → st ≡ 0 → n ≡ 0 → (state ≡ 5) × (len ≡ 0) → ReadsField v room later len state
-  empty-field (r, (l, k)) e z (s, y) =
-      (rw s (by-string r e (λ w. omega (arith, w.some, length-take-le n later (omega arith)))), (omega arith, k))
+  -- a string that is no field: it is empty, or has another character; or it is one
+  module _ {n : ℕ} (read : ReadsChars v room later (up_to (length room)) (Ok n)) (fits : Fits room later (Ok n)) where
+    no-such : (Holds (wire-field (length room)) (plain (chars (take n later))) → ⊥) → ReadsChars v room later (wire-field (length room)) (Err Large)
+    no-such h = by read
+      where
+        by : Reads v string (up_to (length room)) (Ok (plain (chars (take n later)))) → ReadsChars v room later (wire-field (length room)) (Err Large)
+        by (got.Reads.is a x y) = got.Reads.large a x h
 
-  pub not-field : {st len state : ℕ} {b : Bool} → ReadsChars v room later n st → st ≡ 0 → Decides (T (all homiqs.field_char (part 0 n later))) b
-      → b ≡ false → (state ≡ 5) × (len ≡ 0) → ReadsField v room later len state
-  not-field (r, (l, k)) e d f (s, y) =
-      (rw s (by-string r e (λ w. untold d f (subst (λ (x : List ℕ). T (all homiqs.field_char x)) (sym (part-front n later)) w.chars))), (omega arith, k))
+    pub empty-field : n ≡ 0 → ReadsChars v room later (wire-field (length room)) (Err Large)
+    empty-field z = no-such (λ w. omega (arith, w.some, fits, z, length-take-le n later (omega (arith, fits))))
 
-  pub a-field : {st : ℕ} {b : Bool} → ReadsChars v room later n st → st ≡ 0 → (n ≡ 0 → ⊥) → Decides (T (all homiqs.field_char (part 0 n later))) b
-      → b ≡ true → ReadsField v room later n st
-  a-field (r, (l, k)) e h d f = (by r e, (l, k))
-    where
-      by : {st : ℕ} → Reads v string (up_to (length room)) (plain (chars (take n later))) st → st ≡ 0
-          → Reads v string (wire-field (length room)) (plain (chars (take n later))) st
-      by (got.Reads.is a x y) e =
-          got.Reads.is a x
-          (record {
-            some = omega (arith, length-take-le n later (omega arith));
-            short = y;
-            chars = subst (λ (x : List ℕ). T (all homiqs.field_char x)) (part-front n later) (told d f);
-          })
-      by (got.Reads.large a x y) e = absurd (omega arith)
-      by (got.Reads.none y) e = absurd (omega arith)
+    pub not-field : {b : Bool} → Decides (T (all homiqs.field_char (part 0 n later))) b → b ≡ false → ReadsChars v room later (wire-field (length room)) (Err Large)
+    not-field d f = no-such (λ w. untold d f (subst (λ (x : List ℕ). T (all homiqs.field_char x)) (sym (part-front n later)) w.chars))
+
+    pub a-field : {b : Bool} → (n ≡ 0 → ⊥) → Decides (T (all homiqs.field_char (part 0 n later))) b → b ≡ true
+        → ReadsChars v room later (wire-field (length room)) (Ok n)
+    a-field h d f = by read
+      where
+        by : Reads v string (up_to (length room)) (Ok (plain (chars (take n later)))) → ReadsChars v room later (wire-field (length room)) (Ok n)
+        by (got.Reads.is a x y) =
+            got.Reads.is a x
+            (record {
+              some = omega (arith, h, fits, length-take-le n later (omega (arith, fits)));
+              short = y;
+              chars = subst (λ (x : List ℕ). T (all homiqs.field_char x)) (part-front n later) (told d f);
+            })

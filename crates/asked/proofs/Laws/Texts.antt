@@ -9,22 +9,23 @@ use lib.Dec.{T, eqb, eqb→eq}
 use lib.IntN.{nat_abs}
 use lib.ListN.{length}
 use borrow.Author.Tests.{ne_eqb}
+use Rattle.std.specs.Prelude.{Option, Some, None, Ok, Err}
 use Rattle.jsontext.specs.Paper.Members.{CountOf}
 use Rattle.jsontext.specs.Paper.Names.{InGrammar}
 use Rattle.messages.specs.Paper.Message.{Message, read, set, answer, press, tail, link, command, climate, state, break, end, text, response, ask, reply, put, done, nibe, output, input, shutter, beat, homiq, row}
-use Rattle.messages.specs.declared.Message.{Message as Coded}
 use Rattle.shapes.specs.Paper.Fields.{Named, Field}
 use Rattle.asked.specs.Paper.Field.{Spells, HasEach, IsObjectOf}
 use Rattle.asked.specs.Paper.Field as paper
 use Rattle.asked.specs.Paper.Means.{named, commanded, AreOf, HeadOf, HasRow, Fills, Means, last_row}
 use Rattle.asked.specs.Paper.Means as means
 use Rattle.shapes.specs.Paper.Shapes.{Sort, shape_at, fields_of, a-number, a-string}
-use Rattle.asked.specs.Work.Draft.{HasMessage, Drafts, DraftsText, Filled}
+use Rattle.asked.specs.Work.Draft.{HasMessage, Drafts, DraftsText, Filled, refusal_of}
 use Rattle.asked.specs.Work.Draft as draft
 use Rattle.asked.specs.Work.Got.{number_in, list_in}
 use Rattle.asked.specs.Work.Rows.{RowOf, row_in, row_named, same_text}
 use Rattle.asked.specs.Work.Rows as rows
-use Rattle.asked.proofs.Laws.Counted.{one-count}
+use Rattle.asked.specs.declared.Draft.{Draft}
+use Rattle.asked.specs.declared.values.Reason.{Reason}
 use Rattle.asked.proofs.Laws.Lift.{head-has, tail-has, one_in}
 use Rattle.shapes.proofs.Laws.Rows.{each_row}
 use Rattle.asked.proofs.Laws.Named.{most-members}
@@ -32,17 +33,23 @@ use Rattle.asked.proofs.Laws.Named.{most-members}
 -- ---- one row
 
 -- a row is known by its kind and its msg
-known-row : (r : ℕ) → 1 ≤ r → r ≤ last_row → row_named (shape_at r).kind (shape_at r).msg ≡ r
-unfolding row_named row_in same_text
+-- the number of a row, 0 for none
+row-number : Option ℕ → ℕ
+row-number (Some r) = r
+row-number None = 0
+
+known-row : (r : ℕ) → 1 ≤ r → r ≤ last_row → row-number (row_named (shape_at r).kind (shape_at r).msg) ≡ r
+unfolding row-number row_named row_in same_text
 known-row r l h =
-    let t : T (eqb r 0 || eqb (row_named (shape_at r).kind (shape_at r).msg) r) = each_row (λ i. eqb i 0 || eqb (row_named (shape_at i).kind (shape_at i).msg) i) tt r h in
+    let t : T (eqb r 0 || eqb (row-number (row_named (shape_at r).kind (shape_at r).msg)) r) =
+    each_row (λ i. eqb i 0 || eqb (row-number (row_named (shape_at i).kind (shape_at i).msg)) i) tt r h in
     eqb→eq _ r (rw (ne_eqb r 0 (λ e. omega arith)) at t)
 
 pub one-head : {s : List ℕ} {r q : ℕ} → HeadOf s r → HeadOf s q → r ≡ q
 one-head {r = r} {q} x y =
     let kinds : (shape_at r).kind ≡ (shape_at q).kind = ap (λ (f : Field). nat_abs (number_in f)) (one_in a-number a-number x.kind y.kind) in
     let msgs : (shape_at r).msg ≡ (shape_at q).msg = ap list_in (one_in a-string a-string x.msg y.msg) in
-    sym (known-row r x.low x.high) ∙ ap₂ row_named kinds msgs ∙ known-row q y.low y.high
+    sym (known-row r x.low x.high) ∙ ap row-number (ap₂ row_named kinds msgs) ∙ known-row q y.low y.high
 
 pub head_of : {s : List ℕ} {q : ℕ} {fs : List Field} → Fills s q fs → HeadOf s q
 head_of x = record { low = x.low; high = x.high; kind = head-has x.object.each; msg = head-has (tail-has x.object.each) }
@@ -61,25 +68,16 @@ counts {s} {q} {fs} x =
 
 -- ---- THE WHOLE TEXT
 
-pub no_text : {s content : List ℕ} {r len st : ℕ} {e : Coded} → (InGrammar s → ⊥) → st ≡ 11 → DraftsText s content r e len st
-no_text {s} {content} {r} {len} {e = e} n h = subst (DraftsText s content r e len) (sym h) (draft.not-json n)
+pub no_row : {s : List ℕ} → RowOf s None → (r : ℕ) (fs : List Field) → Fills s r fs → ⊥
+no_row (rows.none n) r fs f = n r (head_of f)
 
-pub no_row : {s content : List ℕ} {r q len st : ℕ} {e : Coded} → InGrammar s → RowOf s q → q ≡ 0 → st ≡ 12 → DraftsText s content r e len st
-no_row {s} {content} {r} {q} {len} {e = e} g x z h = subst (DraftsText s content r e len) (sym h) (draft.none g (λ i fs f. by x z (head_of f)))
-  where
-    by : {q i : ℕ} → RowOf s q → q ≡ 0 → HeadOf s i → ⊥
-    by (rows.is y) z w = omega (arith, y.low, z)
-    by (rows.none n) z w = n _ w
+pub other-count : {s : List ℕ} {r : ℕ} → HeadOf s r → {i : ℕ} → i ≡ length (shape_at r).members → (CountOf s (i + 2) → ⊥)
+    → (q : ℕ) (fs : List Field) → Fills s q fs → ⊥
+other-count {s} x k n q fs f =
+    n (subst (λ (l : ℕ). CountOf s (l + 2)) (ap (λ (l : ℕ). length (shape_at l).members) (one-head (head_of f) x) ∙ sym k) (counts f))
 
-pub other-count : {s content : List ℕ} {r q len st : ℕ} {e : Coded} → InGrammar s → HeadOf s q → {i : ℕ} → i ≡ length (shape_at q).members
-    → (CountOf s (i + 2) → ⊥) → st ≡ 12 → DraftsText s content r e len st
-other-count {s} {content} {r} {q} {len} {e = e} g x {i} k n h =
-    subst (DraftsText s content r e len) (sym h)
-    (draft.none g (λ j fs f. n (subst (λ (l : ℕ). CountOf s (l + 2)) (ap (λ (l : ℕ). length (shape_at l).members) (one-head (head_of f) x) ∙ sym k) (counts f))))
-
-pub head_in : {s : List ℕ} {q : ℕ} → RowOf s q → (q ≡ 0 → ⊥) → HeadOf s q
-head_in (rows.is x) n = x
-head_in (rows.none x) n = absurd (n refl)
+pub head_in : {s : List ℕ} {r : ℕ} → RowOf s (Some r) → HeadOf s r
+head_in (rows.is x) = x
 
 -- a message's row is one of the table, and it has as many fields as that
 row_within : (m : Message) → (1 ≤ row m) × (row m ≤ last_row)
@@ -176,16 +174,24 @@ module _ {s : List ℕ} {r : ℕ} (g : InGrammar s) (h : HeadOf s r) (n : CountO
       subst (λ (i : ℕ). IsObjectOf Spells s (commanded (shape_at i) (fields_of m))) (sym x.its-row)
       (record { grammar = g; many = subst (CountOf s) (sym (counted-fields m x.its-row)) n; each = paper.and h.kind (paper.and h.msg x.each) })
 
-  text-of : {content : List ℕ} {len st : ℕ} {e : Coded} → Drafts s r content e len st → DraftsText s content r e len st
+  text-of : {content : List ℕ} {d : Draft} → Drafts s r content (Ok d) → DraftsText s content (Ok (record { row = r; draft = d }))
   text-of (draft.is x y) =
       draft.is g (filled x)
       (record { within = y.within; some = y.some; to = λ m k l. y.to m (has-message m k) l; from = λ m k. means-it m (y.from m k); stands = y.stands })
-  text-of (draft.outside x n) = draft.outside {q = r} g (filled x) (λ m k l. n m (has-message m k) l)
-  text-of (draft.none n) = draft.none g (λ q fs f. n (has-row f))
 
-pub text-with : {s : List ℕ} {r n : ℕ} → InGrammar s → HeadOf s r → n ≡ length (shape_at r).members → CountOf s (n + 2) → {content : List ℕ} {len st : ℕ} {e : Coded}
-    → Drafts s r content e len st → DraftsText s content r e len st
-text-with {s} g h k n x = text-of g h (subst (λ (i : ℕ). CountOf s (i + 2)) k n) x
+  no-text-of : {content : List ℕ} {why : Reason} → Drafts s r content (Err why) → DraftsText s content (Err (refusal_of why))
+  no-text-of (draft.outside x n) = draft.outside {r = r} g (filled x) (λ m k l. n m (has-message m k) l)
+  no-text-of (draft.none n) = draft.none g (λ q fs f. n (has-row f))
+
+module _ {s : List ℕ} {r n : ℕ} (g : InGrammar s) (h : HeadOf s r) (k : n ≡ length (shape_at r).members) (x : CountOf s (n + 2)) where
+  counted : CountOf s (length (shape_at r).members + 2)
+  counted = subst (λ (i : ℕ). CountOf s (i + 2)) k x
+
+  pub text-with : {content : List ℕ} {d : Draft} → Drafts s r content (Ok d) → DraftsText s content (Ok (record { row = r; draft = d }))
+  text-with d = text-of g h counted d
+
+  pub text-without : {content : List ℕ} {why : Reason} → Drafts s r content (Err why) → DraftsText s content (Err (refusal_of why))
+  text-without d = no-text-of g h counted d
 
 -- so many members and two more are a number of the code's
 pub few-members : {s : List ℕ} {r n : ℕ} → HeadOf s r → n ≡ length (shape_at r).members → n + 2 < 2 ^ 64

@@ -5,6 +5,7 @@ use mathlib.Core.List.{List, []}
 use mathlib.Core.Path.{◌≡◌, refl, sym, ap, subst}
 use Prim.Native.Nat.{ℕ, ◌≤◌}
 use lib.ListN.{length}
+use Rattle.std.specs.Prelude.{Ok, Err}
 use Rattle.digits.specs.Paper.Ascii.{ascii}
 use Rattle.digits.specs.Paper.Bytes.{part}
 use Rattle.digits.specs.Paper.Part.{Ends}
@@ -14,12 +15,12 @@ use Rattle.digits.proofs.Laws.Refusals.{cause-at, cause-of, answered, some_numbe
 use Rattle.json_values.specs.Paper.Json as json
 use Rattle.jsontext.specs.Paper.Members.{ValueCause, no_value, value_ends, ValueOf, FindsValue}
 use Rattle.jsontext.specs.declared.members.Value.{Value}
-use Rattle.jsontext.specs.declared.members.Value.TheVariants.{At, Refused}
 use Rattle.jsontext.proofs.Theorems.{value-part}
 use Rattle.shapes.specs.Paper.Fields.{Field, plain, truth}
 use Rattle.asked.specs.Paper.Field.{Spells, as_plain, as-truth}
 use Rattle.shapes.specs.Paper.Shapes.{IsOf, a-bool, bool}
 use Rattle.asked.specs.Work.Got as got
+use Rattle.asked.specs.declared.values.Reason.TheVariants.{NoValue}
 use Rattle.asked.specs.Work.Got.{Reads, any, ValueIn}
 
 -- no cause of a call that answers
@@ -34,9 +35,15 @@ pub record Taken (s n : List ℕ) (a b : ℕ) : Type 0 where
   pub inside : b ≤ length s
   pub is : ValueIn s n (part a b s)
 
-pub value-at : {s n : List ℕ} {r : Value} {a b : ℕ} → FindsValue s n r → r ≡ At a b → Taken s n a b
-value-at {s} {n} {a = a} {b = b} f e = by (answered (subst (FindsValue s n) e f) refl)
+pub value-at : {s n : List ℕ} {found : Value} → FindsValue s n (Ok found) → Taken s n found.from found.to
+value-at {s} {n} {found} f = by (answered f refl)
   where
+    a : ℕ
+    a = found.from
+
+    b : ℕ
+    b = found.to
+
     by : ValueOf s n (record { from = a; to = b }) → Taken s n a b
     by v =
         let p = value-part v.object v.first in
@@ -45,18 +52,18 @@ value-at {s} {n} {a = a} {b = b} f e = by (answered (subst (FindsValue s n) e f)
         let t : part a b s ≡ v.member.value = rw (x, y) p.2 in
         record { order = rw (x, y) p.0; inside = rw y p.1; is = subst (ValueIn s n) (sym t) (got.ValueIn.is v.object v.first) }
 
-pub no-value-at : {s n : List ℕ} {r : Value} {why : Refusal} → FindsValue s n r → r ≡ Refused why → ValueIn s n []
-no-value-at {s} {n} {why = why} f e = by (cause-at (cause-of (subst (FindsValue s n) e f)) (some_number why))
+pub no-value-at : {s n : List ℕ} (why : Refusal) → FindsValue s n (Err why) → ValueIn s n []
+no-value-at {s} {n} why f = by (cause-at (cause-of f) (some_number why))
   where
     by : {k : ℕ} → ValueCause s n k → ValueIn s n []
     by (no_value g) = got.ValueIn.none g
 
 -- ---- true and false
 
-pub is-truth : {v : List ℕ} (b : Bool) → v ≡ json.truth b → Reads v bool any (plain (truth b)) 0
+pub is-truth : {v : List ℕ} (b : Bool) → v ≡ json.truth b → Reads v bool any (Ok (plain (truth b)))
 is-truth b e = got.Reads.is a-bool (as_plain (as-truth e)) tt
 
-pub no_truth : {v : List ℕ} {f : Field} → (v ≡ ascii "true" → ⊥) → (v ≡ ascii "false" → ⊥) → Reads v bool any f 12
+pub no_truth : {v : List ℕ} → (v ≡ ascii "true" → ⊥) → (v ≡ ascii "false" → ⊥) → Reads v bool any (Err NoValue)
 no_truth {v} t f = got.Reads.none (λ g a x. by a x)
   where
     so : (b : Bool) → v ≡ json.truth b → ⊥

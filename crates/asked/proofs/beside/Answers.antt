@@ -1,10 +1,11 @@
 -- `beside` meets its contract.
 -- Assumes nothing.
-use Rattle.asked.proofs.Laws.Answered.{good-handed, not-handed}
+use Rattle.asked.specs.Work.Draft as draft
+use Rattle.asked.proofs.Laws.Answered.{good-handed}
 use Rattle.asked.proofs.beside.Goals as goal
 
-pub returns-in-Good : goal.returns-in-Good
-returns-in-Good c = good-handed _ _ _ _ c.allowed.ensures c.in-Good.is c.handed.ensures
+pub returns-in-Ok : goal.returns-in-Ok
+returns-in-Ok c = good-handed _ _ _ _ c.in-Ok.ensures c.handed.ensures
 
-pub returns-in-Refused : goal.returns-in-Refused
-returns-in-Refused c = not-handed _ _ _ _ c.allowed.ensures c.in-Refused.is
+pub returns-in-Err : goal.returns-in-Err
+returns-in-Err c = draft.refused c.in-Err.ensures

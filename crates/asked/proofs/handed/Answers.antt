@@ -1,10 +1,14 @@
 -- `handed` meets its contract.
 -- Assumes nothing.
+use Rattle.std.proofs.lemmas.Result.{err_from_is_err_and}
 use Rattle.asked.proofs.Laws.Answered.{hands, hands-nothing}
 use Rattle.asked.proofs.handed.Goals as goal
 
-pub returns-in-Bytes : goal.returns-in-Bytes
-returns-in-Bytes c = hands c.front.ensures c.in-Bytes.is c.kind.ensures
+pub returns-in_err-n : goal.returns-in_err-n
+returns-in_err-n c =
+    let p = err_from_is_err_and c.from_residual.result c.from_residual.ensures.1 in
+    rw (p.1, p.2) (hands-nothing c.front.ensures c.in_err-n.was)
 
-pub returns-in-Refused : goal.returns-in-Refused
-returns-in-Refused c = hands-nothing c.front.ensures c.in-Refused.is
+pub returns : goal.returns
+returns c =
+    hands c.front.ensures c.in_ok-n.was c.kind.ensures

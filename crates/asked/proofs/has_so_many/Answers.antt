@@ -1,10 +1,7 @@
 -- `has_so_many` meets its contract.
 -- Assumes nothing.
-use Rattle.asked.proofs.Laws.Counted.{counted, uncounted}
+use Rattle.asked.proofs.Laws.Counted.{count_told}
 use Rattle.asked.proofs.has_so_many.Goals as goal
 
-pub returns-in-Is : goal.returns-in-Is
-returns-in-Is c = counted _ c.count.ensures c.in-Is.is
-
-pub returns-in-Refused : goal.returns-in-Refused
-returns-in-Refused c = uncounted _ c.count.ensures c.in-Refused.is
+pub returns : goal.returns
+returns c = count_told _ _ _ c.count.ensures c.eq.ensures

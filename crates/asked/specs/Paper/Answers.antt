@@ -2,12 +2,13 @@
 -- another sort or spelling, with a character above U+00FF, or disagreeing, kind with msg too; in that order, both
 -- before 5, which a value outside its limits gets."
 -- Assumes nothing.
-use Rattle.std.specs.Prelude.{List, [], ◌++◌, ◌≡◌, ℕ, ◌<◌, length, drop}
+use Rattle.std.specs.Prelude.{List, [], ◌++◌, ◌≡◌, ℕ, ◌<◌, Result, Ok, Err, length, drop}
 use Rattle.std.proofs.Math.Option.{Option, none, some}
 use Rattle.digits.specs.Paper.Hex.{hex_bytes}
 use Rattle.digits.specs.Paper.Refusals.{refusal_number}
+use Rattle.digits.specs.declared.refusal.Refusal.{Refusal}
 use Rattle.puts.specs.Paper.Right.{WritesRight, AnswersInto}
-use Rattle.puts.specs.declared.Written.{Written}
+use Rattle.puts.specs.Paper.Wrote.{Written}
 use Rattle.layouts.specs.Paper.Homiq as homiqs
 use Rattle.layouts.specs.Paper.Made.{Wire, homiq_of}
 use Rattle.messages.specs.Paper.Allowed.{StandingCause}
@@ -23,7 +24,6 @@ use Rattle.shapes.specs.Paper.Fields.{Field}
 use Rattle.shapes.specs.Paper.Shapes.{shape_at}
 use Rattle.asked.specs.Paper.Means.{Fills, Means}
 use Rattle.asked.specs.declared.Asked.{Asked}
-use Rattle.asked.specs.declared.Asked.TheVariants.{Is, Refused}
 
 -- why a text is not a command: 11, 12; and why its message is not taken
 pub data AskedCause (s : List ℕ) (MessageCauses : ℕ → Type 0) : ℕ → Type 0 where
@@ -83,13 +83,13 @@ pub record AskedValue : Type 0 where
 abbrev pub zero_asked : AskedValue
 zero_asked = record { kind = 0; message = none; len = 0 }
 
-abbrev pub asked_refusal : Asked → ℕ
-asked_refusal (Is kind message len) = 0
-asked_refusal (Refused why) = refusal_number why
+abbrev pub asked_refusal : Result Asked Refusal → ℕ
+asked_refusal (Ok asked) = 0
+asked_refusal (Err why) = refusal_number why
 
-abbrev pub asked_value : Asked → AskedValue
-asked_value (Is kind message len) = record { kind = kind; message = some message; len = len }
-asked_value (Refused why) = zero_asked
+abbrev pub asked_value : Result Asked Refusal → AskedValue
+asked_value (Ok asked) = record { kind = asked.kind; message = some asked.message; len = asked.len }
+asked_value (Err why) = zero_asked
 
 -- v has the right values, and `later` is the right room afterwards: a message of the table, which the text means
 pub record AskedAs (s room : List ℕ) (v : AskedValue) (later : List ℕ) : Type 0 where
@@ -104,7 +104,7 @@ pub record AskedAs (s room : List ℕ) (v : AskedValue) (later : List ℕ) : Typ
   pub room-is : later ≡ beside meant ++ drop (length (beside meant)) room
 
 -- r is the right answer, and `later` the right room afterwards
-abbrev pub ReadsAsked : List ℕ → List ℕ → Asked → List ℕ → Type 0
+abbrev pub ReadsAsked : List ℕ → List ℕ → Result Asked Refusal → List ℕ → Type 0
 ReadsAsked s room r later =
     AnswersInto zero_asked room (AskedCause s (ReadCause s (length room))) (AskedAs s room) (asked_refusal r)
     (asked_value r) later

@@ -1,7 +1,7 @@
 -- 02, K4: 12 is for "members missing, extra, of another sort or spelling, with a character above U+00FF, or
 -- disagreeing, kind with msg too". Which of these it is: the first thing that a text lacks to fill a shape.
 -- Assumes nothing.
-use Rattle.std.specs.Prelude.{Bool, true, List, [], ◌∷◌, ◌≡◌, ℕ, suc, ◌+◌, length}
+use Rattle.std.specs.Prelude.{Bool, true, List, [], ◌∷◌, ◌≡◌, ℕ, suc, ◌+◌, Option, Some, None, length}
 use Rattle.digits.specs.Paper.Ascii.{ascii}
 use Rattle.digits.specs.Paper.Read.{Decides}
 use Rattle.frames.specs.Paper.Kinds.{known}
@@ -12,7 +12,7 @@ use Rattle.asked.specs.Paper.Field.{Spells, Has}
 use Rattle.asked.specs.Paper.Means.{HeadOf, HasRow}
 use Rattle.shapes.specs.Paper.Shapes.{Sort, IsOf, shape_at, number_field}
 use Rattle.asked.specs.declared.lacks.Lack.{Lack}
-use Rattle.asked.specs.declared.lacks.Lack.TheVariants.{Text, Object, Kind, Msg, Member, Extra, Volts, Nothing}
+use Rattle.asked.specs.declared.lacks.Lack.TheVariants.{Text, Object, Kind, Msg, Member, Extra, Volts}
 
 -- ---- what an object has
 
@@ -48,9 +48,9 @@ pub record HasKind (s : List ℕ) : Type 0 where
 -- ---- the first thing that a text lacks
 
 -- it lacks A, and the answer says that; or it has A, and the answer says what it lacks next
-pub data Lacks (A : Type 0) (Without Next : Lack → Type 0) (l : Lack) : Type 0 where
-  without : (A → ⊥) → Without l → Lacks A Without Next l
-  next : A → Next l → Lacks A Without Next l
+pub data Lacks (A : Type 0) (Without : Lack → Type 0) (Next : Option Lack → Type 0) : Option Lack → Type 0 where
+  without : {l : Lack} → (A → ⊥) → Without l → Lacks A Without Next (Some l)
+  next : {l : Option Lack} → A → Next l → Lacks A Without Next l
 
 -- the answers for kind and msg, and for a member of row r, say too whether a member with that name stands there
 pub record SaysHead (s n : List ℕ) (said : Bool → Lack) (l : Lack) : Type 0 where
@@ -67,20 +67,20 @@ pub record SaysMember (s : List ℕ) (r : ℕ) (l : Lack) : Type 0 where
   pub is : l ≡ Member r place there
 
 -- in this order: each member of row r in its sort; no more members than these, kind and msg; fields that agree
-abbrev pub LackIn : List ℕ → ℕ → Lack → Type 0
+abbrev pub LackIn : List ℕ → ℕ → Option Lack → Type 0
 LackIn s r =
     Lacks (HasAll s (shape_at r).members) (SaysMember s r)
     (Lacks (CountOf s (length (shape_at r).members + 2)) (λ l. l ≡ Extra)
     (Lacks (HasRow s r) (λ l. l ≡ Volts)
-    (λ l. l ≡ Nothing)))
+    (λ l. l ≡ None)))
 
-pub record LackInRow (s : List ℕ) (l : Lack) : Type 0 where
+pub record LackInRow (s : List ℕ) (l : Option Lack) : Type 0 where
   pub row : ℕ
   pub head : HeadOf s row
   pub lack : LackIn s row l
 
 -- and before these: the grammar; an object; a kind; a msg of that kind
-abbrev pub LackOf : List ℕ → Lack → Type 0
+abbrev pub LackOf : List ℕ → Option Lack → Type 0
 LackOf s =
     Lacks (InGrammar s) (λ l. l ≡ Text)
     (Lacks ((ms : List Found) × IsObject s ms) (λ l. l ≡ Object)

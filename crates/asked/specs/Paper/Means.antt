@@ -1,6 +1,6 @@
 -- 02, K4: which message a text means.
 -- Assumes nothing.
-use Rattle.std.specs.Prelude.{List, [], ◌∷◌, ◌≡◌, ℕ, ◌≤◌, pos, length}
+use Rattle.std.specs.Prelude.{List, [], ◌∷◌, ◌≡◌, ℕ, ◌≤◌, length}
 use Rattle.digits.specs.Paper.Ascii.{ascii}
 use Rattle.messages.specs.Paper.Message.{Message, state, row}
 use Rattle.shapes.specs.Paper.Fields.{Named, ◌∶◌, chars, Field, plain}

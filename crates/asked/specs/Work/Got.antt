@@ -1,8 +1,9 @@
--- What the readers of values answer: 0 and a value; 5, one that is spelt rightly and that the code does not hold; or
--- 12, none of the sort. These are the refusal numbers, and the highest of several is the one that counts.
+-- What the readers of values answer: a value; or why not: one that is spelt rightly and that the code does not hold, or
+-- none of the sort. Of several reasons the worst is the one that counts.
 -- Assumes nothing.
-use Rattle.std.specs.Prelude.{cond, List, [], ◌∷◌, ◌++◌, ◌≡◌, ℕ, zero, suc, ◌-◌, ◌≤◌, ◌<◌, eqb, ltb, ℤ, pos, length}
-use Rattle.std.specs.Prelude.{take, drop}
+use Rattle.std.specs.Prelude.{Bool, true, false, cond, List, [], ◌∷◌, ◌++◌, ◌≡◌, ℕ, ◌-◌, ◌≤◌, ◌<◌, eqb}
+use Rattle.std.specs.Prelude.{zero, suc, ℤ, pos}
+use Rattle.std.specs.Prelude.{Result, Ok, Err, length, take, drop}
 use Rattle.std.proofs.lemmas.List.Edits.{sets}
 use Rattle.digits.specs.Paper.Ascii.{ascii}
 use Rattle.digits.specs.Paper.Bytes.{Bytes}
@@ -16,11 +17,49 @@ use Rattle.numbers.specs.Paper.Raw.{Between}
 use Rattle.numbers.specs.Paper.Text.{text}
 use Rattle.jsontext.specs.Paper.Members.{IsObject, FirstNamed, CountOf}
 use Rattle.jsontext.specs.Paper.Names.{Member, InGrammar}
-use Rattle.shapes.specs.Paper.Fields.{Named, ◌∶◌, Plain, whole, hex, chars, truth}
+use Rattle.shapes.specs.Paper.Fields.{Named, ◌∶◌, whole, hex, chars, truth}
 use Rattle.shapes.specs.Paper.Fields.{Field, plain, reading}
 use Rattle.asked.specs.Paper.Field.{Spells, Has}
 use Rattle.asked.specs.Paper.Means.{least_volts}
 use Rattle.shapes.specs.Paper.Shapes.{Sort, number, measured, IsOf, number_field}
+use Rattle.asked.specs.declared.values.Reason.{Reason}
+use Rattle.asked.specs.declared.values.Reason.TheVariants.{Large, NoValue}
+
+-- ---- answers
+
+-- an answer whose value is taken as another
+abbrev pub mapped : {A B E : Type 0} → (A → B) → Result A E → Result B E
+mapped f (Ok x) = Ok (f x)
+mapped f (Err why) = Err why
+
+abbrev pub worse : Reason → Reason → Reason
+worse Large b = b
+worse NoValue b = NoValue
+
+-- two answers as one: what both are, or the worst reason
+abbrev pub both : {A B C : Type 0} → (A → B → C) → Result A Reason → Result B Reason → Result C Reason
+both f (Ok x) (Ok y) = Ok (f x y)
+both f (Ok x) (Err why) = Err why
+both f (Err why) (Ok y) = Err why
+both f (Err why) (Err other) = Err (worse why other)
+
+abbrev pub joined : {A B : Type 0} → Result A Reason → Result B Reason → Result (A × B) Reason
+joined a b = both (λ x y. (x, y)) a b
+
+-- an answer for which a large value is none; and one of a list which has to have n elements
+abbrev pub firm_of : {A : Type 0} → Result A Reason → Result A Reason
+firm_of (Ok x) = Ok x
+firm_of (Err why) = Err NoValue
+
+abbrev pub exact_of : Result ℕ Reason → ℕ → Result Unit Reason
+exact_of (Ok len) n = cond (eqb len n) (Ok tt) (Err NoValue)
+exact_of (Err why) n = Err NoValue
+
+-- whether a value of the sort stands there, held or not
+abbrev pub is_spelt : {A : Type 0} → Result A Reason → Bool
+is_spelt (Ok x) = true
+is_spelt (Err Large) = true
+is_spelt (Err NoValue) = false
 
 -- ---- values
 
@@ -55,10 +94,10 @@ Holds wire-type f = Letter (ascii "sa") (list_in f)
 Holds any f = Unit
 
 -- the value's text v, read as a field of a sort that the code holds
-pub data Reads (v : List ℕ) (sort : Sort) (limit : Limit) (f : Field) : ℕ → Type 0 where
-  is : IsOf sort f → Spells v f → Holds limit f → Reads v sort limit f 0
-  large : {g : Field} → IsOf sort g → Spells v g → (Holds limit g → ⊥) → Reads v sort limit f 5
-  none : ((g : Field) → IsOf sort g → Spells v g → ⊥) → Reads v sort limit f 12
+pub data Reads (v : List ℕ) (sort : Sort) (limit : Limit) : Result Field Reason → Type 0 where
+  is : {f : Field} → IsOf sort f → Spells v f → Holds limit f → Reads v sort limit (Ok f)
+  large : {g : Field} → IsOf sort g → Spells v g → (Holds limit g → ⊥) → Reads v sort limit (Err Large)
+  none : ((g : Field) → IsOf sort g → Spells v g → ⊥) → Reads v sort limit (Err NoValue)
 
 -- v is a whole number as it is spelt; the digits of one above zero
 abbrev pub SpellsWhole : List ℕ → Type 0
@@ -67,34 +106,31 @@ SpellsWhole v = (z : ℤ) × (v ≡ text z 0)
 abbrev pub SpellsPositive : List ℕ → Type 0
 SpellsPositive d = (n : ℕ) × (0 < n) × (d ≡ decimal n)
 
--- a number in the range, or 5 and 0
-pub data Within (raw least most : ℤ) : ℤ → ℕ → Type 0 where
-  is : Between least most raw → Within raw least most raw 0
-  outside : (Between least most raw → ⊥) → Within raw least most (pos 0) 5
+-- a number in the range, or one that is not held
+pub data Within (raw least most : ℤ) : Result ℤ Reason → Type 0 where
+  is : Between least most raw → Within raw least most (Ok raw)
+  outside : (Between least most raw → ⊥) → Within raw least most (Err Large)
 
--- a state for which a large value is none; and that of a list which has to have n elements
-abbrev pub firm_of : ℕ → ℕ
-firm_of state = cond (eqb state 0) 0 12
+-- Homiq's type, read as so many characters, of which this is the first
+abbrev pub typed_of : ℕ → ℕ → Result ℕ Reason
+typed_of len first = cond (eqb len 0) (Err Large) (cond (one_of (ascii "sa") first) (Ok first) (Err Large))
 
-abbrev pub exact_of : ℕ → ℕ → ℕ → ℕ
-exact_of state len n = cond (eqb len n) (firm_of state) 12
+-- why characters were refused: 4 is a room too short for them
+abbrev pub unwritten_of : ℕ → Reason
+unwritten_of refusal = cond (eqb refusal 4) Large NoValue
 
--- the state of Homiq's type, read as so many characters, of which this is the first
-abbrev pub typed_of : ℕ → ℕ → ℕ → ℕ
-typed_of state len first = cond (eqb state 0) (cond (eqb len 0) 5 (cond (one_of (ascii "sa") first) 0 5)) state
-
--- the state of characters that were refused: 4 is a room too short for them
-abbrev pub unwritten_of : ℕ → ℕ
-unwritten_of refusal = cond (eqb refusal 4) 5 12
+-- why a raw number out of 01's range is not answered, by whether its text agrees
+abbrev pub beyond_of : Bool → Reason
+beyond_of agrees = cond agrees Large NoValue
 
 -- the bytes that digits are, put at the front of the room: all of them; or they are too many, or none
-pub data Unhexes (d room later : List ℕ) (len : ℕ) : ℕ → Type 0 where
-  are : {p : List ℕ} → Bytes p → d ≡ hex_bytes p → len ≡ length p → length p ≤ length room
-      → later ≡ sets room 0 p → Unhexes d room later len 0
-  many : {p : List ℕ} → Bytes p → d ≡ hex_bytes p → length room < length p → len ≡ 0 → length later ≡ length room
-      → Unhexes d room later len 5
-  none : ((p : List ℕ) → Bytes p → d ≡ hex_bytes p → ⊥) → len ≡ 0 → length later ≡ length room
-      → Unhexes d room later len 12
+pub data Unhexes (d room later : List ℕ) : Result ℕ Reason → Type 0 where
+  are : {p : List ℕ} → Bytes p → d ≡ hex_bytes p → length p ≤ length room → later ≡ sets room 0 p
+      → Unhexes d room later (Ok (length p))
+  many : {p : List ℕ} → Bytes p → d ≡ hex_bytes p → length room < length p → length later ≡ length room
+      → Unhexes d room later (Err Large)
+  none : ((p : List ℕ) → Bytes p → d ≡ hex_bytes p → ⊥) → length later ≡ length room
+      → Unhexes d room later (Err NoValue)
 
 -- an object of four members, by the grammar
 pub record FourMembers (v : List ℕ) : Type 0 where
@@ -126,23 +162,19 @@ pub record Slot : Type 0 where
   pub limit : Limit
 
 -- the member of the object s, read as a field
-pub data ReadsIn (s : List ℕ) (slot : Slot) (f : Field) : ℕ → Type 0 where
-  is : IsOf slot.member.value f → Has Spells s (record { name = slot.member.name; value = f })
-      → Holds slot.limit f → ReadsIn s slot f 0
+pub data ReadsIn (s : List ℕ) (slot : Slot) : Result Field Reason → Type 0 where
+  is : {f : Field} → IsOf slot.member.value f → Has Spells s (record { name = slot.member.name; value = f })
+      → Holds slot.limit f → ReadsIn s slot (Ok f)
   large : {g : Field} → IsOf slot.member.value g → Has Spells s (record { name = slot.member.name; value = g })
-      → (Holds slot.limit g → ⊥) → ReadsIn s slot f 5
+      → (Holds slot.limit g → ⊥) → ReadsIn s slot (Err Large)
   none : ((g : Field) → IsOf slot.member.value g
-      → Has Spells s (record { name = slot.member.name; value = g }) → ⊥) → ReadsIn s slot f 12
+      → Has Spells s (record { name = slot.member.name; value = g }) → ⊥) → ReadsIn s slot (Err NoValue)
 
--- the higher number
-abbrev pub worse : ℕ → ℕ → ℕ
-worse a b = cond (ltb a b) b a
-
--- members, read as these fields, with the highest number
-pub data ReadsAll (s : List ℕ) : List Slot → List Field → ℕ → Type 0 where
-  none : ReadsAll s [] [] 0
-  and : {slot : Slot} {slots : List Slot} {f : Field} {fs : List Field} {a b : ℕ} → ReadsIn s slot f a
-      → ReadsAll s slots fs b → ReadsAll s (slot ∷ slots) (f ∷ fs) (worse a b)
+-- members, read as fields, or the worst of their reasons
+pub data ReadsAll (s : List ℕ) : List Slot → Result (List Field) Reason → Type 0 where
+  none : ReadsAll s [] (Ok [])
+  and : {slot : Slot} {slots : List Slot} {a : Result Field Reason} {b : Result (List Field) Reason}
+      → ReadsIn s slot a → ReadsAll s slots b → ReadsAll s (slot ∷ slots) (both ◌∷◌ a b)
 
 -- ---- members that two rows share
 

@@ -1,8 +1,6 @@
 -- What finds out what a text lacks.
 -- Assumes nothing.
-use Rattle.std.specs.Prelude.{Bool, true, false, List, [], ◌≡◌, ℕ, length, get_or}
-use Rattle.jsontext.specs.declared.members.Value.{Value}
-use Rattle.jsontext.specs.declared.members.Value.TheVariants.{At, Refused}
+use Rattle.std.specs.Prelude.{List, [], ℕ, Option, Some, None, get_or}
 use Rattle.shapes.specs.Paper.Fields.{Named, ◌∶◌, Field}
 use Rattle.asked.specs.Paper.Field.{Spells}
 use Rattle.asked.specs.Paper.Lacks.{HasAll, FirstLacking}
@@ -17,14 +15,10 @@ no_member = [] ∶ content
 abbrev pub member_at : ℕ → ℕ → Named Sort
 member_at r i = get_or (shape_at r).members i no_member
 
--- the first member that a text lacks, or how many there are
-pub data Looked (s : List ℕ) (ms : List (Named Sort)) (i : ℕ) : Type 0 where
-  lacks : {m : Named Sort} → FirstLacking s ms i m → Looked s ms i
-  all : HasAll s ms → i ≡ length ms → Looked s ms i
-
-abbrev pub is_there : Value → Bool
-is_there (At from to) = true
-is_there (Refused why) = false
+-- the first member that a text lacks
+pub data Looked (s : List ℕ) (ms : List (Named Sort)) : Option ℕ → Type 0 where
+  lacks : {i : ℕ} {m : Named Sort} → FirstLacking s ms i m → Looked s ms (Some i)
+  all : HasAll s ms → Looked s ms None
 
 -- the text v spells a field of the sort
 pub record Spelt (v : List ℕ) (sort : Sort) : Type 0 where

@@ -11,6 +11,7 @@ use lib.ListN.{length, length-append}
 use Rattle.digits.specs.Paper.Bytes.{part}
 use Rattle.digits.specs.Paper.LowFirst.{low_byte_first}
 use Rattle.digits.specs.Paper.Refusals.{refusal_number, refusal_order, First, clear, here, after}
+use Rattle.std.specs.Prelude.{Err, Ok}
 use Rattle.digits.specs.declared.refusal.Refusal.{Refusal}
 use Rattle.digits.specs.declared.refusal.Refusal.TheVariants.{NoRoom, OutOfLimits}
 use Rattle.digits.proofs.Laws.Refusals.{some_number, one-first, cause-at, cause-of, answered, pass-over}
@@ -18,11 +19,9 @@ use Rattle.frames.specs.Paper.Kinds.{Frame}
 use Rattle.frames.specs.Paper.OneFrame.{OneFrameCause, TestsOneFrame}
 use Rattle.frames.specs.Paper.OneFrame as whole
 use Rattle.frames.specs.declared.FramePayload.{FramePayload}
-use Rattle.frames.specs.declared.FramePayload.TheVariants.{Is, Refused as NotOneFrame}
 use Rattle.frames.proofs.Laws.Kinds.{frame-known}
 use Rattle.puts.specs.Paper.Put.{Put}
 use Rattle.puts.specs.Paper.Right.{refused}
-use Rattle.puts.specs.declared.Written.TheVariants.{Bytes, Refused}
 use Rattle.puts.proofs.Laws.Puts.{puts-as}
 use Rattle.puts.proofs.Laws.Right.{as-right, refused-5}
 use Rattle.puts.proofs.Laws.Wrote.{wrote_by}
@@ -30,8 +29,6 @@ use Rattle.book.specs.Paper.Answers.{Counts, Opens, Adds, AddCause, no_kind, no-
 use Rattle.book.specs.Paper.Answers as answers
 use Rattle.book.specs.Paper.Book.{Entry, entry_bytes, entries, offsets, book, none, also, Within, Book}
 use Rattle.book.specs.Work.Writing.{HasPlace, PutsAdded}
-use Rattle.book.specs.declared.Opened.{Opened}
-use Rattle.book.specs.declared.Opened.TheVariants.{Refused as Unopened}
 use Rattle.book.proofs.Laws.Entries.{unopened}
 use Rattle.book.proofs.Laws.Layout.{framed-append, ending}
 use Rattle.book.proofs.Laws.One.{one-book}
@@ -136,29 +133,28 @@ module _ {s : List ℕ} {e : Entry} {room : ℕ} where
 -- ---- the answers
 
 -- what the test of the frame says
-module _ {k : ℕ} {f : List ℕ} {w : FramePayload} (a : TestsOneFrame k f w) where
-  pub whole-frame : {from to : ℕ} → w ≡ Is from to → Frame k f
-  whole-frame q = (answered a (ap whole.frame_payload_refusal q)).frame
+pub whole-frame : {k : ℕ} {f : List ℕ} {v : FramePayload} → TestsOneFrame k f (Ok v) → Frame k f
+whole-frame a = (answered a refl).frame
 
 module _ {s : List ℕ} {count : ℕ} (k : Counts s count) (e : Entry) {room : List ℕ} where
-  pub refused-frame : {w : FramePayload} {why : Refusal} → TestsOneFrame e.kind e.frame w → w ≡ NotOneFrame why → WritesAdded s e room (Refused why) room
-  refused-frame {w} {why} a q =
-      let c : First (OneFrameCause e.kind e.frame) refusal_order (refusal_number why) = cause-of (subst (TestsOneFrame e.kind e.frame) q a) in
+  pub refused-frame : (why : Refusal) → TestsOneFrame e.kind e.frame (Err why) → WritesAdded s e room (Err why) room
+  refused-frame why a =
+      let c : First (OneFrameCause e.kind e.frame) refusal_order (refusal_number why) = cause-of a in
       refused (some_number why) (not-framed k c (cause-at c (some_number why)))
 
   module _ (r : Frame e.kind e.frame) where
-    pub refused-place : (HasPlace count (length s) (length e.frame) → ⊥) → WritesAdded s e room (Refused OutOfLimits) room
+    pub refused-place : (HasPlace count (length s) (length e.frame) → ⊥) → WritesAdded s e room (Err OutOfLimits) room
     refused-place f = refused-5 (no_place k r f)
 
-    pub refused-room : HasPlace count (length s) (length e.frame) → length room < length s + (length e.frame + 7) → WritesAdded s e room (Refused NoRoom) room
+    pub refused-room : HasPlace count (length s) (length e.frame) → length room < length s + (length e.frame + 7) → WritesAdded s e room (Err NoRoom) room
     refused-room p h = refused (lit< tt) (no_room k r p h)
 
     pub all-added : {later : List ℕ} {n : ℕ} → HasPlace count (length s) (length e.frame) → length s + (length e.frame + 7) ≤ length room → PutsAdded s e room later n
-        → WritesAdded s e room (Bytes n) later
+        → WritesAdded s e room (Ok n) later
     all-added p h w = let new = added k r p w.valid in as-right new (wrote_by (enough k r p h) w.put (omega (arith, adds-size new)))
 
 -- anything else than a valid book
-pub unopened-add : {s : List ℕ} {r : Opened} {why : Refusal} (e : Entry) (room : List ℕ) → Opens s r → r ≡ Unopened why → WritesAdded s e room (Refused why) room
-unopened-add {s} {r} {why} e room a q =
-    let u = unopened a q in
+pub unopened-add : {s : List ℕ} (why : Refusal) (e : Entry) (room : List ℕ) → Opens s (Err why) → WritesAdded s e room (Err why) room
+unopened-add {s} why e room a =
+    let u = unopened why a in
     refused (some_number why) (subst (First (AddCause s e (length room)) refusal_order) u.1 (here (answers.no-book u.0)))

@@ -9,6 +9,7 @@ use lib.Dec.{eqb}
 use lib.ListN.{length}
 use Rattle.digits.specs.Paper.Bytes.{part}
 use Rattle.digits.specs.Paper.Refusals.{refusal_number, refusal_order, First, here, after}
+use Rattle.std.specs.Prelude.{Ok, Err}
 use Rattle.digits.specs.declared.refusal.Refusal.{Refusal}
 use Rattle.digits.proofs.Laws.Refusals.{some_number, pass-over}
 use Rattle.frames.proofs.Laws.Kinds.{frame-known}
@@ -16,8 +17,7 @@ use Rattle.lines.specs.Paper.Answers.{LineByText, LineByTextCause, WritesLineByT
 use Rattle.lines.specs.Paper.Answers as lines
 use Rattle.lines.proofs.Laws.ByText.{some-sheet}
 use Rattle.puts.specs.Paper.Right.{refused}
-use Rattle.puts.specs.declared.Written.{Written}
-use Rattle.puts.specs.declared.Written.TheVariants.{Refused}
+use Rattle.puts.specs.Paper.Wrote.{Written}
 use Rattle.puts.proofs.Laws.Right.{recast}
 use Rattle.sheet.specs.Paper.Map.{sheet_in}
 use Rattle.sheet.specs.Paper.Sheet.{Row, Sheet, Lookup, find}
@@ -29,10 +29,8 @@ use Rattle.book.specs.Paper.Answers.{BookLines, ListCause, WritesBookLines, Book
 use Rattle.book.specs.Paper.Answers as answers
 use Rattle.book.specs.Paper.Book.{Entry, Book, EntryAt}
 use Rattle.book.specs.Work.Reading.{OpensNoting}
+use Rattle.book.specs.declared.opening.Places.{Places}
 use Rattle.book.specs.declared.Located.{Located}
-use Rattle.book.specs.declared.Located.TheVariants.{Is, Refused as NotLocated}
-use Rattle.book.specs.declared.Opened.{Opened}
-use Rattle.book.specs.declared.Opened.TheVariants.{Refused as Unopened}
 use Rattle.book.proofs.Laws.BookLines.{one-book-lines}
 use Rattle.book.proofs.Laws.Entries.{numbered-frame, told-frame, entry_of, unopened, opens-so}
 use Rattle.book.proofs.Laws.EntryLines.{number-below, line-here, the-line, unlocated}
@@ -59,17 +57,17 @@ module _ {s : List ℕ} {es : List Entry} {number : ℕ} {e : Entry} {offset : �
   frame-cause i (answers.bad-sheet f) = lines.bad-sheet f
   frame-cause i (answers.short l h) = lines.short (the-line-by-text l) h
 
-module _ {s : List ℕ} {number : ℕ} {r : Located} (a : LocatesEntry s number r) {text : List ℕ} where
-  pub entry-lined-by-text : {kind offset from to : ℕ} (q : r ≡ Is kind offset from to) {room later : List ℕ} (w : Written)
-      → WritesLineByText kind (part from to s) offset text room w later → WritesEntryLineByText s number text room w later
-  entry-lined-by-text {offset = offset} q {room} {later} w p =
-      let x = entry_of a q in
-      let own : WritesLineByText x.entry.kind x.entry.frame offset text room w later =
-      subst₂ (λ (k : ℕ) (f : List ℕ). WritesLineByText k f offset text room w later) x.kind-is (told-frame x) p in
+module _ {s : List ℕ} {number : ℕ} {text : List ℕ} where
+  pub entry-lined-by-text : {v : Located} → LocatesEntry s number (Ok v) → {room later : List ℕ} (w : Written)
+      → WritesLineByText v.kind (part v.from v.to s) v.offset text room w later → WritesEntryLineByText s number text room w later
+  entry-lined-by-text {v} a {room} {later} w p =
+      let x = entry_of a in
+      let own : WritesLineByText x.entry.kind x.entry.frame v.offset text room w later =
+      subst₂ (λ (k : ℕ) (f : List ℕ). WritesLineByText k f v.offset text room w later) x.kind-is (told-frame x) p in
       recast (λ no c. first-map (entry-cause x.valid x.numbered) (frame-cause x.valid x.numbered) c) (text-here x.valid x.numbered) own
 
-  pub unlocated-by-text : {why : Refusal} (room : List ℕ) → r ≡ NotLocated why → WritesEntryLineByText s number text room (Refused why) room
-  unlocated-by-text {why} room q = refused (some_number why) (unlocated a causes valid (λ c. elim c [ ]) why q)
+  pub unlocated-by-text : (why : Refusal) (room : List ℕ) → LocatesEntry s number (Err why) → WritesEntryLineByText s number text room (Err why) room
+  unlocated-by-text why room a = refused (some_number why) (unlocated causes valid (λ c. elim c [ ]) why a)
     where
       causes : (i : ℕ) → EntryCause s number i → EntryLineByTextCause s number text (length room) i
       causes i (answers.no-book f) = answers.no-book f
@@ -114,7 +112,7 @@ module _ {s text room : List ℕ} where
 
   -- a valid book, and a text that is no sheet
   pub listed-bad-text : {count : ℕ} → Counts s count → (why : Refusal) → refusal_number why ≡ 10 → ((rows : List Row) → Sheet text rows → ⊥)
-      → WritesBookLinesByText s text room (Refused why) room
+      → WritesBookLinesByText s text room (Err why) room
   listed-bad-text k why e f = refused (some_number why) (subst (First (ListByTextCause s text (length room)) refusal_order) (sym e) ten)
     where
       valid : ListByTextCause s text (length room) 8 → ⊥
@@ -124,7 +122,7 @@ module _ {s text room : List ℕ} where
       ten = pass-over ours only refusal_order (after valid (here (answers.bad-sheet f)))
 
   -- anything else than a valid book
-  pub unopened-by-text : {places : List ℕ} {r : Opened} {why : Refusal} → OpensNoting s places r → r ≡ Unopened why → WritesBookLinesByText s text room (Refused why) room
-  unopened-by-text {why = why} a q =
-      let u = unopened (opens-so a) q in
+  pub unopened-by-text : {places : Places} (why : Refusal) → OpensNoting s places (Err why) → WritesBookLinesByText s text room (Err why) room
+  unopened-by-text why a =
+      let u = unopened why (opens-so a) in
       refused (some_number why) (subst (First (ListByTextCause s text (length room)) refusal_order) u.1 (here (answers.no-book u.0)))

@@ -1,6 +1,6 @@
 -- What the frame of an entry says: by its kind, and by its first bytes.
 -- Assumes nothing.
-use mathlib.Core.Bool.{true≢false}
+use Rattle.std.specs.Prelude.{Option, Some, IsSome}
 use mathlib.Core.List.{List, [], ◌∷◌}
 use mathlib.Core.Path.{◌≡◌, refl, sym, ap, ◌∙◌, subst}
 use Prim.Native.Nat.{ℕ, suc, ◌+◌, ◌-◌, ◌/◌, ◌%◌, ◌≤◌, ◌<◌}
@@ -20,9 +20,7 @@ use Rattle.frames.specs.Paper.Kinds.{number_of, layout_of, Resolves, Frame}
 use Rattle.frames.specs.Paper.OneFrame.{OneFrame}
 use Rattle.frames.specs.declared.kinds.Kind.{Kind}
 use Rattle.frames.specs.declared.kinds.Kind.TheVariants.{Nikobus, NestCommand, NestResponse, Nibe, Homiq}
-use Rattle.frames.specs.declared.kinds.Resolved.{Resolved}
-use Rattle.frames.specs.declared.kinds.Resolved.TheVariants.{Is as Resolved-is, Unknown}
-use Rattle.frames.proofs.Laws.Kinds.{of-kind, as-frame, frame-known, resolved-known, resolved-unknown}
+use Rattle.frames.proofs.Laws.Kinds.{of-kind, as-frame, frame-known, resolved-known, resolved-some}
 use Rattle.messages.specs.Paper.Content.{wire_of, content_in, payload_in}
 use Rattle.messages.specs.Paper.Content as content
 use Rattle.messages.specs.Paper.Meant.{LinkWith, PressWith, ContentWith}
@@ -124,15 +122,15 @@ module _ {kind : Kind} {f : List ℕ} (x : Frame (number_of kind) f) where
 
 -- ---- the kind of a number
 
-module _ {k : ℕ} {f : List ℕ} {from to : ℕ} (o : OneFrame k f (record { from = from; to = to })) {r : Resolved} (a : Resolves k r) where
-  pub of_number : {kind : Kind} → r ≡ Resolved-is kind → Frame (number_of kind) f
+module _ {k : ℕ} {f : List ℕ} {from to : ℕ} (o : OneFrame k f (record { from = from; to = to })) {r : Option Kind} (a : Resolves k r) where
+  pub of_number : {kind : Kind} → r ≡ Some kind → Frame (number_of kind) f
   of_number q = subst (λ (n : ℕ). Frame n f) (sym (resolved-known a q)) o.frame
 
-  pub tagged-number : {kind : Kind} {tag : Tag} → r ≡ Resolved-is kind → Tagged (number_of kind) f tag → Tagged k f tag
+  pub tagged-number : {kind : Kind} {tag : Tag} → r ≡ Some kind → Tagged (number_of kind) f tag → Tagged k f tag
   tagged-number {tag = tag} q s = subst (λ (n : ℕ). Tagged n f tag) (resolved-known a q) s
 
-  pub no_number : {A : Type 0} → r ≡ Unknown → A
-  no_number q = absurd (true≢false (sym (frame-known o.frame) ∙ resolved-unknown a q))
+pub some_kind : {k : ℕ} {f : List ℕ} (x : Frame k f) (r : Option Kind) → Resolves k r → IsSome r
+some_kind x r a = resolved-some r a ∙ frame-known x
 
 -- ---- two bytes of a frame
 

@@ -13,6 +13,7 @@ use Rattle.digits.specs.Paper.Bytes.{part}
 use Rattle.digits.specs.Paper.LowFirst.{low_byte_first}
 use Rattle.digits.specs.Paper.Part.{zero_ends, IsPart}
 use Rattle.digits.specs.Paper.Refusals.{refusal_number, refusal_order, First, clear, here, after, answers, refuses}
+use Rattle.std.specs.Prelude.{Result, Ok, Err}
 use Rattle.digits.specs.declared.refusal.Refusal.{Refusal}
 use Rattle.digits.specs.declared.refusal.Refusal.TheVariants.{NoPlace, NoBook}
 use Rattle.digits.proofs.Laws.Handed.{hands-right, hands_none}
@@ -23,11 +24,9 @@ use Rattle.book.specs.Paper.Book.{Entry, head, entry_bytes, entries, offsets, Fr
 use Rattle.book.specs.Paper.Answers.{NoValidBook, OpenCause, Counts, Opens, EntryCause, no-book, no-entry, Location, EntryOf, LocatesEntry, HandsFrame}
 use Rattle.book.specs.Paper.Answers as paper
 use Rattle.book.specs.Work.Reading.{NumberAt, Heads, Fills, FillsNoted, Noting, OpensNoting, Trailed}
+use Rattle.book.specs.declared.opening.Places.{Places}
 use Rattle.book.specs.Work.Reading as work
 use Rattle.book.specs.declared.Located.{Located}
-use Rattle.book.specs.declared.Located.TheVariants.{Is, Refused as NotLocated}
-use Rattle.book.specs.declared.Opened.{Opened}
-use Rattle.book.specs.declared.Opened.TheVariants.{Count, Refused}
 use Rattle.book.proofs.Laws.Layout.{length-head, length-entry, length-offsets, entries-append, offsets-append, length-book, first-framed, framed-back}
 use Rattle.book.proofs.Laws.One.{kind-byte, one-book}
 use Rattle.book.proofs.Laws.Opening.{pieces_of, trailer_at, trailer-place, book-trailed, book-filled, filled-book, the-count}
@@ -161,41 +160,38 @@ open-8 h = pass-over (λ k. eqb k 8) open-only refusal_order (here (paper.no-boo
 
 -- ---- opening
 
-pub not-trailed : {s places : List ℕ} → ((count : ℕ) × Trailed s count → ⊥) → OpensNoting s places (Refused NoBook)
+pub not-trailed : {s : List ℕ} {places : Places} → ((count : ℕ) × Trailed s count → ⊥) → OpensNoting s places (Err NoBook)
 not-trailed f = work.refuses (λ es b. f (length es, book-trailed b))
 
 module _ {s : List ℕ} {n : ℕ} (few : n < 65536) (p : NumberAt s (length s - 6) 2 n) where
   pub trailed-count : (count : ℕ) × Trailed s count → Trailed s n
   trailed-count t = subst (Trailed s) (sym (the-count few p t.1).0) t.1
 
-  pub not-filled : {places : List ℕ} → (Fills s n (trailer_at s n) 0 0 → ⊥) → OpensNoting s places (Refused NoBook)
+  pub not-filled : {places : Places} → (Fills s n (trailer_at s n) 0 0 → ⊥) → OpensNoting s places (Err NoBook)
   not-filled f = work.refuses (λ es b. f (subst (λ (k : ℕ). Fills s k (trailer_at s k) 0 0) (sym (the-count few p (book-trailed b)).0) (book-filled b)))
 
 pub counts-trailed : {s : List ℕ} {n : ℕ} → Counts s n → Trailed s n
 counts-trailed {s} c = subst (Trailed s) (sym c.is) (book-trailed c.valid)
 
-pub opened : {s : List ℕ} {n size : ℕ} {places : List ℕ} → Trailed s n → size ≡ 4 * n + 6 → FillsNoted s n (length s - size) 0 0 places → 2000 ≤ length places
-    → OpensNoting s places (Count n)
-opened {s} {n = n} {places = places} t e noted h =
+pub opened : {s : List ℕ} {n size : ℕ} {places : Places} → Trailed s n → size ≡ 4 * n + 6 → FillsNoted s n (length s - size) 0 0 places
+    → OpensNoting s places (Ok n)
+opened {s} {n = n} {places = places} t e noted =
     let f = subst (λ (k : ℕ). FillsNoted s n (length s - k) 0 0 places) e noted in
     let g = f.fills in
-    work.opens {n = n} (record { counts = record { all = g.remaining; valid = filled-book t g; is = omega (arith, g.left) }; room = h; noted = f.noted })
+    work.opens {n = n} (record { counts = record { all = g.remaining; valid = filled-book t g; is = omega (arith, g.left) }; noted = f.noted })
 
 -- opening answers the count alone
-pub opens-so : {s places : List ℕ} {r : Opened} → OpensNoting s places r → Opens s r
+pub opens-so : {s : List ℕ} {places : Places} {r : Result ℕ Refusal} → OpensNoting s places r → Opens s r
 opens-so (work.opens {n = n} x) = answers {v = n} (open-0 x.counts.valid) x.counts
 opens-so (work.refuses h) = refuses {no = 8} (omega arith) (open-8 h)
 
-pub noting-of : {s places : List ℕ} {r : Opened} {n : ℕ} → OpensNoting s places r → r ≡ Count n → Noting s n places
-noting-of {s} {places} {r} {n} a q = of (subst (OpensNoting s places) q a)
-  where
-    of : OpensNoting s places (Count n) → Noting s n places
-    of (work.opens x) = x
+pub noting-of : {s : List ℕ} {places : Places} {n : ℕ} → OpensNoting s places (Ok n) → Noting s n places
+noting-of (work.opens x) = x
 
 -- ---- what is told of an entry
 
 pub entry-told : {s : List ℕ} {es : List Entry} {number : ℕ} {e : Entry} {at kind from to : ℕ} → Book s es → EntryAt es number e at → Heads s at kind from to
-    → LocatesEntry s number (Is kind at from to)
+    → LocatesEntry s number (Ok (record { kind = kind; offset = at; from = from; to = to }))
 entry-told {s} {es} {e = e} {at} {kind} {from} {to} b n h =
     let inside = numbered-inside b n in
     let end = trailer_at s (length es) in
@@ -211,21 +207,21 @@ entry-told {s} {es} {e = e} {at} {kind} {from} {to} b n h =
       to_is = q.1;
     })
 
-pub no-entry-told : {s : List ℕ} {count number : ℕ} → Counts s count → count ≤ number → LocatesEntry s number (NotLocated NoPlace)
+pub no-entry-told : {s : List ℕ} {count number : ℕ} → Counts s count → count ≤ number → LocatesEntry s number (Err NoPlace)
 no-entry-told c h = refuses {no = 3} (omega arith) (entry-3 c.valid (omega (arith, c.is)))
 
-module _ {s : List ℕ} {r : Opened} (a : Opens s r) where
-  pub opened-counts : {n : ℕ} → r ≡ Count n → Counts s n
-  opened-counts q = answered (subst (Opens s) q a) refl
+pub opened-counts : {s : List ℕ} {n : ℕ} → Opens s (Ok n) → Counts s n
+opened-counts a = answered a refl
 
-  pub unopened : {why : Refusal} → r ≡ Refused why → (x : NoValidBook s) × (8 ≡ refusal_number why)
-  unopened {why} q = go (cause-at (cause-of (subst (Opens s) q a)) (some_number why))
+module _ {s : List ℕ} (why : Refusal) (a : Opens s (Err why)) where
+  pub unopened : (x : NoValidBook s) × (8 ≡ refusal_number why)
+  unopened = go (cause-at (cause-of a) (some_number why))
     where
       go : {k : ℕ} → OpenCause s k → (x : NoValidBook s) × (8 ≡ k)
       go (paper.no-book h) = (h, refl)
 
-  pub unopened-told : {why : Refusal} {number : ℕ} → r ≡ Refused why → LocatesEntry s number (NotLocated why)
-  unopened-told {why} {number} q = let u = unopened q in refuses (some_number why) (subst (First (EntryCause s number) refusal_order) u.1 (entry-8 u.0))
+  pub unopened-told : {number : ℕ} → LocatesEntry s number (Err why)
+  unopened-told {number} = refuses (some_number why) (subst (First (EntryCause s number) refusal_order) unopened.1 (entry-8 unopened.0))
 
 -- ---- its frame, as a part of the book
 
@@ -247,18 +243,12 @@ told-frame {s} {v = v} o =
     (omega (arith, o.to_is)) (numbered-bytes b n) in
     (part_cut v.offset v.from v.to s (head e) e.frame bounds.1 bounds.0 (omega (arith, (told-inside o).1)) (omega (arith, o.from_is)) to.0).1
 
-module _ {s : List ℕ} {number : ℕ} {r : Located} (a : LocatesEntry s number r) where
-  module _ {kind offset from to : ℕ} (q : r ≡ Is kind offset from to) where
-    there : LocatesEntry s number (Is kind offset from to)
-    there = subst (LocatesEntry s number) q a
+pub entry_of : {s : List ℕ} {number : ℕ} {v : Located} → LocatesEntry s number (Ok v) → EntryOf s number v
+entry_of a = answered a refl
 
-    pub entry_of : EntryOf s number (record { kind = kind; offset = offset; from = from; to = to })
-    entry_of = answered there refl
+module _ {s p : Bor (List ℕ)} {number : ℕ} where
+  pub hands-frame : {v : Located} → LocatesEntry s.now number (Ok v) → IsPart s (record { from = v.from; to = v.to }) p → HandsFrame s number p
+  hands-frame {v} a i = hands-right (cause-of a) (v, entry_of a, refl) i
 
-module _ {s p : Bor (List ℕ)} {number : ℕ} {r : Located} (a : LocatesEntry s.now number r) where
-  pub hands-frame : {kind offset from to : ℕ} → r ≡ Is kind offset from to → IsPart s (record { from = from; to = to }) p → HandsFrame s number p
-  hands-frame {kind} {offset} {from} {to} q i =
-      hands-right (cause-of (subst (LocatesEntry s.now number) q a)) (record { kind = kind; offset = offset; from = from; to = to }, entry_of a q, refl) i
-
-  pub hands-nothing : {why : Refusal} → r ≡ NotLocated why → IsPart s zero_ends p → HandsFrame s number p
-  hands-nothing {why} q = hands_none why (cause-of (subst (LocatesEntry s.now number) q a))
+  pub hands-nothing : (why : Refusal) → LocatesEntry s.now number (Err why) → IsPart s zero_ends p → HandsFrame s number p
+  hands-nothing why a = hands_none why (cause-of a)

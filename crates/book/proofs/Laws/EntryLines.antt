@@ -3,20 +3,20 @@
 use mathlib.Core.Bool.{true≢false}
 use mathlib.Core.List.{List}
 use mathlib.Core.Option.{Option}
-use mathlib.Core.Path.{◌≡◌, sym, ap, ◌∙◌, subst, subst₂}
+use mathlib.Core.Path.{sym, ap, ◌∙◌, subst, subst₂}
 use Prim.Native.Nat.{ℕ, ◌≤◌}
 use native.Mathlib.Omega.{arith}
 use lib.ListN.{length}
 use Rattle.digits.specs.Paper.Bytes.{part}
 use Rattle.digits.specs.Paper.Refusals.{refusal_number, refusal_order, First, here, after}
+use Rattle.std.specs.Prelude.{Ok, Err}
 use Rattle.digits.specs.declared.refusal.Refusal.{Refusal}
 use Rattle.digits.proofs.Laws.Refusals.{some_number, cause-at, cause-of}
 use Rattle.frames.proofs.Laws.Kinds.{frame-known}
 use Rattle.lines.specs.Paper.Answers.{LineOf, LineCause, WritesLine}
 use Rattle.lines.specs.Paper.Answers as lines
 use Rattle.puts.specs.Paper.Right.{refused}
-use Rattle.puts.specs.declared.Written.{Written}
-use Rattle.puts.specs.declared.Written.TheVariants.{Refused}
+use Rattle.puts.specs.Paper.Wrote.{Written}
 use Rattle.puts.proofs.Laws.Right.{recast}
 use Rattle.sheet.specs.Paper.Sheet.{Lookup}
 use Rattle.sheet.proofs.Laws.Split.{first-map}
@@ -24,7 +24,6 @@ use Rattle.book.specs.Paper.Answers.{EntryCause, LocatesEntry, EntryLine, EntryL
 use Rattle.book.specs.Paper.Answers as answers
 use Rattle.book.specs.Paper.Book.{Entry, Book, EntryAt}
 use Rattle.book.specs.declared.Located.{Located}
-use Rattle.book.specs.declared.Located.TheVariants.{Is, Refused as NotLocated}
 use Rattle.book.proofs.Laws.Entries.{numbered-frame, numbered_below, told-frame, entry_of}
 use Rattle.book.proofs.Laws.One.{one-book, one-numbered}
 
@@ -58,26 +57,26 @@ module _ {s : List ℕ} {es : List Entry} {number : ℕ} {e : Entry} {offset : �
 
 -- ---- the answers
 
-module _ {s : List ℕ} {number : ℕ} {r : Located} (a : LocatesEntry s number r) where
-  pub entry-lined : {kind offset from to : ℕ} (q : r ≡ Is kind offset from to) {sheet : Option Lookup} {room later : List ℕ} (w : Written)
-      → WritesLine sheet kind (part from to s) offset room w later → WritesEntryLine sheet s number room w later
-  entry-lined {offset = offset} q {sheet} {room} {later} w p =
-      let x = entry_of a q in
-      let own : WritesLine sheet x.entry.kind x.entry.frame offset room w later =
-      subst₂ (λ (k : ℕ) (f : List ℕ). WritesLine sheet k f offset room w later) x.kind-is (told-frame x) p in
+module _ {s : List ℕ} {number : ℕ} where
+  pub entry-lined : {v : Located} → LocatesEntry s number (Ok v) → {sheet : Option Lookup} {room later : List ℕ} (w : Written)
+      → WritesLine sheet v.kind (part v.from v.to s) v.offset room w later → WritesEntryLine sheet s number room w later
+  entry-lined {v} a {sheet} {room} {later} w p =
+      let x = entry_of a in
+      let own : WritesLine sheet x.entry.kind x.entry.frame v.offset room w later =
+      subst₂ (λ (k : ℕ) (f : List ℕ). WritesLine sheet k f v.offset room w later) x.kind-is (told-frame x) p in
       recast (λ no c. first-map (entry-cause x.valid x.numbered) (frame-cause x.valid x.numbered) c) (line-here x.valid x.numbered) own
 
   -- anything else than an entry of a valid book is refused before all else
-  pub unlocated : {Cause : ℕ → Type 0} → ((i : ℕ) → EntryCause s number i → Cause i) → ((es : List Entry) → Book s es → Cause 8 → ⊥) → (Cause 2 → ⊥) → (why : Refusal) → r ≡ NotLocated why
+  pub unlocated : {Cause : ℕ → Type 0} → ((i : ℕ) → EntryCause s number i → Cause i) → ((es : List Entry) → Book s es → Cause 8 → ⊥) → (Cause 2 → ⊥) → (why : Refusal) → LocatesEntry s number (Err why)
       → First Cause refusal_order (refusal_number why)
-  unlocated {Cause} causes valid kind why q = go (cause-at (cause-of (subst (LocatesEntry s number) q a)) (some_number why))
+  unlocated {Cause} causes valid kind why a = go (cause-at (cause-of a) (some_number why))
     where
       go : {no : ℕ} → EntryCause s number no → First Cause refusal_order no
       go (answers.no-book f) = here (causes 8 (answers.no-book f))
       go (answers.no-entry {es = es} b h) = after (valid es b) (after kind (here (causes 3 (answers.no-entry b h))))
 
-  pub unlocated-line : {sheet : Option Lookup} {why : Refusal} (room : List ℕ) → r ≡ NotLocated why → WritesEntryLine sheet s number room (Refused why) room
-  unlocated-line {sheet} {why} room q = refused (some_number why) (unlocated causes valid (λ c. elim c [ ]) why q)
+  pub unlocated-line : {sheet : Option Lookup} (why : Refusal) (room : List ℕ) → LocatesEntry s number (Err why) → WritesEntryLine sheet s number room (Err why) room
+  unlocated-line {sheet} why room a = refused (some_number why) (unlocated causes valid (λ c. elim c [ ]) why a)
     where
       causes : (i : ℕ) → EntryCause s number i → EntryLineCause sheet s number (length room) i
       causes i (answers.no-book f) = answers.no-book f

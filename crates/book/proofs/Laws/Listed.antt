@@ -9,12 +9,12 @@ use native.Mathlib.Omega.{arith}
 use lib.Dec.{eqb, lit<}
 use lib.ListN.{length}
 use Rattle.digits.specs.Paper.Refusals.{refusal_order, First, clear, here, after}
+use Rattle.std.specs.Prelude.{Err, Ok}
 use Rattle.digits.specs.declared.refusal.Refusal.{Refusal}
 use Rattle.digits.specs.declared.refusal.Refusal.TheVariants.{NoRoom}
 use Rattle.digits.proofs.Laws.Refusals.{some_number, pass-over}
 use Rattle.lines.proofs.Laws.Types.{in-types}
 use Rattle.puts.specs.Paper.Right.{wrote, refused}
-use Rattle.puts.specs.declared.Written.TheVariants.{Bytes, Refused}
 use Rattle.puts.proofs.Laws.Puts.{front-count, front-room}
 use Rattle.puts.proofs.Laws.Sizes.{too_small, large-enough}
 use Rattle.puts.proofs.Laws.Sizes as sizes
@@ -23,9 +23,8 @@ use Rattle.sheet.specs.Paper.Sheet.{Lookup}
 use Rattle.book.specs.Paper.Answers.{Counts, BookLines, ListCause, WritesBookLines}
 use Rattle.book.specs.Paper.Answers as answers
 use Rattle.book.specs.Work.Reading.{OpensNoting}
+use Rattle.book.specs.declared.opening.Places.{Places}
 use Rattle.book.specs.Work.Writing.{Lists, Most, SizedLines, Fits}
-use Rattle.book.specs.declared.Opened.{Opened}
-use Rattle.book.specs.declared.Opened.TheVariants.{Refused as Unopened}
 use Rattle.book.proofs.Laws.BookLines.{book-lines, one-book-lines, book-lines-most, sheet-lines-most}
 use Rattle.book.proofs.Laws.Entries.{counts-trailed, unopened, opens-so}
 
@@ -64,10 +63,10 @@ module _ {sheet : Option Lookup} {s : List ℕ} {room : ℕ} where
   valid-book : {t : List ℕ} → BookLines sheet s t → ListCause sheet s room 8 → ⊥
   valid-book l (answers.no-book f) = f l.all l.valid
 
-pub list-refused-4 : {sheet : Option Lookup} {s room : List ℕ} → Fits sheet s (length room) false → WritesBookLines sheet s room (Refused NoRoom) room
+pub list-refused-4 : {sheet : Option Lookup} {s room : List ℕ} → Fits sheet s (length room) false → WritesBookLines sheet s room (Err NoRoom) room
 list-refused-4 f = refused (lit< tt) (pass-over ours only refusal_order (after (valid-book f.right) (here (answers.short f.right (too_small f)))))
 
-pub list_written : {sheet : Option Lookup} {s room later : List ℕ} {n : ℕ} → Fits sheet s (length room) true → Lists sheet s room later n → WritesBookLines sheet s room (Bytes n) later
+pub list_written : {sheet : Option Lookup} {s room later : List ℕ} {n : ℕ} → Fits sheet s (length room) true → Lists sheet s room later n → WritesBookLines sheet s room (Ok n) later
 list_written {sheet} {s} {room} {later} {n} f l =
     let t = l.text in
     let h = roomy f t l.right in
@@ -77,8 +76,8 @@ list_written {sheet} {s} {room} {later} {n} f l =
     not_short (answers.short {t = u} b h) = omega (arith, roomy f u b)
 
 -- anything else than a valid book
-pub unopened-list : {sheet : Option Lookup} {s places : List ℕ} {r : Opened} {why : Refusal} (room : List ℕ) → OpensNoting s places r → r ≡ Unopened why
-    → WritesBookLines sheet s room (Refused why) room
-unopened-list {sheet} {s} {r = r} {why = why} room a q =
-    let u = unopened (opens-so a) q in
+pub unopened-list : {sheet : Option Lookup} {s : List ℕ} {places : Places} (why : Refusal) (room : List ℕ) → OpensNoting s places (Err why)
+    → WritesBookLines sheet s room (Err why) room
+unopened-list {sheet} {s} why room a =
+    let u = unopened why (opens-so a) in
     refused (some_number why) (subst (First (ListCause sheet s (length room)) refusal_order) u.1 (here (answers.no-book u.0)))

@@ -2,15 +2,15 @@
 -- Assumes nothing.
 use mathlib.Core.List.{List}
 use mathlib.Core.Option.{Option}
-use mathlib.Core.Path.{◌≡◌, sym, ◌∙◌, subst}
+use mathlib.Core.Path.{◌≡◌, refl, sym, ◌∙◌, subst}
 use Prim.Native.Nat.{ℕ}
 use lib.ListN.{length}
+use Rattle.std.specs.Prelude.{Result, Ok, Err, IsOk}
 use Rattle.digits.specs.Paper.Bytes.{part}
-use Rattle.digits.specs.Paper.Refusals.{Answers, answers, refuses}
-use Rattle.digits.proofs.Laws.Refusals.{cause-at}
+use Rattle.digits.specs.declared.refusal.Refusal.{Refusal}
+use Rattle.digits.proofs.Laws.Refusals.{answered, cause-at, cause-of, some_number}
 use Rattle.frames.specs.Paper.OneFrame.{OneFrame}
-use Rattle.lines.specs.Paper.Answers.{ended_place, PutContent, PutsContent}
-use Rattle.lines.specs.declared.Ended.{Ended}
+use Rattle.lines.specs.Paper.Answers.{PutContent, PutsContent}
 use Rattle.lines.proofs.Theorems.{content-of-frame}
 use Rattle.messages.specs.Paper.Content.{Content, content_at, payload_in}
 use Rattle.messages.specs.Paper.Meant.{ContentWith, MeantCause, no-message}
@@ -30,18 +30,19 @@ module _ {k : ℕ} {f : List ℕ} {from to : ℕ} (o : OneFrame k f (record { fr
       subst (λ (p : List ℕ). ContentWith tag p (content_at o.frame)) (sym (the-part o))
       (subst (λ (c : Content). ContentWith tag (payload_in c) c) same x.is)
 
-  -- so its line is not refused
-  pub line-one : {sheet : Option Lookup} {at : ℕ} {room later : List ℕ} {place n : ℕ} (w : Ended) → n ≡ ended_place w
-      → PutsContent sheet tag (part from to f) at (length f) room place w later → PutsOne sheet k f at room later place n
-  line-one {sheet} {at} {room} {later} {place} w z a = subst (PutsOne sheet k f at room later place) (sym z) (go a)
-    where
-      never : {no : ℕ} → MeantCause (ContentWith tag (part from to f)) no → ⊥
-      never (no-message g) =
-          let own = has-message o.frame in
-          g own.0 own.1.good (subst (ContentWith tag (part from to f)) (one-content o.frame own.1.frame ∙ own.1.content) says)
+  never : {no : ℕ} → MeantCause (ContentWith tag (part from to f)) no → ⊥
+  never (no-message g) =
+      let own = has-message o.frame in
+      g own.0 own.1.good (subst (ContentWith tag (part from to f)) (one-content o.frame own.1.frame ∙ own.1.content) says)
 
-      go : {no : ℕ} {v : ℕ × List ℕ}
-          → Answers (0, room) (MeantCause (ContentWith tag (part from to f))) (λ v. PutContent sheet tag (part from to f) at (length f) room place v.0 v.1) no v
-          → PutsOne sheet k f at room v.1 place v.0
-      go (answers c y) = record { text = y.text; right = content-of-frame o.frame tag (part from to f) says y.line; put = y.put }
-      go (refuses z c) = absurd (never (cause-at c z))
+  -- so its line is not refused
+  module _ {sheet : Option Lookup} {at : ℕ} {room later : List ℕ} {place : ℕ} where
+    pub line-ok : (w : Result ℕ Refusal) → PutsContent sheet tag (part from to f) at (length f) room place w later → IsOk w
+    line-ok (Ok n) a = refl
+    line-ok (Err why) a = absurd (never (cause-at (cause-of a) (some_number why)))
+
+    pub line-one : {n : ℕ} (w : Result ℕ Refusal) → w ≡ Ok n → PutsContent sheet tag (part from to f) at (length f) room place w later → PutsOne sheet k f at room later place n
+    line-one {n} w q a =
+        let y : PutContent sheet tag (part from to f) at (length f) room place n later =
+        answered (subst (λ (w : Result ℕ Refusal). PutsContent sheet tag (part from to f) at (length f) room place w later) q a) refl in
+        record { text = y.text; right = content-of-frame o.frame tag (part from to f) says y.line; put = y.put }

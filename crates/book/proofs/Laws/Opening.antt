@@ -12,6 +12,7 @@ use lib.Seq.{get_or-set_same, get_or-set_other}
 use Rattle.digits.specs.Paper.Bytes.{part}
 use Rattle.digits.specs.Paper.LowFirst.{low_byte_first}
 use Rattle.digits.specs.Paper.Read.{Decides, holds, fails}
+use Rattle.std.specs.Prelude.{Ok, Err, Some, None}
 use Rattle.digits.specs.declared.refusal.Refusal.{Refusal}
 use Rattle.digits.proofs.Laws.LowFirst.{length-low}
 use Rattle.digits.proofs.Laws.Parts.{length_part, part_join, part-all}
@@ -19,11 +20,11 @@ use Rattle.digits.proofs.Laws.Refusals.{answered, cause-of, cause-at, some_numbe
 use Rattle.frames.specs.Paper.Kinds.{Frame}
 use Rattle.frames.specs.Paper.OneFrame.{OneFrameCause, no_kind, no-frame, OneFrame, TestsOneFrame}
 use Rattle.frames.specs.declared.FramePayload.{FramePayload}
-use Rattle.frames.specs.declared.FramePayload.TheVariants.{Is, Refused}
 use Rattle.frames.proofs.Laws.Kinds.{frame-known}
 use Rattle.book.specs.Paper.Book.{Entry, head, entry_bytes, entries, offsets, book, Framed, none, also, Book}
 use Rattle.book.specs.Work.Reading.{NumberAt, Heads, Slots, taken as filled-slot, empty, Fills, Noted, none as noted-none, also as noted-also, FillsNoted, Agree, Turns, FillsNoting, noting, unfilled, Trailed}
-use Rattle.book.specs.declared.opening.Slot.TheVariants.{Taken, Empty}
+use Rattle.book.specs.declared.opening.Places.{Places}
+use Rattle.book.specs.declared.opening.Slot.{Slot}
 use Rattle.book.proofs.Laws.Layout.{length-entry, length-offsets, ending, book-pieces, length-book}
 use Rattle.book.proofs.Laws.One.{kind-byte, entry-cut}
 use Rattle.book.proofs.Laws.Reading.{part_cut, one_number, headed}
@@ -36,26 +37,26 @@ not-refused r (no_kind h) = true≢false (sym (frame-known r) ∙ h)
 not-refused r (no-frame h) = h r
 
 module _ (s : List ℕ) (at end : ℕ) (below : at ≤ end) (inside : end ≤ length s) where
-  pub slot-short : end - at < 3 → Slots s at end Empty
+  pub slot-short : end - at < 3 → Slots s at end None
   slot-short h = empty (λ e rest r same. absurd (omega (arith, length_part at end s below inside, ap length same, length-append (entry_bytes e) rest, length-entry e)))
 
   module _ {kind from to : ℕ} (small : length s ≤ 65536) (h : Heads s at kind from to) where
-    pub slot-long : end < to → Slots s at end Empty
+    pub slot-long : end < to → Slots s at end None
     slot-long l = empty (λ e rest r same. let q = headed {e = e} h below inside small (kind-byte r) same in absurd (omega (arith, q.2)))
 
-    pub slot-none : {w : FramePayload} {why : Refusal} → TestsOneFrame kind (part from to s) w → w ≡ Refused why → Slots s at end Empty
-    slot-none {why = why} t q = empty (λ e rest r same.
+    pub slot-none : (why : Refusal) → TestsOneFrame kind (part from to s) (Err why) → Slots s at end None
+    slot-none why t = empty (λ e rest r same.
         let p = headed {e = e} h below inside small (kind-byte r) same in
         let f : Frame kind (part from to s) = subst (λ (k : ℕ). Frame k (part from to s)) (sym p.0) (subst (Frame e.kind) (sym p.3) r) in
-        not-refused f (cause-at (cause-of (subst (TestsOneFrame kind (part from to s)) q t)) (some_number why)))
+        not-refused f (cause-at (cause-of t) (some_number why)))
 
-    pub slot_is : {w : FramePayload} {x y : ℕ} → to ≤ end → TestsOneFrame kind (part from to s) w → w ≡ Is x y → Slots s at end (Taken kind from to x y)
+    pub slot_is : {v : FramePayload} → to ≤ end → TestsOneFrame kind (part from to s) (Ok v) → Slots s at end (Some (record { to = to; payload = v }))
     unfolding entry_bytes head
-    slot_is l t q =
+    slot_is l t =
         let start : at ≤ from = omega (arith, h.from_is) in
         let forth : from ≤ to = h.forward in
         let n : to - from ≡ length (part from to s) = sym (length_part from to s forth (omega arith)) in
-        filled-slot start forth l (answered (subst (TestsOneFrame kind (part from to s)) q t) refl)
+        filled-slot start forth l (answered t refl)
         (sym (part_join at from to s start forth) ∙ ap (λ (t : List ℕ). t ++ part from to s) (h.bytes ∙ ap (λ (x : ℕ). low_byte_first 1 kind ++ low_byte_first 2 x) n))
 
 -- ---- the entries, one after the other
@@ -76,16 +77,12 @@ unfolding entries offsets
 next-in [] m g l b p = absurd (omega arith)
 next-in (e ∷ es) m (also r g) l b p = record { entry = e; others = es; frame = r; framed = g; left = l; bytes = b; places = p }
 
-next-fill : (s : List ℕ) (count end i at : ℕ) (places : List ℕ) (e : Entry) (es : List Entry) → Noted places i (e ∷ es) → Frame e.kind e.frame → Framed es → i + suc (length es) ≡ count
+next-fill : (s : List ℕ) (count end i at : ℕ) (places : Places) (e : Entry) (es : List Entry) → Noted places i (e ∷ es) → Frame e.kind e.frame → Framed es → i + suc (length es) ≡ count
     → part at end s ≡ entry_bytes e ++ entries es → part (end + 4 * i) (end + 4 * count) s ≡ low_byte_first 4 at ++ offsets (at + length (entry_bytes e)) es → FillsNoted s count end i at places
 unfolding entries offsets
 next-fill s count end i at places e es n r g l b p = record { fills = record { remaining = e ∷ es; framed = also r g; left = l; bytes = b; places = p }; noted = n }
 
-module _ {s : List ℕ} {count end : ℕ} {places₀ places : List ℕ} {i at : ℕ} (inside : end + 4 * count ≤ length s) (small : length s ≤ 65536) (t : Turns s count end places₀ places i at) (more : i < count) where
-  -- there is room for both places
-  pub second-place : (start : ℕ) → 1000 + i < length (set places i start)
-  second-place start = omega (arith, t.few, t.room, length-set places i start)
-
+module _ {s : List ℕ} {count end : ℕ} {places : Places} {i at : ℕ} (inside : end + 4 * count ≤ length s) (small : length s ≤ 65536) (t : Turns s count end places i at) (more : i < count) where
   next_of : Fills s count end i at → Next s count end i at
   next_of f = next-in f.remaining more f.framed f.left f.bytes f.places
 
@@ -99,7 +96,7 @@ module _ {s : List ℕ} {count end : ℕ} {places₀ places : List ℕ} {i at : 
   pub other_offset : (part (end + 4 * i) (end + 4 * i + 4) s ≡ low_byte_first 4 at → ⊥) → Fills s count end 0 0 → ⊥
   other_offset other f = other (next-places (next_of (t.onward f))).0
 
-  pub no-next : Slots s at end Empty → Fills s count end 0 0 → ⊥
+  pub no-next : Slots s at end None → Fills s count end 0 0 → ⊥
   no-next (empty never) f = let n = next_of (t.onward f) in never n.entry (entries n.others) n.frame n.bytes
 
   module _ (kind from to start stop : ℕ) (here : part (end + 4 * i) (end + 4 * i + 4) s ≡ low_byte_first 4 at) where
@@ -138,33 +135,27 @@ module _ {s : List ℕ} {count end : ℕ} {places₀ places : List ℕ} {i at : 
           }
 
       -- what is noted in this turn
-      abbrev newly : List ℕ
-      newly = set (set places i start) (1000 + i) stop
+      abbrev newly : Places
+      newly = record { starts = set places.starts i start; stops = set places.stops i stop }
 
-      module _ (later : List ℕ) (agree : Agree later newly (i + 1)) where
-        -- what is noted at another place is as it was
-        kept : (j : ℕ) → (j ≡ i → ⊥) → (j ≡ 1000 + i → ⊥) → get_or newly j 0 ≡ get_or places j 0
-        kept j a b = get_or-set_other (set places i start) (1000 + i) j stop 0 b ∙ get_or-set_other places i j start 0 a
-
+      module _ (later : Places) (agree : Agree later newly (i + 1)) where
         agree-before : Agree later places i
         agree-before =
             record {
-              starts = λ j h. agree.starts j (omega arith) ∙ kept j (λ e. absurd (omega arith)) (λ e. absurd (omega arith));
-              stops = λ j h. agree.stops j (omega arith) ∙ kept (1000 + j) (λ e. absurd (omega (arith, t.few))) (λ e. absurd (omega arith));
+              starts = λ j h. agree.starts j (omega arith) ∙ get_or-set_other places.starts i j start 0 (λ e. absurd (omega arith));
+              stops = λ j h. agree.stops j (omega arith) ∙ get_or-set_other places.stops i j stop 0 (λ e. absurd (omega arith));
             }
 
-        this-start : get_or later i 0 ≡ start
-        this-start =
-            agree.starts i (omega arith) ∙ get_or-set_other (set places i start) (1000 + i) i stop 0 (λ e. absurd (omega arith))
-            ∙ get_or-set_same places i start 0 (omega (arith, t.few, t.room))
+        this-start : get_or later.starts i 0 ≡ start
+        this-start = agree.starts i (omega arith) ∙ get_or-set_same places.starts i start 0 (omega (arith, t.few, t.starts_in))
 
-        this-stop : get_or later (1000 + i) 0 ≡ stop
-        this-stop = agree.stops i (omega arith) ∙ get_or-set_same (set places i start) (1000 + i) stop 0 (second-place start)
+        this-stop : get_or later.stops i 0 ≡ stop
+        this-stop = agree.stops i (omega arith) ∙ get_or-set_same places.stops i stop 0 (omega (arith, t.few, t.stops_in))
 
-        this-noted : OneFrame kind (part from to s) (record { from = get_or later i 0; to = get_or later (1000 + i) 0 })
+        this-noted : OneFrame kind (part from to s) (record { from = get_or later.starts i 0; to = get_or later.stops i 0 })
         this-noted = subst₂ (λ (x y : ℕ). OneFrame kind (part from to s) (record { from = x; to = y })) (sym this-start) (sym this-stop) o
 
-      turn-back : (later : List ℕ) → Agree later newly (i + 1) → FillsNoted s count end (i + 1) to later
+      turn-back : (later : Places) → Agree later newly (i + 1) → FillsNoted s count end (i + 1) to later
           → FillsNoted s count end i at later
       turn-back later agree g =
           let f = g.fills in
@@ -173,50 +164,55 @@ module _ {s : List ℕ} {count end : ℕ} {places₀ places : List ℕ} {i at : 
           (sym (part_join (end + 4 * i) (end + 4 * i + 4) (end + 4 * count) s (omega arith) (omega arith))
           ∙ ap₂ (λ (x y : List ℕ). x ++ y) here (ap (λ (x : ℕ). part x (end + 4 * count) s) over ∙ f.places ∙ ap (λ (x : ℕ). offsets x f.remaining) size))
 
-    pub turn : Slots s at end (Taken kind from to start stop) → Turns s count end places₀ (set (set places i start) (1000 + i) stop) (i + 1) to
-    turn (filled-slot forward forth l o b) =
-        record {
-          place_in = l;
-          turn_in = omega arith;
-          few = t.few;
-          room = omega (arith, t.room, length-set places i start, length-set (set places i start) (1000 + i) stop);
-          same = length-set (set places i start) (1000 + i) stop ∙ length-set places i start ∙ t.same;
-          onward = λ f. next-turn forward forth l o b (t.onward f);
-          completes = λ later agree f. t.completes later (agree-before forward forth l o b later agree) (turn-back forward forth l o b later agree f);
-        }
+      turned : Turns s count end newly (i + 1) to
+      turned =
+          record {
+            place_in = l;
+            turn_in = omega arith;
+            few = t.few;
+            starts_in = omega (arith, t.starts_in, length-set places.starts i start);
+            stops_in = omega (arith, t.stops_in, length-set places.stops i stop);
+            onward = λ f. next-turn (t.onward f);
+            completes = λ later agree f. t.completes later (agree-before later agree) (turn-back later agree f);
+          }
+
+  pub turn : {v : Slot} → part (end + 4 * i) (end + 4 * i + 4) s ≡ low_byte_first 4 at → Slots s at end (Some v)
+      → Turns s count end (record { starts = set places.starts i v.payload.from; stops = set places.stops i v.payload.to }) (i + 1) v.to
+  turn here (filled-slot {kind} {from} {to} {start} {stop} forward forth l o b) = turned kind from to start stop here forward forth l o b
 
 -- ---- all of them
 
-pub no-turns : (s : List ℕ) (count end : ℕ) (places : List ℕ) → count ≤ 1000 → 2000 ≤ length places → Turns s count end places places 0 0
-no-turns s count end places few h = record { place_in = omega arith; turn_in = omega arith; few = few; room = h; same = refl; onward = λ f. f; completes = λ later agree f. f }
+pub no-turns : (s : List ℕ) (count end : ℕ) (places : Places) → count ≤ 1000 → 1000 ≤ length places.starts → 1000 ≤ length places.stops → Turns s count end places 0 0
+no-turns s count end places few h k =
+    record { place_in = omega arith; turn_in = omega arith; few = few; starts_in = h; stops_in = k; onward = λ f. f; completes = λ later agree f. f }
 
 none_left : (s : List ℕ) (end at : ℕ) (rest : List Entry) → at ≤ end → end ≤ length s → length rest ≡ 0 → part at end s ≡ entries rest → at ≡ end
 unfolding entries
 none_left s end at [] h k l b = omega (arith, length_part at end s h k, ap length b)
 none_left s end at (e ∷ es) h k l b = absurd (omega arith)
 
-all_left : (s : List ℕ) (count end i at : ℕ) (places : List ℕ) → at ≡ end → i ≡ count → FillsNoted s count end i at places
+all_left : (s : List ℕ) (count end i at : ℕ) (places : Places) → at ≡ end → i ≡ count → FillsNoted s count end i at places
 unfolding entries offsets
 all_left s count end i at places e k =
     let z : end - at ≡ 0 = omega arith in
     let y : (end + 4 * count) - (end + 4 * i) ≡ 0 = omega arith in
     record { fills = record { remaining = []; framed = none; left = omega arith; bytes = rw z refl; places = rw y refl }; noted = noted-none }
 
-pub turns-end : {s : List ℕ} {count end : ℕ} {places₀ places : List ℕ} {i at : ℕ} → end + 4 * count ≤ length s → Turns s count end places₀ places i at → count ≤ i
+pub turns-end : {s : List ℕ} {count end : ℕ} {places : Places} {i at : ℕ} → end + 4 * count ≤ length s → Turns s count end places i at → count ≤ i
     → FillsNoting s count end places (eqb at end)
 turns-end {s} {count} {end} {places = places} {i = i} {at = at} inside t h = go (eqb at end) refl
   where
     go : (b : Bool) → eqb at end ≡ b → FillsNoting s count end places b
-    go true e = noting (t.completes places (record { starts = λ j l. refl; stops = λ j l. refl }) (all_left s count end i at places (eqb-true at end e) (omega (arith, t.turn_in)))) t.room
+    go true e = noting (t.completes places (record { starts = λ j l. refl; stops = λ j l. refl }) (all_left s count end i at places (eqb-true at end e) (omega (arith, t.turn_in))))
     go false e = unfilled (λ f. let g = t.onward f in eqb-false at end e (none_left s end at g.remaining t.place_in (omega arith) (omega (arith, g.left)) g.bytes))
 
 -- what the loop answers
-pub noted_in : {s : List ℕ} {count end : ℕ} {places : List ℕ} {b : Bool} → FillsNoting s count end places b → b ≡ true → (f : FillsNoted s count end 0 0 places) × (2000 ≤ length places)
-noted_in (noting f h) e = (f, h)
+pub noted_in : {s : List ℕ} {count end : ℕ} {places : Places} {b : Bool} → FillsNoting s count end places b → b ≡ true → FillsNoted s count end 0 0 places
+noted_in (noting f) e = f
 noted_in (unfilled f) e = absurd (true≢false (sym e))
 
-pub not_noted : {s : List ℕ} {count end : ℕ} {places : List ℕ} {b : Bool} → FillsNoting s count end places b → b ≡ false → Fills s count end 0 0 → ⊥
-not_noted (noting f h) e = absurd (true≢false e)
+pub not_noted : {s : List ℕ} {count end : ℕ} {places : Places} {b : Bool} → FillsNoting s count end places b → b ≡ false → Fills s count end 0 0 → ⊥
+not_noted (noting f) e = absurd (true≢false e)
 not_noted (unfilled f) e = f
 
 -- ---- the end of the trailer

@@ -8,8 +8,9 @@ use native.Mathlib.Omega.{arith}
 use lib.ListN.{length, get_or, take, drop, length-append}
 use Rattle.digits.specs.Paper.Bytes.{Bytes, part}
 use Rattle.digits.specs.Paper.LowFirst.{low_byte_first}
-use Rattle.digits.proofs.Laws.LowFirst.{length-low, low-inj}
-use Rattle.digits.proofs.Laws.Parts.{length_part, part_join, take-ats}
+use Rattle.digits.proofs.Laws.LowFirst.{length-low, low-inj, low-bytes}
+use Rattle.digits.proofs.Laws.Parts.{length_part, part_join, ats, take-ats}
+use Rattle.std.specs.Int.{bytes_low_first}
 use Rattle.layouts.proofs.Laws.Heads.{cut-same}
 use Rattle.book.specs.Paper.Book.{Entry, head, entry_bytes}
 use Rattle.book.specs.Work.Reading.{NumberAt, Heads}
@@ -45,6 +46,12 @@ byte_at s at b h =
     let w : (at + 1) - at ≡ 1 = omega arith in
     let n : get_or s at 0 % 256 ≡ get_or s at 0 = omega (arith, b.each at) in
     record { bytes = ap (λ (x : ℕ). take x (drop at s)) w ∙ take-ats s 1 at (omega arith) ∙ ap (λ (x : ℕ). x ∷ []) (sym n) }
+
+-- the number that so many bytes are
+pub number-of-bytes : (k : ℕ) {s : List ℕ} {at n : ℕ} → at + k ≤ length s → bytes_low_first 0 k n ≡ ats s at k → NumberAt s at k n
+number-of-bytes k {s} {at} {n} h e =
+    let w : (at + k) - at ≡ k = omega arith in
+    record { bytes = ap (λ (x : ℕ). take x (drop at s)) w ∙ take-ats s k at h ∙ sym e ∙ low-bytes k n }
 
 pub numbers-join : {s : List ℕ} {at : ℕ} (v w : ℕ) {a b : ℕ} → a < 256 ^ v → NumberAt s at v a → NumberAt s (at + v) w b → NumberAt s at (v + w) (a + 256 ^ v * b)
 numbers-join {s} {at} v w {a} {b} h p q =

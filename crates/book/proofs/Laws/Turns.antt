@@ -17,6 +17,7 @@ use Rattle.sheet.specs.Paper.Sheet.{Lookup}
 use Rattle.book.specs.Paper.Answers.{EntryLines, none, line, BookLines}
 use Rattle.book.specs.Paper.Book.{Entry, entry_bytes, entries, Framed}
 use Rattle.book.specs.Work.Reading.{Heads, Noted, also as noted-also, Noting}
+use Rattle.book.specs.declared.opening.Places.{Places}
 use Rattle.book.specs.Work.Writing.{PutsOne, Lists, Listing}
 use Rattle.book.proofs.Laws.Layout.{length-entry, length-entries, first-framed, rest-framed}
 use Rattle.book.proofs.Laws.One.{kind-byte}
@@ -26,7 +27,7 @@ use Rattle.book.proofs.Laws.Reading.{headed}
 
 -- ---- the loop begins
 
-pub started : {sheet : Option Lookup} {s places : List ℕ} {count : ℕ} (room : List ℕ) → length room ≤ largest_place → Noting s count places → Listing sheet s places room room count 0 0 0
+pub started : {sheet : Option Lookup} {s : List ℕ} {places : Places} {count : ℕ} (room : List ℕ) → length room ≤ largest_place → Noting s count places → Listing sheet s places room room count 0 0 0
 started {s = s} room slice x =
     let k = x.counts in
     let es = k.all in
@@ -45,14 +46,14 @@ started {s = s} room slice x =
 -- ---- what stands there
 
 -- what is noted of them
-first-noted : {places : List ℕ} {i : ℕ} {e : Entry} {es : List Entry} → Noted places i (e ∷ es)
-    → OneFrame e.kind e.frame (record { from = get_or places i 0; to = get_or places (1000 + i) 0 })
+first-noted : {places : Places} {i : ℕ} {e : Entry} {es : List Entry} → Noted places i (e ∷ es)
+    → OneFrame e.kind e.frame (record { from = get_or places.starts i 0; to = get_or places.stops i 0 })
 first-noted (noted-also o n) = o
 
-rest-noted : {places : List ℕ} {i : ℕ} {e : Entry} {es : List Entry} → Noted places i (e ∷ es) → Noted places (i + 1) es
+rest-noted : {places : Places} {i : ℕ} {e : Entry} {es : List Entry} → Noted places i (e ∷ es) → Noted places (i + 1) es
 rest-noted (noted-also o n) = n
 
-module _ {sheet : Option Lookup} {s places room room₀ : List ℕ} {next count i place : ℕ} (c : Listing sheet s places room room₀ count next i place) where
+module _ {sheet : Option Lookup} {s room room₀ : List ℕ} {places : Places} {next count i place : ℕ} (c : Listing sheet s places room room₀ count next i place) where
   abbrev end : ℕ
   end = place + length (entries c.remaining)
 
@@ -105,9 +106,9 @@ module _ {sheet : Option Lookup} {s places room room₀ : List ℕ} {next count 
       noted = subst (Noted places i) an-entry.is c.noted
 
       -- it was tested, and its payload's places are noted
-      pub tested-so : OneFrame kind (part from behind s) (record { from = get_or places i 0; to = get_or places (1000 + i) 0 })
+      pub tested-so : OneFrame kind (part from behind s) (record { from = get_or places.starts i 0; to = get_or places.stops i 0 })
       tested-so =
-          subst₂ (λ (k : ℕ) (f : List ℕ). OneFrame k f (record { from = get_or places i 0; to = get_or places (1000 + i) 0 }))
+          subst₂ (λ (k : ℕ) (f : List ℕ). OneFrame k f (record { from = get_or places.starts i 0; to = get_or places.stops i 0 }))
           (sym says.0) (sym says.3) (first-noted noted)
 
       -- ---- its line

@@ -1,21 +1,19 @@
 -- The promises: opening a book, its entries, their lines, and adding one. Lines go by a sheet, if there is one: at
 -- `none` they are 01's.
 -- Assumes nothing.
-use Rattle.std.specs.Prelude.{false, List, [], ◌∷◌, ◌++◌, ◌≡◌, ℕ, ◌+◌, ◌≤◌, ◌<◌, length}
+use Rattle.std.specs.Prelude.{false, Result, Ok, Err, List, [], ◌∷◌, ◌++◌, ◌≡◌, ℕ, ◌+◌, ◌≤◌, ◌<◌, length}
 use Rattle.std.proofs.Math.Option.{Option, some}
 use Rattle.std.specs.Borrow.{Bor}
 use Rattle.digits.specs.Paper.Part.{Ends, HandsPart}
 use Rattle.digits.specs.Paper.Refusals.{refusal_number, Answers}
+use Rattle.digits.specs.declared.refusal.Refusal.{Refusal}
 use Rattle.frames.specs.Paper.Kinds.{known, Frame}
 use Rattle.lines.specs.Paper.Answers.{LineOf}
 use Rattle.puts.specs.Paper.Right.{WritesRight}
-use Rattle.puts.specs.declared.Written.{Written}
+use Rattle.puts.specs.Paper.Wrote.{Written}
 use Rattle.sheet.specs.Paper.Sheet.{Row, Sheet, Lookup, find}
 use Rattle.book.specs.Paper.Book.{Entry, head, entry_bytes, book, most_entries, most_bytes, Book, EntryAt}
-use Rattle.book.specs.declared.Opened.{Opened}
-use Rattle.book.specs.declared.Opened.TheVariants.{Count, Refused}
 use Rattle.book.specs.declared.Located.{Located}
-use Rattle.book.specs.declared.Located.TheVariants.{Is, Refused as NotLocated}
 
 -- 01, "Refusal numbers": 8 "not a valid book"
 abbrev pub NoValidBook : List ℕ → Type 0
@@ -32,16 +30,16 @@ pub record Counts (s : List ℕ) (n : ℕ) : Type 0 where
   pub valid : Book s all
   pub is : n ≡ length all
 
-abbrev pub opened_refusal : Opened → ℕ
-opened_refusal (Count n) = 0
-opened_refusal (Refused why) = refusal_number why
+abbrev pub opened_refusal : Result ℕ Refusal → ℕ
+opened_refusal (Ok n) = 0
+opened_refusal (Err why) = refusal_number why
 
-abbrev pub opened_count : Opened → ℕ
-opened_count (Count n) = n
-opened_count (Refused why) = 0
+abbrev pub opened_count : Result ℕ Refusal → ℕ
+opened_count (Ok n) = n
+opened_count (Err why) = 0
 
 -- r is the right answer
-abbrev pub Opens : List ℕ → Opened → Type 0
+abbrev pub Opens : List ℕ → Result ℕ Refusal → Type 0
 Opens s r = Answers 0 (OpenCause s) (Counts s) (opened_refusal r) (opened_count r)
 
 -- ---- entry and frame
@@ -52,11 +50,8 @@ pub data EntryCause (s : List ℕ) (number : ℕ) : ℕ → Type 0 where
   no-entry : {es : List Entry} → Book s es → length es ≤ number → EntryCause s number 3
 
 -- what is reported of an entry: its kind, its offset, and the places in the book where its frame begins and ends
-pub record Location : Type 0 where
-  pub kind : ℕ
-  pub offset : ℕ
-  pub from : ℕ
-  pub to : ℕ
+abbrev pub Location : Type 0
+Location = Located
 
 -- v is what is reported of the entry of that number
 pub record EntryOf (s : List ℕ) (number : ℕ) (v : Location) : Type 0 where
@@ -68,19 +63,19 @@ pub record EntryOf (s : List ℕ) (number : ℕ) (v : Location) : Type 0 where
   pub from_is : v.from ≡ v.offset + length (head entry)
   pub to_is : v.to ≡ v.offset + length (entry_bytes entry)
 
-abbrev pub located_refusal : Located → ℕ
-located_refusal (Is kind offset from to) = 0
-located_refusal (NotLocated why) = refusal_number why
+abbrev pub located_refusal : Result Located Refusal → ℕ
+located_refusal (Ok v) = 0
+located_refusal (Err why) = refusal_number why
 
 abbrev pub zero_location : Location
 zero_location = record { kind = 0; offset = 0; from = 0; to = 0 }
 
-abbrev pub located_value : Located → Location
-located_value (Is kind offset from to) = record { kind = kind; offset = offset; from = from; to = to }
-located_value (NotLocated why) = zero_location
+abbrev pub located_value : Result Located Refusal → Location
+located_value (Ok v) = v
+located_value (Err why) = zero_location
 
 -- r is the right answer
-abbrev pub LocatesEntry : List ℕ → ℕ → Located → Type 0
+abbrev pub LocatesEntry : List ℕ → ℕ → Result Located Refusal → Type 0
 LocatesEntry s number r =
     Answers zero_location (EntryCause s number) (EntryOf s number) (located_refusal r) (located_value r)
 

@@ -10,6 +10,7 @@ use Rattle.sheet.specs.Paper.Sheet.{Lookup}
 use Rattle.book.specs.Paper.Book.{Entry, entries, book, Framed, most_entries, most_bytes, Book}
 use Rattle.book.specs.Paper.Answers.{EntryLines, BookLines}
 use Rattle.book.specs.Work.Reading.{Noted}
+use Rattle.book.specs.declared.opening.Places.{Places}
 
 -- ---- adding
 
@@ -42,7 +43,8 @@ pub record Lists (sheet : Option Lookup) (s room later : List ℕ) (behind : ℕ
   pub put : Put room later 0 behind text
 
 -- a loop's turns so far: the lines that are put, and the entries that are left, whose lines complete those of the book
-pub record Listing (sheet : Option Lookup) (s places room later : List ℕ) (count next i at : ℕ) : Type 0 where
+pub record Listing (sheet : Option Lookup) (s : List ℕ) (places : Places) (room later : List ℕ) (count next i at : ℕ)
+    : Type 0 where
   pub remaining : List Entry
   pub noted : Noted places i remaining
   pub framed : Framed remaining

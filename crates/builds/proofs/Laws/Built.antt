@@ -1,5 +1,6 @@
 -- What a call answers that builds the frame of some fields, way by way.
 -- Assumes nothing.
+use Rattle.std.specs.Prelude.{Ok, Err}
 use mathlib.Core.Path.{◌≡◌, sym, ◌∙◌, subst}
 use mathlib.Core.Bool.{Bool, true, false, not, true≢false}
 use mathlib.Core.List.{List}
@@ -11,9 +12,7 @@ use borrow.Author.Tests.{not-true, not-false}
 use Rattle.digits.specs.Paper.Refusals.{refusal_order, First}
 use Rattle.digits.specs.declared.refusal.Refusal.TheVariants.{NoRoom, OutOfLimits}
 use Rattle.puts.specs.Paper.Put.{Put}
-use Rattle.puts.specs.Paper.Wrote.{refused, RoomCause, Writes}
-use Rattle.puts.specs.declared.Written.{Written}
-use Rattle.puts.specs.declared.Written.TheVariants.{Bytes, Refused}
+use Rattle.puts.specs.Paper.Wrote.{refused, RoomCause, Writes, Written}
 use Rattle.puts.proofs.Laws.Puts.{front-count}
 use Rattle.puts.proofs.Laws.Wrote.{wrote_by, after-tests}
 use Rattle.layouts.specs.Paper.Layout.{Layout, bytes_of}
@@ -45,18 +44,18 @@ module _ {L : Type 0} {r b : ℕ} where
 -- ---- the answer
 
 module _ (l : Layout) (m : l.Fields) (room : List ℕ) where
-  pub not_within : (l.Limits m → ⊥) → Builds l m room (Refused OutOfLimits) room
+  pub not_within : (l.Limits m → ⊥) → Builds l m room (Err OutOfLimits) room
   not_within f = refused (lit< tt) (is-outside f)
 
   module _ (limits : l.Limits m) where
     -- a writer's bytes, where the test of the room has counted them
-    pub no_room : {k : ℕ} → k ≡ length (bytes_of l m) → length room < k → Builds l m room (Refused NoRoom) room
+    pub no_room : {k : ℕ} → k ≡ length (bytes_of l m) → length room < k → Builds l m room (Err NoRoom) room
     no_room e h = refused (lit< tt) (is-short limits (omega arith))
 
-    pub built : {k n : ℕ} {later : List ℕ} → k ≡ length (bytes_of l m) → k ≤ length room → Put room later 0 n (bytes_of l m) → Builds l m room (Bytes k) later
+    pub built : {k n : ℕ} {later : List ℕ} → k ≡ length (bytes_of l m) → k ≤ length room → Put room later 0 n (bytes_of l m) → Builds l m room (Ok k) later
     built {k} {n} {later} e h p =
         let g : length (bytes_of l m) ≤ length room = omega arith in
-        subst (λ (i : ℕ). Builds l m room (Bytes i) later) (front-count p g ∙ sym e) (wrote_by (is-clear limits g) p g)
+        subst (λ (i : ℕ). Builds l m room (Ok i) later) (front-count p g ∙ sym e) (wrote_by (is-clear limits g) p g)
 
     -- bytes that are written all or not at all
     pub fronted : {s later : List ℕ} (r : Written) → s ≡ bytes_of l m → Writes (RoomCause (length room) (length s)) s room r later → Builds l m room r later

@@ -1,6 +1,7 @@
 -- A payload laid out as a Homiq frame is one only where the payload is that of six fields within their limits, and then it is the
 -- frame of these.
 -- Assumes nothing.
+use Rattle.std.specs.Prelude.{Err}
 use mathlib.Core.Path.{◌≡◌, refl, sym, ap, ◌∙◌, subst}
 use mathlib.Core.Bool.{false, true≢false}
 use mathlib.Core.List.{List, [], ◌∷◌, ◌++◌, append_assoc, append_cancel_right}
@@ -27,13 +28,13 @@ use Rattle.layouts.proofs.Laws.Runs.{all-at}
 use Rattle.layouts.specs.Paper.Chars.{all, CR, LF}
 use Rattle.layouts.specs.Paper.Homiq as homiqs
 use Rattle.layouts.specs.Paper.Homiq.{Homiq, homiq, without_separators}
-use Rattle.layouts.specs.Paper.Layout.{all-agree, agree, bytes_of, FrameBy, Leads, leads, none}
+use Rattle.std.specs.Prelude.{Option, Some, None}
+use Rattle.layouts.specs.Paper.Layout.{all-agree, agree, bytes_of, frame_of, FrameBy, Leads, leads}
+use Rattle.layouts.specs.declared.Frame.{Frame}
 use Rattle.layouts.specs.Paper.Made.{Wire, closed, homiq_of, Payload}
 use Rattle.layouts.specs.Work.Homiq.{is_figure}
 use Rattle.puts.specs.Paper.Put.{Put}
-use Rattle.puts.specs.Paper.Wrote.{RoomCause, Writes}
-use Rattle.puts.specs.declared.Written.{Written}
-use Rattle.puts.specs.declared.Written.TheVariants.{Refused}
+use Rattle.puts.specs.Paper.Wrote.{RoomCause, Writes, Written}
 use Rattle.puts.proofs.Laws.Puts.{put-length, front-count, front_bytes}
 use Rattle.builds.specs.Paper.Builds.{HomiqCause, outside, short, HomiqBytes, BuildsHomiq}
 use Rattle.builds.specs.Work.Homiq.{around}
@@ -114,7 +115,7 @@ framed p f =
 
 -- ---- how long they are
 
-pub length-around : (p : List ℕ) → length (around p) ≤ length p + 10
+length-around : (p : List ℕ) → length (around p) ≤ length p + 10
 length-around p =
     let c = check homiq_crc (without_separators p) in
     let h : c < 256 = check-lt homiq_crc (without_separators p) in
@@ -123,6 +124,10 @@ length-around p =
     let y : List ℕ = x ++ ascii ";" in
     let z : List ℕ = y ++ decimal c in
     omega (arith, length-append (z ++ ascii ";>") (CR ∷ LF ∷ []), length-append z (ascii ";>"), length-append y (decimal c), length-append x (ascii ";"), length-append (ascii "<;") p)
+
+-- a payload that may be one is laid out in 64 bytes
+pub around-fits : (p : List ℕ) → length p ≤ 41 → length (around p) ≤ 64
+around-fits p h = omega (arith, length-around p)
 
 pub longest : {p : List ℕ} {w : Wire} → Payload p w → length p ≤ 41
 longest {p} {w} h =
@@ -182,8 +187,14 @@ module _ {p : List ℕ} {r : ℕ} where
 
 -- ---- the answer
 
+pub none-found : {v : Frame} → ◌≡◌ {A = Option Frame} None (Some v) → ⊥
+none-found e = cc
+
+pub one-found : {u v : Frame} → Some u ≡ Some v → u.len ≡ v.len
+one-found {u} {v} e = let same : u ≡ v = cc in ap (λ (f : Frame). f.len) same
+
 module _ (p room : List ℕ) where
-  pub too_long : 41 < length p → BuildsHomiq p room (Refused OutOfLimits) room
+  pub too_long : 41 < length p → BuildsHomiq p room (Err OutOfLimits) room
   too_long h = refused-5 (is-outside (λ w x. omega (arith, longest x)))
 
   -- the frame laid out in a room of its own, which is tried
@@ -194,29 +205,29 @@ module _ (p room : List ℕ) where
     pub tried-inside : n ≤ length whole
     tried-inside = omega (arith, put-length put, front-count put fits)
 
-    module _ {len from to : ℕ} (answer : Leads homiq (part 0 n whole) len from to) where
-      answered : Leads homiq (around p) len from to
-      answered = subst (λ (s : List ℕ). Leads homiq s len from to) tried-bytes answer
+    module _ {o : Option Frame} (answer : Leads homiq (part 0 n whole) o) where
+      answered : Leads homiq (around p) o
+      answered = subst (λ (s : List ℕ). Leads homiq s o) tried-bytes answer
 
-      pub no-frame : (len ≡ n → ⊥) → BuildsHomiq p room (Refused OutOfLimits) room
-      no-frame f = refused-5 (is-outside (λ w x. f (all_of w x)))
+      -- no frame, or one that ends before the end
+      pub no-frame : ((v : Frame) → o ≡ Some v → v.len ≡ n → ⊥) → BuildsHomiq p room (Err OutOfLimits) room
+      no-frame f = refused-5 (is-outside (λ w x. f _ (found w x) (sym (front-count put fits))))
         where
           frame : (w : Wire) → Payload p w → FrameBy homiq (around p)
           frame w x = record { form = record { fields = homiq_of w; limits = x.limits; laid = whole-frame x }; passes = agree refl all-agree }
 
-          all_of : (w : Wire) → Payload p w → len ≡ n
-          all_of w x =
-              let k = length (around p) in
-              let y : FrameBy homiq (take k (around p)) = subst (FrameBy homiq) (sym (take_all k (around p) (le_refl k))) (frame w x) in
-              (one-lead homiq-bus answered (leads (le_refl k) y)).0 ∙ sym (front-count put fits)
+          all : (w : Wire) → Payload p w → FrameBy homiq (take (length (around p)) (around p))
+          all w x = subst (FrameBy homiq) (sym (take_all (length (around p)) (around p) (le_refl (length (around p))))) (frame w x)
 
-      is-frame : {s : List ℕ} {k x y : ℕ} → 0 < length s → k ≡ length s → Leads homiq s k x y → FrameBy homiq s
-      is-frame {s} some e (leads {n = m} h f) = subst (FrameBy homiq) (take_all m s (omega arith)) f
-      is-frame some e (none g) = absurd (omega arith)
+          found : (w : Wire) (x : Payload p w) → o ≡ Some (frame_of homiq (length (around p)) (all w x).form.fields)
+          found w x = one-lead homiq-bus answered (leads (le_refl (length (around p))) (all w x))
 
-      pub a-frame : {later : List ℕ} (r : Written) → len ≡ n → Writes (RoomCause (length room) (length (part 0 n whole))) (part 0 n whole) room r later
-          → BuildsHomiq p room r later
-      a-frame {later} r e w =
-          let b : HomiqBytes p (around p) = framed p (is-frame (omega arith) (e ∙ front-count put fits) answered) in
+      is-frame : {s : List ℕ} {v : Frame} → v.len ≡ length s → Leads homiq s (Some v) → FrameBy homiq s
+      is-frame {s} e (leads {n = m} h f) = subst (FrameBy homiq) (take_all m s (omega arith)) f
+
+      pub a-frame : {later : List ℕ} (r : Written) {v : Frame} → o ≡ Some v → v.len ≡ n
+          → Writes (RoomCause (length room) (length (part 0 n whole))) (part 0 n whole) room r later → BuildsHomiq p room r later
+      a-frame {later} r {v} is e w =
+          let b : HomiqBytes p (around p) = framed p (is-frame (e ∙ front-count put fits) (subst (Leads homiq (around p)) is answered)) in
           fronted-right r b (is-clear b.payload) (is-short b.payload)
           (subst (λ (s : List ℕ). Writes (RoomCause (length room) (length s)) s room r later) tried-bytes w)

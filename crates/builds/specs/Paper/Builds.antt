@@ -1,8 +1,7 @@
 -- A frame built from its fields into a lent room: the layout's bytes, with the check values worked out.
 -- Assumes nothing.
 use Rattle.std.specs.Prelude.{List, ◌≡◌, ℕ, ◌<◌, length}
-use Rattle.puts.specs.Paper.Wrote.{Writes}
-use Rattle.puts.specs.declared.Written.{Written}
+use Rattle.puts.specs.Paper.Wrote.{Writes, Written}
 use Rattle.layouts.specs.Paper.Homiq.{homiq}
 use Rattle.layouts.specs.Paper.Layout.{Layout, bytes_of}
 use Rattle.layouts.specs.Paper.Made.{Wire, homiq_of, Payload}

@@ -9,8 +9,7 @@ use Rattle.digits.specs.Paper.Part.{Ends, HandsPart}
 use Rattle.digits.specs.Paper.Refusals.{Answers}
 use Rattle.puts.specs.Paper.Put.{Put}
 use Rattle.puts.specs.Paper.Right.{AnswersInto}
-use Rattle.puts.specs.Paper.Wrote.{written_refusal, written_count}
-use Rattle.puts.specs.declared.Written.{Written}
+use Rattle.puts.specs.Paper.Wrote.{written_refusal, written_count, Written}
 
 -- ---- the five forms of an answer
 

@@ -1,34 +1,31 @@
 -- The demands on messages and on check values, over the definitions and the public functions' promises. (The demand
 -- on every public call is in Row: it is said of each function.)
 -- Assumes nothing.
-use Rattle.std.specs.Prelude.{true, ◌≡◌, ℕ, ◌+◌, ◌-◌, ◌≤◌, ℤ, length, take, drop}
+use Rattle.std.specs.Prelude.{true, ◌≡◌, ℕ, ◌+◌, ◌-◌, ◌≤◌, ℤ, length, Ok, Result, take, drop, Err}
 use mathlib.Core.List.{List, ◌++◌, Memᴰ}
 use Rattle.std.proofs.Math.Option.{Option, none}
+use Rattle.digits.specs.declared.refusal.Refusal.{Refusal}
 use Rattle.digits.specs.Paper.Bytes.{part}
 use Rattle.digits.specs.declared.refusal.Refusal.TheVariants.{NoFrame}
 use Rattle.checks.specs.Paper.Bits.{bits_of_bytes}
 use Rattle.checks.specs.Paper.Check.{Check, check}
 use Rattle.checks.specs.Paper.Stretch.{FitIn}
-use Rattle.puts.specs.Paper.Wrote.{written_refusal, written_count}
-use Rattle.puts.specs.declared.Written.{Written}
+use Rattle.puts.specs.Paper.Wrote.{written_refusal, written_count, Written}
 use Rattle.numbers.specs.Paper.Answers.{ReadsText}
 use Rattle.numbers.specs.Paper.Exact.{Exact}
 use Rattle.numbers.specs.Paper.Raw.{Raw, most_decimals}
 use Rattle.numbers.specs.Paper.Text.{text}
 use Rattle.numbers.specs.declared.text.Reading.{Reading}
-use Rattle.numbers.specs.declared.text.Reading.TheVariants.{Is as IsNumber}
 use Rattle.frames.specs.Paper.Demand.{stretch, bit_order, Carrying, Carries}
 use Rattle.frames.specs.Paper.Kinds.{number_of, known, Frame}
 use Rattle.frames.specs.Paper.Runs.{Run}
 use Rattle.frames.specs.Paper.Search.{FrameAt, Hit, Leftmost, Searches, frame_part}
 use Rattle.frames.specs.declared.Found.{Found}
-use Rattle.frames.specs.declared.Found.TheVariants.{At, Refused}
 use Rattle.messages.specs.Paper.Answers.{Stands, Said, Decodes}
 use Rattle.messages.specs.Paper.Message.{Message}
 use Rattle.messages.specs.Paper.Says.{Says}
 use Rattle.messages.specs.Paper.Table.{bytes}
 use Rattle.messages.specs.declared.Decoded.{Decoded}
-use Rattle.messages.specs.declared.Decoded.TheVariants.{Is}
 use Rattle.messages.specs.declared.Message.{Message as Coded}
 use Rattle.commands.specs.Paper.Answers.{Encodes}
 use Rattle.sheet.specs.Paper.Sheet.{Lookup}
@@ -44,23 +41,23 @@ use Rattle.list.specs.Paper.Skipped.{InNone}
 -- ---- DEMAND 2
 
 -- "the leftmost frame .., or says that none exists"
-pub data LeftmostOrNone (k : ℕ) (s : List ℕ) (place : ℕ) : Found → Type 0 where
+pub data LeftmostOrNone (k : ℕ) (s : List ℕ) (place : ℕ) : Result Found Refusal → Type 0 where
   leftmost : {start len from to : ℕ}
       → Leftmost k s place (record { start = start; len = len; from = from; to = to })
-      → LeftmostOrNone k s place (At start len from to)
-  none-exists : ((j m : ℕ) → place ≤ j → FrameAt k s j m → ⊥) → LeftmostOrNone k s place (Refused NoFrame)
+      → LeftmostOrNone k s place (Ok (record { start = start; len = len; from = from; to = to }))
+  none-exists : ((j m : ℕ) → place ≤ j → FrameAt k s j m → ⊥) → LeftmostOrNone k s place (Err NoFrame)
 
 -- what the decoder answers: this case of the code's enum, which says the message that stands in the frame
-pub record DecodedAs (k : ℕ) (f : List ℕ) (e : Coded) (d : Decoded) : Type 0 where
+pub record DecodedAs (k : ℕ) (f : List ℕ) (e : Coded) (d : Result Decoded Refusal) : Type 0 where
   pub from : ℕ
   pub to : ℕ
-  pub answer : d ≡ Is e from to
+  pub answer : d ≡ Ok (record { message = e; from = from; to = to })
   pub said : Said k f e from to
 
 pub record Demand2 : Type 0 where
   -- "For a chosen bus and any buffer the search gives the leftmost frame that meets the published layout, lengths and
   -- check values, or says that none exists."
-  pub search : {k place : ℕ} {s : List ℕ} → known k ≡ true → place ≤ length s → (r : Found)
+  pub search : {k place : ℕ} {s : List ℕ} → known k ≡ true → place ≤ length s → (r : Result Found Refusal)
       → Searches k s place r
       → LeftmostOrNone k s place r
   -- 01: "At one place at most one length makes a frame"
@@ -72,7 +69,7 @@ pub record Demand2 : Type 0 where
   pub one-message : {k : ℕ} {f : List ℕ} (m n : Message) → Stands k f m → Stands k f n → m ≡ n
   pub a-frame : {k : ℕ} {f : List ℕ} {m : Message} → Stands k f m → Frame k f
   pub its-bytes : {k : ℕ} {f : List ℕ} {m : Message} → Stands k f m → f ≡ bytes m
-  pub decoded : {k : ℕ} {f : List ℕ} → Frame k f → (r : Decoded) → Decodes k f r
+  pub decoded : {k : ℕ} {f : List ℕ} → Frame k f → (r : Result Decoded Refusal) → Decodes k f r
       → (e : Coded) × DecodedAs k f e r
   -- ".. and their JSON lines are those of document 01", and of 02, K2, if there is a register sheet: under one sheet a
   -- frame has one line, which no other frame has. Without a sheet it is 01's
@@ -88,8 +85,8 @@ pub record Demand2 : Type 0 where
   pub line-written : {sheet : Option Lookup} {k : ℕ} {f : List ℕ} {at : ℕ} {room later : List ℕ} (r : Written)
       → WritesLine sheet k f at room r later
       → written_refusal r ≡ 0 → LineOf sheet k f at (take (written_count r) later)
-  pub next-line-put : {sheet : Option Lookup} {k : ℕ} {s : List ℕ} {place to : ℕ} {room later : List ℕ} (r : Listed)
-      → PutsNext sheet k s place room to r later → listed_refusal r ≡ 0
+  pub next-line-put : {sheet : Option Lookup} {k : ℕ} {s : List ℕ} {place to : ℕ} {room later : List ℕ}
+      (r : Result Listed Refusal) → PutsNext sheet k s place room to r later → listed_refusal r ≡ 0
       → NextLine sheet k s place room to (listed_placed r) later
   -- of an entry of a book, and of all its entries
   pub entry-line-written : {sheet : Option Lookup} {s room later : List ℕ} {number : ℕ} (r : Written)
@@ -121,7 +118,7 @@ pub record Demand2 : Type 0 where
   -- "An encoded message decodes to itself": if the encoder has written bytes for a case with its content, decoding
   -- them answers that case, and the message in them is the one that was said
   pub same-message : {k : ℕ} (e : Coded) (s room later : List ℕ) (r : Written) → Encodes k e s room r later
-      → written_refusal r ≡ 0 → (d : Decoded) → Decodes k (take (written_count r) later) d
+      → written_refusal r ≡ 0 → (d : Result Decoded Refusal) → Decodes k (take (written_count r) later) d
       → (a : DecodedAs k (take (written_count r) later) e d) × Says e s a.said.message
   -- "a frame, decoded and encoded, has the same bytes": its payload stands beside what it is decoded to, and the room
   -- is long enough
@@ -131,9 +128,9 @@ pub record Demand2 : Type 0 where
       → (written_refusal r ≡ 0) × (written_count r ≡ length f) × (later ≡ f ++ drop (length f) room)
   -- "Each number's decimal text is exact and reads back to the same number", and what is read is what was written
   pub exact : (z : ℤ) (d : ℕ) → Exact z d (text z d)
-  pub reads-back : (z : ℤ) (d : ℕ) (r : Reading) → Raw z → d ≤ most_decimals → ReadsText (text z d) r
-      → r ≡ IsNumber z d
-  pub written-so : (t : List ℕ) (z : ℤ) (d : ℕ) → ReadsText t (IsNumber z d) → text z d ≡ t
+  pub reads-back : (z : ℤ) (d : ℕ) (r : Result Reading Refusal) → Raw z → d ≤ most_decimals → ReadsText (text z d) r
+      → r ≡ Ok (record { raw = z; decimals = d })
+  pub written-so : (t : List ℕ) (z : ℤ) (d : ℕ) → ReadsText t (Ok (record { raw = z; decimals = d })) → text z d ≡ t
 
 -- ---- DEMAND 3
 

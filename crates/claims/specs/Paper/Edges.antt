@@ -2,7 +2,7 @@
 -- misread alike in its definition and in the code is proved; here document 01's own numbers stand beside the
 -- definitions.
 -- Assumes nothing.
-use Rattle.std.specs.Prelude.{Bool, true, false, List, [], ◌∷◌, ◌++◌, ◌≡◌, ℕ, ℤ, pos, neg_ℤ, replicate}
+use Rattle.std.specs.Prelude.{Bool, true, false, List, [], ◌∷◌, ◌++◌, ◌≡◌, ℕ, ℤ, pos, neg_ℤ, replicate, Err}
 use Rattle.std.proofs.Math.Option.{none}
 use Rattle.digits.specs.Paper.Ascii.{ascii}
 use Rattle.digits.specs.Paper.LowFirst.{Width}
@@ -16,7 +16,6 @@ use Rattle.layouts.specs.Paper.Made.{Wire}
 use Rattle.layouts.specs.Paper.Nikobus as nikobuses
 use Rattle.frames.specs.Paper.Kinds.{layout_of, number_of, known, Frame}
 use Rattle.frames.specs.Paper.Search.{Searches}
-use Rattle.frames.specs.declared.Found.TheVariants.{Refused}
 use Rattle.frames.specs.declared.kinds.Kind.{Kind}
 use Rattle.frames.specs.declared.kinds.Kind.TheVariants.{Nikobus, NestCommand, NestResponse, Nibe, Homiq}
 use Rattle.messages.specs.Paper.Message.{Message, read, set, answer, press, link, command, climate, state, text}
@@ -70,7 +69,7 @@ Right (value w signed z) = values.HeldBy w signed z
 Right (width w) = Width w
 Right (plain b) = escaped b ≡ b ∷ []
 Right (listed s) = Listed s
-Right (none_from k s place) = Searches k s place (Refused NoFrame)
+Right (none_from k s place) = Searches k s place (Err NoFrame)
 Right (makes-book es) = Within es
 Right (has-entry es n) = (e : Entry) × (offset : ℕ) × EntryAt es n e offset
 

@@ -1,7 +1,7 @@
 -- 01, "Known points": "Proved, all in a single statement over a list". What a point can say, the list, and a second
 -- list of points of document 02.
 -- Assumes nothing.
-use Rattle.std.specs.Prelude.{true, false, List, [], ◌∷◌, ◌++◌, ◌≡◌, ℕ, ℤ, pos, neg_ℤ}
+use Rattle.std.specs.Prelude.{true, false, List, [], ◌∷◌, ◌++◌, ◌≡◌, ℕ, ℤ, pos, neg_ℤ, Ok}
 use Rattle.digits.specs.Paper.Ascii.{ascii}
 use Rattle.checks.specs.Paper.Bits.{bits_of_bytes, high_bit_first}
 use Rattle.checks.specs.Paper.Buses.{nest_crc}
@@ -13,7 +13,6 @@ use Rattle.layouts.specs.Paper.Chars.{CR, LF}
 use Rattle.layouts.specs.Paper.Nest.{covered}
 use Rattle.frames.specs.Paper.Kinds.{Frame}
 use Rattle.frames.specs.Paper.Search.{Searches}
-use Rattle.frames.specs.declared.Found.TheVariants.{At}
 use Rattle.messages.specs.Paper.Answers.{Stands}
 use Rattle.messages.specs.Paper.Message.{Message, read, link, command, ask, beat}
 use Rattle.messages.specs.Paper.NextId.{next_id}
@@ -49,7 +48,8 @@ pub data Point : Type 0 where
 abbrev pub PointHolds : Point → Type 0
 PointHolds (is k f m) = Stands k f m
 PointHolds (checked c bytes v) = check c bytes ≡ v
-PointHolds (found k s start len) = (from : ℕ) × (to : ℕ) × Searches k s 0 (At start len from to)
+PointHolds (found k s start len) =
+    (from : ℕ) × (to : ℕ) × Searches k s 0 (Ok (record { start = start; len = len; from = from; to = to }))
 PointHolds (passes k f) = Frame k f
 PointHolds (fails k f) = Frame k f → ⊥
 PointHolds (acknowledged f a) = AcknowledgementOf f a

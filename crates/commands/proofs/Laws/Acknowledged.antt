@@ -1,5 +1,6 @@
 -- The acknowledgement of a Homiq frame, from its payload.
 -- Assumes nothing.
+use Rattle.std.specs.Prelude.{Result, Err}
 use mathlib.Core.Path.{◌≡◌, refl, sym, ◌∙◌, ap, subst}
 use mathlib.Core.Bool.{false, true≢false}
 use mathlib.Core.List.{List, [], ◌∷◌, ◌++◌, append_assoc}
@@ -17,8 +18,7 @@ use Rattle.digits.specs.declared.refusal.Refusal.TheVariants.{OutOfLimits}
 use Rattle.digits.proofs.Laws.Parts.{part-front}
 use Rattle.digits.proofs.Laws.Refusals.{cause-at, some_number}
 use Rattle.puts.specs.Paper.Put.{Put}
-use Rattle.puts.specs.declared.Written.{Written}
-use Rattle.puts.specs.declared.Written.TheVariants.{Refused}
+use Rattle.puts.specs.Paper.Wrote.{Written}
 use Rattle.puts.proofs.Laws.Puts.{put-length, front-count, front_bytes}
 use Rattle.layouts.specs.Paper.Chars.{one_of}
 use Rattle.layouts.specs.Paper.Homiq as homiqs
@@ -58,9 +58,6 @@ last-type : {p : List ℕ} {w : Wire} → Payload p w → (1 ≤ length p) × (g
 last-type {p} {w} x =
     let z : List ℕ = ascii ";" in
     last_of (w.cmd ++ z ++ w.val ++ z ++ w.src ++ z ++ w.dst ++ z ++ decimal w.id ++ z) w.type x.laid
-
-pub some-payload : {p : List ℕ} → Laid p → 1 ≤ length p
-some-payload l = (last-type l.payload).0
 
 -- ---- SRC and DST exchanged, and `a`
 
@@ -118,7 +115,7 @@ one-frame-of {f} {v} {w} q r = ap wire_of (one-homiq (homiq_of v) (homiq_of w) q
 
 module _ {p f : List ℕ} {w : Wire} (x : Payload p w) (is : FrameOf f w) where
   -- of type `a`
-  pub of-type-a : {room : List ℕ} → get_or p (length p - 1) 0 ≡ type_a → Acknowledges f room (Refused OutOfLimits) room
+  pub of-type-a : {room : List ℕ} → get_or p (length p - 1) 0 ≡ type_a → Acknowledges f room (Err OutOfLimits) room
   of-type-a e = refused-5 (first-5 only (answered is (sym (last-type x).1 ∙ e)))
 
   -- and of type `s`
@@ -154,7 +151,7 @@ pub framed : {p : List ℕ} {w : Wire} → Payload p w → FrameOf (bytes_of hom
 framed x = record { limits = x.limits; frame = refl }
 
 -- the number that the code asks for is Homiq's
-pub tested : {k : ℕ} {f : List ℕ} (r : FramePayload) → k ≡ number_of Homiq → TestsOneFrame k f r → TestsOneFrame 5 f r
+pub tested : {k : ℕ} {f : List ℕ} (r : Result FramePayload Refusal) → k ≡ number_of Homiq → TestsOneFrame k f r → TestsOneFrame 5 f r
 tested {f = f} r e a = subst (λ (k : ℕ). TestsOneFrame k f r) e a
 
 module _ {f : List ℕ} {from to : ℕ} (o : Payloaded 5 f from to) where
@@ -177,10 +174,10 @@ module _ {f : List ℕ} {from to : ℕ} (o : Payloaded 5 f from to) where
 -- ---- no frame
 
 module _ {f : List ℕ} (room : List ℕ) where
-  by-cause : {no : ℕ} → OneFrameCause 5 f no → Acknowledges f room (Refused OutOfLimits) room
+  by-cause : {no : ℕ} → OneFrameCause 5 f no → Acknowledges f room (Err OutOfLimits) room
   by-cause (whole.no_kind h) = absurd (true≢false (sym (kind-known Homiq) ∙ h))
   by-cause (whole.no-frame g) =
       refused-5 (first-5 only (no-frame (λ w q. g (subst (Frame 5) (sym q.frame) (frame-of (content.homiq w) q.limits)))))
 
-  pub none-acknowledged : (why : Refusal) → First (OneFrameCause 5 f) refusal_order (refusal_number why) → Acknowledges f room (Refused OutOfLimits) room
+  pub none-acknowledged : (why : Refusal) → First (OneFrameCause 5 f) refusal_order (refusal_number why) → Acknowledges f room (Err OutOfLimits) room
   none-acknowledged why c = by-cause (cause-at c (some_number why))

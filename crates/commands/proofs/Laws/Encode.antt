@@ -1,16 +1,16 @@
 -- What the encoder answers, way by way.
 -- Assumes nothing.
+use Rattle.std.specs.Prelude.{Err}
 use mathlib.Core.Path.{◌≡◌, sym, ◌∙◌}
 use mathlib.Core.Bool.{Bool, true, false, ◌||◌, true≢false}
 use mathlib.Core.List.{List}
-use Prim.Native.Nat.{ℕ, ◌<◌}
+use Prim.Native.Nat.{ℕ}
 use lib.Dec.{eqb, lit<}
 use lib.ListN.{length}
 use Rattle.digits.specs.Paper.LowFirst.{Width}
 use Rattle.digits.specs.Paper.Refusals.{refusal_order, here, after}
 use Rattle.digits.specs.declared.refusal.Refusal.TheVariants.{NoKind, BadForm, OutOfLimits}
 use Rattle.digits.proofs.Laws.Refusals.{pass-over}
-use Rattle.puts.specs.declared.Written.TheVariants.{Refused}
 use Rattle.puts.specs.Paper.Right.{WroteRight, refused}
 use Rattle.puts.proofs.Laws.Right.{recast}
 use Rattle.frames.specs.Paper.Kinds.{known, number_of}
@@ -44,7 +44,7 @@ module _ (k : ℕ) (e : Coded) (s room : List ℕ) where
   only i h (by-message c) = none-else i h c
 
   -- 2
-  pub unknown : known k ≡ false → Encodes k e s room (Refused NoKind) room
+  pub unknown : known k ≡ false → Encodes k e s room (Err NoKind) room
   unknown h = refused (lit< tt) (pass-over ours only refusal_order (here (no_kind h)))
 
   module _ (is_Known : known k ≡ true) where
@@ -53,7 +53,7 @@ module _ (k : ℕ) (e : Coded) (s room : List ℕ) where
     not-2 (by-message c) = elim c [ ]
 
     -- 7
-    pub bad-width : (m : Message) (w : ℕ) → Says e s m → HasWidth m w → (Width w → ⊥) → Encodes k e s room (Refused BadForm) room
+    pub bad-width : (m : Message) (w : ℕ) → Says e s m → HasWidth m w → (Width w → ⊥) → Encodes k e s room (Err BadForm) room
     bad-width m w a b c = refused (lit< tt) (pass-over ours only refusal_order (after not-2 (here (no-width a b c))))
 
     module _ (widths : Widths e s) where
@@ -62,7 +62,7 @@ module _ (k : ℕ) (e : Coded) (s room : List ℕ) where
       not-7 (by-message c) = elim c [ ]
 
       -- 5
-      pub of-other-kind : (number_of (kind_in e) ≡ k → ⊥) → Encodes k e s room (Refused OutOfLimits) room
+      pub of-other-kind : (number_of (kind_in e) ≡ k → ⊥) → Encodes k e s room (Err OutOfLimits) room
       of-other-kind h = refused (lit< tt) (pass-over ours only refusal_order (after not-2 (after not-7 (here (other-kind h)))))
 
       -- and else what the message's own writer answers

@@ -8,8 +8,7 @@ use Rattle.layouts.specs.Paper.Made.{Wire, Payload}
 use Rattle.puts.specs.Paper.Right as right
 use Rattle.puts.specs.Paper.Right.{WroteRight}
 use Rattle.puts.specs.Paper.Wrote as puts
-use Rattle.puts.specs.Paper.Wrote.{Wrote, RoomCause}
-use Rattle.puts.specs.declared.Written.{Written}
+use Rattle.puts.specs.Paper.Wrote.{Wrote, RoomCause, Written}
 use Rattle.builds.specs.Paper.Builds.{HomiqCause, outside, short, HomiqBytes, BuildsHomiq}
 use Rattle.builds.proofs.Laws.Homiq.{one-bytes}
 use Rattle.messages.specs.Paper.Content.{laid}

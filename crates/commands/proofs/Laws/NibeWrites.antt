@@ -1,6 +1,8 @@
 -- Nibe: the data of a reply and of a put, a register and a value.
 -- Assumes nothing.
-use mathlib.Core.Path.{◌≡◌, ◌∙◌, ap, subst}
+use mathlib.Core.Path.{◌≡◌, refl, ◌∙◌, ap, subst}
+use mathlib.Core.Bool.{Bool, true, false, cond}
+use mir.Val.{bool_byte}
 use mathlib.Core.List.{List, [], ◌∷◌, ◌++◌}
 use Prim.Native.Nat.{ℕ, suc, ◌+◌}
 use native.Mathlib.Omega.{arith}
@@ -11,9 +13,14 @@ use Rattle.digits.proofs.Laws.LowFirst.{width-most, low-take}
 use Rattle.digits.proofs.Laws.Parts.{part-front}
 use Rattle.layouts.specs.Paper.Made.{nibe_of}
 use Rattle.layouts.specs.Paper.Nibe.{nibe}
-use Rattle.puts.specs.declared.Written.{Written}
+use Rattle.puts.specs.Paper.Wrote.{Written}
 use Rattle.builds.specs.Paper.Builds.{Builds}
 use Rattle.messages.specs.Paper.Table.{valued}
+
+-- a done's byte
+pub bit-byte : (ok : Bool) → bool_byte ok ≡ cond ok 1 0
+bit-byte false = refl
+bit-byte true = refl
 
 pub six-bytes : {a b : List ℕ} (reg v : ℕ) → a ≡ low_byte_first 2 reg → b ≡ low_byte_first 4 v
     → get_or a 0 0 ∷ get_or a 1 0 ∷ get_or b 0 0 ∷ get_or b 1 0 ∷ get_or b 2 0 ∷ get_or b 3 0 ∷ [] ≡ valued reg 4 v

@@ -3,7 +3,7 @@
 use mathlib.Core.Path.{◌≡◌, refl, sym, ap, ap₂, ◌∙◌, subst}
 use mathlib.Core.Bool.{false}
 use mathlib.Core.List.{List, [], ◌∷◌, ◌++◌, append_assoc, append-nil}
-use Prim.Native.Nat.{ℕ, zero, suc, ◌+◌, ◌*◌, ◌/◌, ◌%◌, ◌≤◌, ◌<◌}
+use Prim.Native.Nat.{ℕ, suc, ◌+◌, ◌*◌, ◌/◌, ◌%◌, ◌≤◌, ◌<◌}
 use native.Mathlib.Numerals.{add-one}
 use native.Mathlib.Omega.{arith}
 use lib.ListN.{length, get_or, take, drop, set, length-append, take-append-drop}
@@ -12,17 +12,16 @@ use Rattle.digits.specs.Paper.Answers.{ReadsByte}
 use Rattle.digits.specs.Paper.Bytes.{Bytes, part}
 use Rattle.digits.specs.Paper.Hex.{hex_byte, hex_bytes}
 use Rattle.digits.specs.Paper.LowFirst.{low_byte_first}
-use Rattle.digits.specs.declared.hex.Byte.{Byte}
-use Rattle.digits.specs.declared.hex.Byte.TheVariants.{Is, NoDigit}
+use Rattle.std.specs.Prelude.{Option, Some, None}
 use Rattle.digits.proofs.Laws.Bytes.{bytes-nil, bytes-cons, bytes-append}
 use Rattle.digits.proofs.Laws.Hex.{length-hex, hex-append, digits-at, hex-inj}
 use Rattle.digits.proofs.Laws.Parts.{part-front}
 use Rattle.digits.proofs.Laws.Reads.{answered, refused}
-use Rattle.puts.specs.declared.Written.{Written}
+use Rattle.puts.specs.Paper.Wrote.{Written}
 use Rattle.messages.proofs.Laws.Links as links
 use Rattle.messages.specs.Paper.Message.{link}
 use Rattle.messages.specs.Paper.Says.{of_nikobus, SaysNikobus, a-link, another}
-use Rattle.messages.specs.Paper.Table.{code_of, Limits}
+use Rattle.messages.specs.Paper.Table.{code_of}
 use Rattle.messages.specs.Work.Answers.{Only}
 use Rattle.messages.specs.declared.nikobus.Nikobus.{Nikobus}
 use Rattle.messages.specs.declared.nikobus.Nikobus.TheVariants.{Link}
@@ -73,7 +72,7 @@ pub none_yet : (d room : List ℕ) → Unhexing d room 0
 unfolding hex_bytes
 none_yet d room = record { bytes = bytes-nil; same = refl }
 
-pub one_more : (d room : List ℕ) (i b : ℕ) {r : Byte} → i * 2 + 1 < length d → i < length room → ReadsByte (get_or d (i * 2) 0) (get_or d (i * 2 + 1) 0) r → r ≡ Is b
+pub one_more : (d room : List ℕ) (i b : ℕ) {r : Option ℕ} → i * 2 + 1 < length d → i < length room → ReadsByte (get_or d (i * 2) 0) (get_or d (i * 2 + 1) 0) r → r ≡ Some b
     → Unhexing d room i → Unhexing d (set room i b) (i + 1)
 one_more d room i b h k digit e u =
     let a = answered (omega arith) (subst (ReadsByte (get_or d (i * 2) 0) (get_or d (i * 2 + 1) 0)) e digit) refl in
@@ -90,13 +89,13 @@ counted : {d : List ℕ} (p : List ℕ) → d ≡ hex_bytes p → length d ≡ l
 counted p e = ap length e ∙ length-hex p
 
 module _ (d : List ℕ) {most : ℕ} {room : List ℕ} where
-  pub odd-digits : (length d % 2 ≡ 0 → ⊥) → Unhexed d most 0 room
-  odd-digits h = none (λ p b e. let l = counted p e in h (omega arith)) refl
+  pub odd-digits : (length d % 2 ≡ 0 → ⊥) → Unhexed d most None room
+  odd-digits h = none (λ p b e. let l = counted p e in h (omega arith))
 
-  pub too_many : most < length d / 2 → Unhexed d most 0 room
-  too_many h = none (λ p b e. omega (arith, counted p e, b.short)) refl
+  pub too_many : most < length d / 2 → Unhexed d most None room
+  too_many h = none (λ p b e. omega (arith, counted p e, b.short))
 
-  pub no-pair : (i : ℕ) {r : Byte} → i < length d / 2 → ReadsByte (get_or d (i * 2) 0) (get_or d (i * 2 + 1) 0) r → r ≡ NoDigit → Unhexed d most 0 room
+  pub no-pair : (i : ℕ) {r : Option ℕ} → i < length d / 2 → ReadsByte (get_or d (i * 2) 0) (get_or d (i * 2 + 1) 0) r → r ≡ None → Unhexed d most None room
   no-pair i h digit e =
       none
       (λ p b f.
@@ -104,29 +103,23 @@ module _ (d : List ℕ) {most : ℕ} {room : List ℕ} where
       let g : hex_byte (get_or p i 0) ≡ get_or d (i * 2) 0 ∷ get_or d (i * 2 + 1) 0 ∷ [] =
       digits-at p i k ∙ ap (λ (s : List ℕ). get_or s (i * 2) 0 ∷ get_or s (i * 2 + 1) 0 ∷ []) (sym f) in
       refused (omega arith) (subst (ReadsByte (get_or d (i * 2) 0) (get_or d (i * 2 + 1) 0)) e digit) refl (get_or p i 0) (b.bytes.each i) g)
-      refl
 
-  whole : (n : ℕ) → length d ≡ n * 2 → length room ≡ most → n ≤ most → Unhexing d room n → Unhexed d most n room
-  whole zero h k l u = none (λ p b e. omega (arith, counted p e, b.enough)) refl
-  whole (suc n) h k l u =
-      let size : length (take (suc n) room) ≡ suc n = length-take-le (suc n) room (omega arith) in
-      are {p = take (suc n) room} (record { enough = omega arith; short = omega arith; bytes = u.bytes })
-      (sym (take_all (suc n * 2) d (omega arith)) ∙ u.same) (sym size) refl
-
-  pub all_read : (n i : ℕ) → length d ≡ n * 2 → length room ≡ most → n ≤ most → i ≤ n → n ≤ i → Unhexing d room i → Unhexed d most n room
-  all_read n i h k l a b u = let e : i ≡ n = omega arith in whole n h k l (subst (Unhexing d room) e u)
+  pub all_read : (n : ℕ) {i : ℕ} → length d ≡ n * 2 → length room ≡ most → n ≤ most → i ≡ n → Unhexing d room i → Unhexed d most (Some n) room
+  all_read n h k l e v =
+      let u : Unhexing d room n = subst (Unhexing d room) e v in
+      let size : length (take n room) ≡ n = length-take-le n room (omega arith) in
+      are {p = take n room} (record { enough = omega arith; short = omega arith; bytes = u.bytes })
+      (sym (take_all (n * 2) d (omega arith)) ∙ u.same) (sym size) refl
 
 -- no more bytes than there is room for
-pub inside : {d room : List ℕ} {most n : ℕ} → Unhexed d most n room → n ≤ length room
+pub inside : {d room : List ℕ} {most n : ℕ} → Unhexed d most (Some n) room → n ≤ length room
 inside {room = room} {n = n} (are b d e f) = omega (arith, ap length (take-append-drop n room), length-append (take n room) (drop n room), ap length f)
-inside (none f e) = omega arith
 
 -- ---- a link by its digits
 
-pub link-by-digits : {s buffer : List ℕ} {n : ℕ} {room later : List ℕ} (r : Written) → Unhexed s 122 n buffer
+pub link-by-digits : {s buffer : List ℕ} {n : ℕ} {room later : List ℕ} (r : Written) → Unhexed s 122 (Some n) buffer
     → WritesMessage (Only (link (part 0 n buffer))) room r later → WritesMessage (SaysNikobus Link s) room r later
 link-by-digits r u w m (another h i) l = absurd (h refl)
-link-by-digits r (none f e) w m (a-link h a) l = absurd (f a.payload (subst Limits a.is l) a.digits)
 link-by-digits {buffer = buffer} {n = n} r (are {p = p} b d e f) w m (a-link h a) l =
     w m (a.is ∙ ap link (hex-inj a.payload p a.bytes b.bytes (sym a.digits ∙ d) ∙ sym (part-front n buffer ∙ f))) l
 

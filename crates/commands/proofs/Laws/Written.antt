@@ -1,5 +1,6 @@
 -- What a call answers that writes a message: a frame that is built for it, and the answer where it is none of the table.
 -- Assumes nothing.
+use Rattle.std.specs.Prelude.{Result, Ok, Err}
 use mathlib.Core.Path.{◌≡◌, refl, sym, ◌∙◌, ap, subst}
 use mathlib.Core.Bool.{Bool, false, ◌||◌, true≢false}
 use mathlib.Core.List.{List}
@@ -12,9 +13,7 @@ use Rattle.digits.specs.declared.refusal.Refusal.{Refusal}
 use Rattle.digits.proofs.Laws.Refusals.{answered, cause-at, cause-of, one-first, pass-over, some_number}
 use Rattle.puts.specs.Paper.Right as right
 use Rattle.puts.specs.Paper.Wrote as puts
-use Rattle.puts.specs.Paper.Wrote.{Wrote, RoomCause, wrote, refused}
-use Rattle.puts.specs.declared.Written.{Written}
-use Rattle.puts.specs.declared.Written.TheVariants.{Refused}
+use Rattle.puts.specs.Paper.Wrote.{Wrote, RoomCause, wrote, refused, Written}
 use Rattle.puts.proofs.Laws.Right.{fronted-right}
 use Rattle.builds.specs.Paper.Builds as builds
 use Rattle.builds.specs.Paper.Builds.{BuildCause, Builds}
@@ -28,8 +27,6 @@ use Rattle.messages.specs.Paper.Table.{content_of, bytes, Above, Good}
 use Rattle.messages.specs.Work.Answers.{Only}
 use Rattle.messages.specs.Work.Content.{Fit}
 use Rattle.messages.specs.declared.Message.{Message as Coded}
-use Rattle.messages.specs.declared.Standing.{Standing}
-use Rattle.messages.specs.declared.Standing.TheVariants.{Good as InTable, Refused as NotInTable}
 use Rattle.messages.proofs.Laws.Allowed.{is-outside}
 use Rattle.messages.proofs.Laws.Decode.{first-same}
 use Rattle.messages.proofs.Laws.Says.{one-said}
@@ -91,7 +88,7 @@ module _ {Means : Message → Type 0} {n : ℕ} where
 
 module _ (e : Coded) (s room : List ℕ) where
   -- none of the table
-  pub not-allowed : (t : Standing) (why : Refusal) → t ≡ NotInTable why → Allows e s t → WritesMeant (Says e s) room (Refused why) room
+  pub not-allowed : (t : Result (Unit {0}) Refusal) (why : Refusal) → t ≡ Err why → Allows e s t → WritesMeant (Says e s) room (Err why) room
   not-allowed t why same a =
       let f = cause-of (subst (Allows e s) same a) in
       right.refused (some_number why) (refusing _ f (cause-at f (some_number why)))
@@ -114,6 +111,6 @@ module _ (e : Coded) (s room : List ℕ) where
         (λ h. pass-over ours only refusal_order (after not-5 (after not-6 (after (not-4 h) clear))))
         (λ h. pass-over ours only refusal_order (after not-5 (after not-6 (here (short meant h))))) (w m meant good.limits)
 
-  pub allowed-written : {later : List ℕ} (t : Standing) (r : Written) → t ≡ InTable → Allows e s t → WritesMessage (Says e s) room r later
+  pub allowed-written : {later : List ℕ} (t : Result (Unit {0}) Refusal) (r : Written) {u : Unit {0}} → t ≡ Ok u → Allows e s t → WritesMessage (Says e s) room r later
       → WritesMeant (Says e s) room r later
   allowed-written t r same a w = let x = answered (subst (Allows e s) same a) refl in as-meant x.0 x.1 x.2 r w

@@ -2,7 +2,7 @@
 -- CRC; of type `a` it is refused with 5."
 -- Assumes nothing.
 use Rattle.std.specs.Prelude.{List, ◌≡◌, ℕ, ◌<◌, length}
-use Rattle.puts.specs.declared.Written.{Written}
+use Rattle.puts.specs.Paper.Wrote.{Written}
 use Rattle.layouts.specs.Paper.Homiq as homiqs
 use Rattle.layouts.specs.Paper.Layout.{bytes_of}
 use Rattle.layouts.specs.Paper.Made.{Wire, homiq_of}

@@ -2,7 +2,7 @@
 -- Assumes nothing.
 use Rattle.std.specs.Prelude.{false, List, ◌≡◌, ℕ, ◌<◌, length}
 use Rattle.digits.specs.Paper.LowFirst.{Width}
-use Rattle.puts.specs.declared.Written.{Written}
+use Rattle.puts.specs.Paper.Wrote.{Written}
 use Rattle.puts.specs.Paper.Right.{WritesRight}
 use Rattle.frames.specs.Paper.Kinds.{known, number_of}
 use Rattle.messages.specs.Paper.Message.{Message}

@@ -3,8 +3,7 @@
 use Rattle.std.specs.Prelude.{List, ℕ, length}
 use Rattle.digits.specs.Paper.LowFirst.{Width}
 use Rattle.puts.specs.Paper.Right.{WritesRight}
-use Rattle.puts.specs.Paper.Wrote.{RoomCause, Writes}
-use Rattle.puts.specs.declared.Written.{Written}
+use Rattle.puts.specs.Paper.Wrote.{RoomCause, Writes, Written}
 use Rattle.messages.specs.Paper.Message.{Message}
 use Rattle.messages.specs.Paper.Table.{bytes, Limits}
 use Rattle.commands.specs.Paper.Answers.{MessageCause, MeantBytes}

@@ -1,10 +1,11 @@
 -- Numbers as bytes, low byte first, there and back.
 -- Assumes nothing.
-use mathlib.Core.Path.{◌≡◌, refl, sym, ap, ◌∙◌, subst}
+use mathlib.Core.Path.{◌≡◌, refl, sym, ap, ap₂, ◌∙◌, subst}
 use Prim.Native.Nat.{ℕ, zero, suc, ◌+◌, ◌-◌, ◌*◌, ◌/◌, ◌%◌, ◌^◌, ◌≤◌, ◌<◌}
 use mathlib.Core.List.{List, [], ◌∷◌}
 use native.Mathlib.Omega.{arith}
-use native.Mathlib.Nat.{pow-suc, le_refl}
+use native.Mathlib.Nat.{pow-suc, le_refl, div-div-eq-div-mul}
+use Rattle.std.specs.Int.{bytes_low_first, byte_at}
 use lib.Dec.{lit<}
 use lib.ListN.{length, get_or, take, drop, length-drop}
 use lib.Seq.{drop-cons}
@@ -111,3 +112,20 @@ pub never-refused : (s : List ℕ) → Bytes s → Width (length s) → {k m : �
 never-refused s b w r e =
     let a = low-all s b in
     refused (lit< tt) r e a.0 (record { known = w; below = a.1 }) a.2
+
+-- ---- the library's bytes of a number are those of document 01
+
+byte-from : (i n : ℕ) → byte_at i n ≡ n / 256 ^ i % 256
+byte-from zero n = ap (λ (m : ℕ). m % 256) (omega arith)
+byte-from (suc i) n = refl
+
+next-byte : (i n : ℕ) → n / 256 ^ suc i ≡ n / 256 ^ i / 256
+next-byte i n = ap (λ (m : ℕ). n / m) (pow-suc 256 i) ∙ sym (div-div-eq-div-mul n (256 ^ i) 256)
+
+low-bytes-from : (k i n : ℕ) → bytes_low_first i k n ≡ low_byte_first k (n / 256 ^ i)
+unfolding low_byte_first
+low-bytes-from zero i n = refl
+low-bytes-from (suc k) i n = ap₂ ◌∷◌ (byte-from i n) (low-bytes-from k (suc i) n ∙ ap (low_byte_first k) (next-byte i n))
+
+pub low-bytes : (k n : ℕ) → bytes_low_first 0 k n ≡ low_byte_first k n
+low-bytes k n = low-bytes-from k 0 n ∙ ap (low_byte_first k) (omega arith)

@@ -10,17 +10,20 @@ use lib.Dec.{eqb, lit<}
 use lib.ListN.{length, take, drop, length-append, length-drop, take-append-drop, get_or-append}
 use lib.Seq.{length-take-le}
 use borrow.Author.Tests.{eqb-true, le-leb}
+use Rattle.std.specs.Option.{is_some, ok_or}
+use Rattle.std.specs.Prelude.{Option, Some, None, Result, Ok, Err}
 use Rattle.digits.proofs.Laws.Parts.{part-rest}
 use Rattle.digits.proofs.Laws.Refusals.{answered, cause-at, cause-of, pass-over}
 use Rattle.digits.specs.Paper.Bytes.{part}
 use Rattle.digits.specs.Paper.Refusals.{refusal_order, clear, here, after, answers, refuses}
+use Rattle.digits.specs.declared.refusal.Refusal.{Refusal}
 use Rattle.layouts.specs.Paper.Chars.{one_of}
 use Rattle.layouts.specs.Paper.Judged.{Judged}
 use Rattle.layouts.specs.Paper.Layout.{Layout, Leads}
 use Rattle.layouts.specs.Paper.Nest.{preamble}
 use Rattle.layouts.specs.Work.Recogniser.{Recogniser, frame_len as found-len}
-use Rattle.layouts.specs.declared.Compared.{Compared}
-use Rattle.layouts.specs.declared.Test.{Test}
+use Rattle.layouts.specs.declared.Failure.{Failure}
+use Rattle.layouts.specs.declared.Frame.{Frame as Placed}
 use Rattle.layouts.specs.declared.nest.Direction.TheVariants.{Command, Response}
 use Rattle.layouts.proofs.Laws.Buses.{Bus, frame_right, leads-at, leads-none, one-lead}
 use Rattle.layouts.proofs.Laws.Heads.{Right}
@@ -32,16 +35,14 @@ use Rattle.layouts.proofs.Theorems.{one-nikobus, one-nest, one-nibe, one-homiq}
 use Rattle.layouts.proofs.Laws.Starts.{Begun, nikobus-begun, nikobus-second, nest-begun, nibe-begun, homiq-begun, nikobus-behind, nest-behind, nibe-behind, homiq-behind}
 use Rattle.layouts.specs.Paper.Layout as layout
 use Rattle.frames.specs.Paper.Kinds.{number_of, layout_of, known, KindCause, no_kind, Resolves, Frame, payload_from, payload_to}
-use Rattle.frames.specs.Work.Frames.{recogniser, starts, frame_len, wherever, len_at, from_at, to_at, may_start, HeadAt}
+use Rattle.frames.specs.Work.Frames.{recogniser, starts, frame_len, framed, len_at, frame_at, may_start}
 use Rattle.frames.specs.Work.Seek.{among, resolved}
 use Rattle.frames.specs.declared.kinds.Kind.{Kind}
 use Rattle.frames.specs.declared.kinds.Kind.TheVariants.{Nikobus, NestCommand, NestResponse, Nibe, Homiq}
-use Rattle.frames.specs.declared.kinds.Resolved.{Resolved}
-use Rattle.frames.specs.declared.kinds.Resolved.TheVariants.{Is, Unknown}
 
 -- ---- a line a kind
 
-resolved_number : (kind : Kind) → resolved (number_of kind) ≡ Is kind
+resolved_number : (kind : Kind) → resolved (number_of kind) ≡ Some kind
 unfolding resolved among
 resolved_number Nikobus = refl
 resolved_number NestCommand = refl
@@ -95,7 +96,7 @@ one-fields Homiq m n f g e = one-homiq m n f g e
 
 -- ---- numbers and kinds
 
-same_kind : {a b : Kind} → Is a ≡ Is b → a ≡ b
+same_kind : {a b : Kind} → Some a ≡ Some b → a ≡ b
 same_kind e = cc
 
 pub one-kind : (a b : Kind) → number_of a ≡ number_of b → a ≡ b
@@ -112,13 +113,13 @@ ours k = eqb k 2
 only : {k : ℕ} (i : ℕ) → ours i ≡ false → KindCause k i → ⊥
 only i e (no_kind h) = true≢false e
 
-pub resolves-to : {k : ℕ} (kind : Kind) → number_of kind ≡ k → Resolves k (Is kind)
+pub resolves-to : {k : ℕ} (kind : Kind) → number_of kind ≡ k → Resolves k (Some kind)
 resolves-to {k} kind e = answers {v = number_of kind} (pass-over ours only refusal_order (after never clear)) e
   where
     never : KindCause k 2 → ⊥
     never (no_kind h) = true≢false (sym (known_of kind e) ∙ h)
 
-pub resolves-none : {k : ℕ} → known k ≡ false → Resolves k Unknown
+pub resolves-none : {k : ℕ} → known k ≡ false → Resolves k None
 resolves-none e = refuses (lit< tt) (pass-over ours only refusal_order (here (no_kind e)))
 
 -- WHAT IS COMPUTED IS THE KIND OF A NUMBER
@@ -127,10 +128,10 @@ unfolding resolved among known one_of
 resolves k =
     step Nikobus _ (λ a. step NestCommand _ (λ b. step NestResponse _ (λ c. step Nibe _ (λ d. step Homiq _ (λ e. resolves-none (rw (a, b, c, d, e)))))))
   where
-    step : (kind : Kind) (rest : Resolved) → (eqb k (number_of kind) ≡ false → Resolves k rest) → Resolves k (cond (eqb k (number_of kind)) (Is kind) rest)
+    step : (kind : Kind) (rest : Option Kind) → (eqb k (number_of kind) ≡ false → Resolves k rest) → Resolves k (cond (eqb k (number_of kind)) (Some kind) rest)
     step kind rest f = go (eqb k (number_of kind)) refl
       where
-        go : (t : Bool) → eqb k (number_of kind) ≡ t → Resolves k (cond t (Is kind) rest)
+        go : (t : Bool) → eqb k (number_of kind) ≡ t → Resolves k (cond t (Some kind) rest)
         go true e = resolves-to kind (sym (eqb-true _ _ e))
         go false e = f e
 
@@ -189,36 +190,34 @@ payload-inside r = form-holds r.frame.form
 -- ---- what the layouts' functions answer
 
 module _ {l : Layout} {r : Recogniser} (b : Bus l r) (s : List ℕ) where
-  abbrev found : ℕ
-  found = found-len r s
-
-  lead-places : {n x y : ℕ} → Leads l s n x y → (n ≡ found) × ((x ≡ wherever found (r.from (take found s))) × (y ≡ wherever found (r.to (take found s))))
-  lead-places {n} {x} {y} a = go found refl
+  leads-framed : Leads l s (framed r s (found-len r s))
+  leads-framed = go (found-len r s) refl
     where
-      go : (p : ℕ) → found ≡ p → (n ≡ p) × ((x ≡ wherever p (r.from (take p s))) × (y ≡ wherever p (r.to (take p s))))
-      go zero e = let q = one-lead b a (leads-none b s (sym e)) in (q.0, (q.1, q.2))
-      go (suc p) e = let q = one-lead b a (leads-at b s (suc p) _ _ (sym e) (λ z. omega arith) refl refl) in (q.0, (q.1, q.2))
+      go : (p : ℕ) → p ≡ found-len r s → Leads l s (framed r s p)
+      go zero e = leads-none b s e
+      go (suc p) e = leads-at b s (suc p) _ _ e (λ z. omega arith) refl refl
+
+  lead-framed : {o : Option Placed} → Leads l s o → o ≡ framed r s (found-len r s)
+  lead-framed a = one-lead b a leads-framed
 
 -- what stands at a place
-pub head_at : (kind : Kind) (s : List ℕ) (i : ℕ) {u : List ℕ} {n x y : ℕ} → u ≡ drop i s → Leads (layout_of kind) u n x y → HeadAt kind s i n x y
-unfolding len_at from_at to_at
-head_at kind s i {n = n} {x = x} {y = y} e a =
-    let q = lead-places (bus_of kind) (drop i s) (subst (λ (w : List ℕ). Leads (layout_of kind) w n x y) e a) in
-    record { len_is = q.0; from_is = q.1.0; to_is = q.1.1 }
+pub framed_at : (kind : Kind) (s : List ℕ) (i : ℕ) {u : List ℕ} {o : Option Placed} → u ≡ drop i s → Leads (layout_of kind) u o → o ≡ frame_at kind s i
+unfolding len_at frame_at
+framed_at kind s i {o = o} e a = lead-framed (bus_of kind) (drop i s) (subst (λ (w : List ℕ). Leads (layout_of kind) w o) e a)
 
 -- as the code has it: the rest of the buffer, in the arm of a kind
-pub head-at-as : {kind it : Kind} {s : List ℕ} {i n x y : ℕ} → kind ≡ it → Leads (layout_of it) (part i (length s) s) n x y → HeadAt kind s i n x y
-head-at-as {it = it} {s = s} {i = i} {n = n} {x = x} {y = y} e a = subst (λ (k : Kind). HeadAt k s i n x y) (sym e) (head_at it s i (part-rest i s) a)
+pub framed-at-as : {kind it : Kind} (s : List ℕ) (i : ℕ) {o : Option Placed} → kind ≡ it → Leads (layout_of it) (part i (length s) s) o → o ≡ frame_at kind s i
+framed-at-as {it = it} s i {o = o} e a = subst (λ (k : Kind). o ≡ frame_at k s i) (sym e) (framed_at it s i (part-rest i s) a)
 
 -- at the head of s itself
-pub headed-as : {kind it : Kind} {s : List ℕ} {n x y : ℕ} → kind ≡ it → Leads (layout_of it) s n x y → HeadAt kind s 0 n x y
-headed-as {it = it} {s = s} {n = n} {x = x} {y = y} e a = subst (λ (k : Kind). HeadAt k s 0 n x y) (sym e) (head_at it s 0 refl a)
+pub headed-as : {kind it : Kind} {s : List ℕ} {o : Option Placed} → kind ≡ it → Leads (layout_of it) s o → o ≡ frame_at kind s 0
+headed-as {it = it} {s = s} {o = o} e a = subst (λ (k : Kind). o ≡ frame_at k s 0) (sym e) (framed_at it s 0 refl a)
 
 -- and the verdict on it
-pub judged-as : {kind it : Kind} (s : List ℕ) (i : ℕ) {t : Test} {v : Compared} → kind ≡ it → Judged (layout_of it) (part i (length s) s) t v
-    → Judged (layout_of kind) (drop i s) t v
-judged-as {it = it} s i {t = t} {v = v} e a =
-    subst (λ (k : Kind). Judged (layout_of k) (drop i s) t v) (sym e) (subst (λ (u : List ℕ). Judged (layout_of it) u t v) (part-rest i s) a)
+pub judged-as : {kind it : Kind} (s : List ℕ) (i : ℕ) {o : Option Failure} → kind ≡ it → Judged (layout_of it) (part i (length s) s) o
+    → Judged (layout_of kind) (drop i s) o
+judged-as {it = it} s i {o = o} e a =
+    subst (λ (k : Kind). Judged (layout_of k) (drop i s) o) (sym e) (subst (λ (u : List ℕ). Judged (layout_of it) u o) (part-rest i s) a)
 
 -- three bytes tell as much as all of them
 pub may-start-as : {kind it : Kind} (s : List ℕ) (i : ℕ) → i + 3 ≤ length s → {r : Bool} → kind ≡ it → r ≡ starts it (part i (i + 3) s)
@@ -232,17 +231,31 @@ may-start-as {it = it} s i l e h =
     ∙ ap (starts it) (take-append-drop 3 u) ∙ sym (ap (λ (k : Kind). starts k u) e)
 
 -- what a number that was resolved says
-pub kind-is : {k : ℕ} (kind : Kind) → Resolves k (Is kind) → number_of kind ≡ k
+pub kind-is : {k : ℕ} (kind : Kind) → Resolves k (Some kind) → number_of kind ≡ k
 kind-is kind a = answered a refl
 
-pub kind-not : {k : ℕ} → Resolves k Unknown → known k ≡ false
+pub kind-not : {k : ℕ} → Resolves k None → known k ≡ false
 kind-not {k} a = of (cause-at (cause-of a) (lit< tt))
   where
     of : {no : ℕ} → KindCause k no → known k ≡ false
     of (no_kind h) = h
 
-pub resolved-known : {k : ℕ} {r : Resolved} {kind : Kind} → Resolves k r → r ≡ Is kind → number_of kind ≡ k
+pub resolved-known : {k : ℕ} {r : Option Kind} {kind : Kind} → Resolves k r → r ≡ Some kind → number_of kind ≡ k
 resolved-known {k} {kind = kind} a q = kind-is kind (subst (Resolves k) q a)
 
-pub resolved-unknown : {k : ℕ} {r : Resolved} → Resolves k r → r ≡ Unknown → known k ≡ false
+pub resolved-unknown : {k : ℕ} {r : Option Kind} → Resolves k r → r ≡ None → known k ≡ false
 resolved-unknown {k} a q = kind-not (subst (Resolves k) q a)
+
+pub resolved-some : {k : ℕ} (r : Option Kind) → Resolves k r → is_some r ≡ known k
+resolved-some (Some kind) a = sym (known_of kind (kind-is kind a))
+resolved-some None a = sym (kind-not a)
+
+-- and what it says behind a `?`
+pub asked-kind : {k : ℕ} (r : Option Kind) (why : Refusal) {kind : Kind} → Resolves k r → ok_or r why ≡ Ok kind → number_of kind ≡ k
+asked-kind {k} (Some found) why {kind} a e = let same : found ≡ kind = cc in subst (λ (x : Kind). number_of x ≡ k) same (kind-is found a)
+asked-kind None why a e = cc
+
+pub asked-none : {k : ℕ} (r : Option Kind) (why : Refusal) {got : Refusal} → Resolves k r → ok_or r why ≡ Err got
+    → (known k ≡ false) × (got ≡ why)
+asked-none (Some kind) why a e = cc
+asked-none None why {got} a e = let same : got ≡ why = cc in (kind-not a, same)

@@ -8,33 +8,26 @@ use Prim.Native.Nat.{ℕ, zero, suc, ◌+◌, ◌^◌, ◌≤◌, ◌<◌}
 use native.Mathlib.Nat.{eq-or-lt_of_le}
 use native.Mathlib.Omega.{arith}
 use lib.ListN.{length, take, drop, length-drop}
+use Rattle.std.specs.Prelude.{Some, None, Ok, Err}
 use Rattle.digits.specs.declared.refusal.Refusal.TheVariants.{NoFrame}
-use Rattle.frames.specs.Paper.Kinds.{number_of}
-use Rattle.frames.specs.Paper.Search.{FrameAt}
-use Rattle.frames.specs.Work.Frames.{recogniser, wherever, len_at, from_at, to_at, may_start, HeadAt}
-use Rattle.frames.specs.Work.Seek.{seek, Passed}
-use Rattle.frames.specs.declared.Found.TheVariants.{At, Refused}
+use Rattle.layouts.specs.declared.Frame.{Frame}
+use Rattle.frames.specs.Work.Frames.{frame_at, may_start}
+use Rattle.frames.specs.Work.Seek.{seek, found_at, Passed}
 use Rattle.frames.specs.declared.kinds.Kind.{Kind}
 use Rattle.frames.proofs.Laws.Kinds.{payload-inside}
-use Rattle.frames.proofs.Laws.Places.{stands, size-at, from-there, to-there}
+use Rattle.frames.proofs.Laws.Places.{standing, size-at}
 use Rattle.frames.proofs.Laws.Seek.{seek_hit, seek-miss}
 use Rattle.frames.proofs.Laws.Starts.{seek-pass, seek-left, too_short}
 
 -- what was found at a place of s lies in s
-module _ (kind : Kind) (s : List ℕ) (i : ℕ) (h : i ≤ length s) where
-  places-inside : (i + from_at kind s i ≤ length s) × (i + to_at kind s i ≤ length s)
-  unfolding from_at to_at
-  places-inside = go (len_at kind s i) refl
-    where
-      go : (n : ℕ) → len_at kind s i ≡ n → (i + from_at kind s i ≤ length s) × (i + to_at kind s i ≤ length s)
-      go zero e = (rw e (omega arith), rw e (omega arith))
-      go (suc n) e =
-          let q = stands kind s i n h e in
-          let p = payload-inside q.frame in
-          let l = size-at q in
-          let f = from-there kind q in
-          let t = to-there kind q in
-          (omega (arith, p, l, f, q.inside), omega (arith, p, l, t, q.inside))
+module _ (kind : Kind) (s : List ℕ) (i : ℕ) {f : Frame} (h : i ≤ length s) (e : Some f ≡ frame_at kind s i) where
+  places-inside : (i + f.from ≤ length s) × (i + f.to ≤ length s)
+  places-inside =
+      let q = standing kind s i h e in
+      let p = payload-inside q.stands.frame in
+      let l = size-at q.stands in
+      let inside = q.stands.inside in
+      (omega (arith, p, l, q.from_is, inside), omega (arith, p, l, q.to_is, inside))
 
 -- ---- places that are passed
 
@@ -107,22 +100,20 @@ module _ {kind : Kind} {s : List ℕ} {p : ℕ} where
 -- ---- a frame is found
 
 -- no frame stands at the end
-pub before-end : {kind : Kind} {s : List ℕ} {i n x y : ℕ} → i ≤ length s → HeadAt kind s i n x y → 4 ≤ n → i < length s
-before-end {kind} {s} {i} l q four =
-    ⊎_elim (λ e. absurd (omega (arith, q.len_is, too_short kind s i (omega (arith, e))))) (λ h. h) (eq-or-lt_of_le l)
+pub before-end : (kind : Kind) (s : List ℕ) {i : ℕ} {f : Frame} → i ≤ length s → Some f ≡ frame_at kind s i → i < length s
+before-end kind s {i} {f} l q = ⊎_elim (λ e. let never : Some f ≡ None = q ∙ sym (too_short kind s i (omega (arith, e))) in absurd (cc)) (λ h. h) (eq-or-lt_of_le l)
 
 module _ {kind : Kind} {s : List ℕ} {place at : ℕ} (g : Passed kind s place at) where
-  module _ (h : at < length s) {n x y : ℕ} (q : HeadAt kind s at n x y) where
-    pub hit-fits : length s < 2 ^ 64 → (at + x < 2 ^ 64) × (at + y < 2 ^ 64)
-    hit-fits l =
-        let i = places-inside kind s at (omega arith) in
-        (omega (arith, i.0, q.from_is), omega (arith, i.1, q.to_is))
+  module _ (h : at < length s) where
+    module _ {f : Frame} (q : Some f ≡ frame_at kind s at) where
+      pub hit-fits : length s < 2 ^ 64 → (at + f.from < 2 ^ 64) × (at + f.to < 2 ^ 64)
+      hit-fits l = let i = places-inside kind s at (omega arith) q in (omega (arith, i.0), omega (arith, i.1))
 
-    pub hit-found : (n ≡ 0 → ⊥) → At at n (at + x) (at + y) ≡ seek kind s place
-    hit-found nz = seek_hit kind s at h q nz ∙ g.same
+      pub hit-found : Ok (found_at at f) ≡ seek kind s place
+      hit-found = seek_hit kind s at h q ∙ g.same
 
-    pub miss-next : n ≡ 0 → {r : ℕ} → Passed kind s (at + 1) r → Passed kind s place r
-    miss-next z e = then-passed g (then-passed (record { onward = omega arith; within = omega arith; same = seek-miss kind s at h (sym q.len_is ∙ z) }) e)
+    pub miss-next : None ≡ frame_at kind s at → {r : ℕ} → Passed kind s (at + 1) r → Passed kind s place r
+    miss-next z e = then-passed g (then-passed (record { onward = omega arith; within = omega arith; same = seek-miss kind s at h z }) e)
 
-  pub none_left : length s ≤ at → Refused NoFrame ≡ seek kind s place
+  pub none_left : length s ≤ at → Err NoFrame ≡ seek kind s place
   none_left h = seek-left kind s at (omega arith) ∙ g.same

@@ -2,19 +2,21 @@
 -- Assumes nothing.
 use mathlib.Core.Bool.{true}
 use mathlib.Core.List.{List}
-use mathlib.Core.Path.{◌≡◌, refl, sym, ◌∙◌, ap, subst}
-use Prim.Native.Nat.{ℕ, suc, ◌+◌, ◌-◌, ◌≤◌, ◌<◌}
+use mathlib.Core.Path.{◌≡◌, refl, sym, ◌∙◌, ap, ap₂, subst}
+use Prim.Native.Nat.{ℕ, zero, suc, ◌+◌, ◌-◌, ◌≤◌, ◌<◌}
 use native.Mathlib.Nat.{add-sub_cancel_left}
 use native.Mathlib.Omega.{arith}
 use lib.ListN.{length, take, drop, length-drop}
 use lib.Seq.{length-take-le}
+use Rattle.std.specs.Prelude.{Some, None}
 use Rattle.digits.proofs.Laws.Parts.{part-all}
 use Rattle.digits.specs.Paper.Bytes.{part}
 use Rattle.layouts.specs.Paper.Layout as layout
+use Rattle.layouts.specs.declared.Frame.{Frame as Placed}
 use Rattle.layouts.proofs.Laws.Heads.{taken, inside, found}
 use Rattle.frames.specs.Paper.Kinds.{number_of, layout_of, known, Frame, payload_from, payload_to}
 use Rattle.frames.specs.Paper.Search.{FrameAt}
-use Rattle.frames.specs.Work.Frames.{recogniser, wherever, len_at, from_at, to_at}
+use Rattle.frames.specs.Work.Frames.{recogniser, framed, len_at, frame_at}
 use Rattle.frames.specs.declared.kinds.Kind.{Kind}
 use Rattle.frames.proofs.Laws.Kinds.{kind-right, frame-known, of-kind, as-frame, one-kind, begins, ends}
 
@@ -66,25 +68,47 @@ stands kind s i n h e =
       frame = as-frame kind (subst (layout.FrameBy (layout_of kind)) (sym (part-take i (suc n) s)) f);
     }
 
+-- of no length, no frame
+pub none-at : (kind : Kind) (s : List ℕ) (i : ℕ) → len_at kind s i ≡ 0 → frame_at kind s i ≡ None
+unfolding frame_at
+none-at kind s i e = ap (framed (recogniser kind) (drop i s)) e
+
 -- the payload's places, as the recogniser has them
 module _ (kind : Kind) {s : List ℕ} {i n : ℕ} (q : FrameAt (number_of kind) s i (suc n)) where
-  long : len_at kind s i ≡ suc n
-  long = at_place q kind refl
-
   same_kind : q.frame.kind ≡ kind
   same_kind = one-kind q.frame.kind kind q.frame.number
 
   -- what is read off the frame there
-  read-there : (place : Kind → List ℕ → ℕ) → place q.frame.kind (part i (i + suc n) s) ≡ wherever (len_at kind s i) (place kind (take (len_at kind s i) (drop i s)))
-  read-there place =
-      ap (λ (x : Kind). place x (part i (i + suc n) s)) same_kind
-      ∙ ap (place kind) (part-take i (suc n) s ∙ ap (λ (m : ℕ). take m (drop i s)) (sym long))
-      ∙ sym (ap (λ (m : ℕ). wherever m (place kind (take (len_at kind s i) (drop i s)))) long)
+  read-there : (place : Kind → List ℕ → ℕ) → place q.frame.kind (part i (i + suc n) s) ≡ place kind (take (suc n) (drop i s))
+  read-there place = ap (λ (x : Kind). place x (part i (i + suc n) s)) same_kind ∙ ap (place kind) (part-take i (suc n) s)
 
-  pub from-there : payload_from q.frame ≡ from_at kind s i
-  unfolding from_at
-  from-there = begins q.frame ∙ read-there (λ x. (recogniser x).from)
+  pub frame-there : frame_at kind s i ≡ Some (record { len = suc n; from = payload_from q.frame; to = payload_to q.frame })
+  unfolding frame_at
+  frame-there =
+      ap (framed (recogniser kind) (drop i s)) (at_place q kind refl)
+      ∙ ap₂ (λ (x y : ℕ). Some (record { len = suc n; from = x; to = y }))
+      (sym (begins q.frame ∙ read-there (λ x. (recogniser x).from))) (sym (ends q.frame ∙ read-there (λ x. (recogniser x).to)))
 
-  pub to-there : payload_to q.frame ≡ to_at kind s i
-  unfolding to_at
-  to-there = ends q.frame ∙ read-there (λ x. (recogniser x).to)
+-- a frame of the buffer, with its payload's places in it
+pub record Standing (kind : Kind) (s : List ℕ) (i : ℕ) (f : Placed) : Type 0 where
+  pub stands : FrameAt (number_of kind) s i f.len
+  pub from_is : f.from ≡ payload_from stands.frame
+  pub to_is : f.to ≡ payload_to stands.frame
+
+-- WHAT IS FOUND AT A PLACE stands there, and where none is found none stands
+module _ (kind : Kind) (s : List ℕ) (i : ℕ) where
+  pub standing : {f : Placed} → i ≤ length s → Some f ≡ frame_at kind s i → Standing kind s i f
+  standing {f} h e = go (len_at kind s i) refl
+    where
+      go : (n : ℕ) → len_at kind s i ≡ n → Standing kind s i f
+      go zero z = let never : Some f ≡ None = e ∙ none-at kind s i z in absurd (cc)
+      go (suc n) z =
+          let q = stands kind s i n h z in
+          let it : Placed = record { len = suc n; from = payload_from q.frame; to = payload_to q.frame } in
+          let there : Some f ≡ Some it = e ∙ frame-there kind q in
+          let same : it ≡ f = cc in
+          subst (Standing kind s i) same (record { stands = q; from_is = refl; to_is = refl })
+
+  pub none-stands : {n : ℕ} → None ≡ frame_at kind s i → FrameAt (number_of kind) s i n → ⊥
+  none-stands {n = zero} e q = let p = positive q in omega arith
+  none-stands {n = suc n} e q = let never = e ∙ frame-there kind q in cc

@@ -8,16 +8,17 @@ use native.Mathlib.Omega.{arith}
 use lib.Dec.{eqb, leb}
 use lib.ListN.{length, get_or, drop, length-append, length-drop}
 use lib.Seq.{get_or-drop}
+use Rattle.std.specs.Prelude.{None, Err}
 use Rattle.digits.specs.declared.refusal.Refusal.TheVariants.{NoFrame}
 use Rattle.frames.specs.Paper.Kinds.{Frame}
-use Rattle.frames.specs.Work.Frames.{starts, frame_len, len_at, may_start}
+use Rattle.frames.specs.Work.Frames.{starts, frame_len, len_at, frame_at, may_start}
 use Rattle.frames.specs.Work.Seek.{seek_among, seek}
-use Rattle.frames.specs.declared.Found.TheVariants.{Refused}
 use Rattle.layouts.specs.Paper.Starts.{nest_starts}
 use Rattle.layouts.specs.declared.nest.Direction.TheVariants.{Command, Response}
 use Rattle.frames.specs.declared.kinds.Kind.{Kind}
 use Rattle.frames.specs.declared.kinds.Kind.TheVariants.{NestCommand, NestResponse}
 use Rattle.frames.proofs.Laws.Kinds.{kind-right, begun, behind}
+use Rattle.frames.proofs.Laws.Places.{none-at}
 use Rattle.frames.proofs.Laws.Seek.{seek-miss}
 
 -- NO FRAME HAS FEWER THAN FOUR BYTES
@@ -42,13 +43,13 @@ module _ (kind : Kind) where
   none_or (suc n) f = absurd (f (omega arith))
 
   module _ (s : List ℕ) (i : ℕ) where
-    pub no_start : may_start kind s i ≡ false → len_at kind s i ≡ 0
+    pub no_start : may_start kind s i ≡ false → None ≡ frame_at kind s i
     unfolding may_start len_at
-    no_start e = none_or (len_at kind s i) (λ h. true≢false (sym (head-begun (drop i s) h).1 ∙ e))
+    no_start e = sym (none-at kind s i (none_or (len_at kind s i) (λ h. true≢false (sym (head-begun (drop i s) h).1 ∙ e))))
 
-    pub too_short : length s < i + 4 → len_at kind s i ≡ 0
+    pub too_short : length s < i + 4 → None ≡ frame_at kind s i
     unfolding len_at
-    too_short l = none_or (len_at kind s i) (λ h. let q = (head-begun (drop i s) h).0 in omega (arith, length-drop i s))
+    too_short l = sym (none-at kind s i (none_or (len_at kind s i) (λ h. let q = (head-begun (drop i s) h).0 in omega (arith, length-drop i s))))
 
 -- ---- Nest, by two bytes of its preamble
 
@@ -86,10 +87,10 @@ module _ (s : List ℕ) (i : ℕ) where
 
 -- ---- the search
 
-few-left : (kind : Kind) (s : List ℕ) (n i : ℕ) → length s - i ≡ n → length s < i + 4 → Refused NoFrame ≡ seek_among kind s n i
+few-left : (kind : Kind) (s : List ℕ) (n i : ℕ) → length s - i ≡ n → length s < i + 4 → Err NoFrame ≡ seek_among kind s n i
 unfolding seek_among
 few-left kind s zero i e h = refl
-few-left kind s (suc n) i e h = rw (too_short kind s i h) (few-left kind s n (suc i) (omega arith) (omega arith))
+few-left kind s (suc n) i e h = rw (← too_short kind s i h) (few-left kind s n (suc i) (omega arith) (omega arith))
 
 module _ (kind : Kind) (s : List ℕ) (i : ℕ) where
   -- a place where no frame can begin is passed
@@ -97,6 +98,6 @@ module _ (kind : Kind) (s : List ℕ) (i : ℕ) where
   seek-pass h e = seek-miss kind s i h (no_start kind s i e)
 
   -- fewer than four bytes are left
-  pub seek-left : length s < i + 4 → Refused NoFrame ≡ seek kind s i
+  pub seek-left : length s < i + 4 → Err NoFrame ≡ seek kind s i
   unfolding seek
   seek-left h = few-left kind s (length s - i) i refl h

@@ -7,13 +7,13 @@ use Rattle.frames.proofs.Laws.Hands.{found_inside, hands-found, hands-nothing}
 use Rattle.frames.proofs.frame.Goals as goal
 
 pub overflow_add-result : goal.overflow_add-result
-overflow_add-result c = omega (arith, found_inside c.search.ensures c.in-At.is, c.well_formed)
+overflow_add-result c = omega (arith, found_inside c.search.ensures c.in-Ok.is, c.well_formed)
 
 pub slice_bounds-result-end : goal.slice_bounds-result-end
-slice_bounds-result-end c = found_inside c.search.ensures c.in-At.is
+slice_bounds-result-end c = found_inside c.search.ensures c.in-Ok.is
 
-pub returns-in-At : goal.returns-in-At
-returns-in-At c = hands-found c.search.ensures frame_ends c.in-At.is (record { bytes = refl; place = refl })
+pub returns-in-Ok : goal.returns-in-Ok
+returns-in-Ok c = hands-found c.search.ensures frame_ends c.in-Ok.is (record { bytes = refl; place = refl })
 
-pub returns-in-Refused : goal.returns-in-Refused
-returns-in-Refused c = hands-nothing c.search.ensures frame_ends c.in-Refused.is c.nothing.ensures
+pub returns-in-Err : goal.returns-in-Err
+returns-in-Err c = hands-nothing c.search.ensures frame_ends c.in-Err.is c.nothing.ensures

@@ -3,11 +3,11 @@
 use Rattle.frames.proofs.Laws.OneFrame.{whole-none, whole-other, whole_is}
 use Rattle.frames.proofs.one_of_kind.Goals as goal
 
-pub returns-then-len-eq0 : goal.returns-then-len-eq0
-returns-then-len-eq0 c = whole-none _ _ c.head-head.ensures c.if-len-eq0.true
+pub returns-in_default : goal.returns-in_default
+returns-in_default c = whole-none _ _ c.in_default.ensures
 
-pub returns-then-len-s : goal.returns-then-len-s
-returns-then-len-s c = whole-other _ _ c.head-head.ensures c.if-len-s.true
+pub returns-then-frame-s : goal.returns-then-frame-s
+returns-then-frame-s c = whole-other _ _ c.in-Ok.ensures c.if-frame-s.true
 
 pub returns : goal.returns
-returns c = whole_is _ _ c.head-head.ensures c.if-len-s.false c.if-len-eq0.false
+returns c = whole_is _ _ c.in-Ok.ensures c.if-frame-s.false

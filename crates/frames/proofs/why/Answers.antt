@@ -1,14 +1,23 @@
 -- `frames::why` meets its contract: the refusals in their order, and the verdict of the kind's layout.
 -- Assumes nothing.
-use Rattle.frames.proofs.Laws.Kinds.{known_of, resolved-known, resolved-unknown}
-use Rattle.frames.proofs.Laws.Why.{why-no-kind, why-no-place, why-judged}
+use mathlib.Core.Path.{sym, ◌∙◌}
+use Rattle.std.proofs.lemmas.Result.{err_from_is_err_and}
+use Rattle.frames.proofs.Laws.Kinds.{known_of, asked-kind, asked-none}
+use Rattle.frames.proofs.Laws.Why.{failed-is, why-no-kind, why-no-place, why-judged}
 use Rattle.frames.proofs.why.Goals as goal
 
+pub returns-in_err-kind : goal.returns-in_err-kind
+returns-in_err-kind c =
+    let p = err_from_is_err_and c.from_residual.result c.from_residual.ensures.1 in
+    let u = asked-none c.of.result _ c.of.ensures (sym c.ok_or.ensures.value ∙ c.in_err-kind.was) in
+    rw (p.1, p.2, u.1) (why-no-kind u.0)
+
 pub returns-then-buffer-place : goal.returns-then-buffer-place
-returns-then-buffer-place c = why-no-place (known_of c.in-Is.known (resolved-known c.of.ensures c.in-Is.is)) c.if-buffer-place.true
+returns-then-buffer-place c =
+    let e = asked-kind c.of.result _ c.of.ensures (sym c.ok_or.ensures.value ∙ c.in_ok-kind.was) in
+    why-no-place (known_of c.in_ok-kind.kind e) c.if-buffer-place.true
 
 pub returns-else-buffer-place : goal.returns-else-buffer-place
-returns-else-buffer-place c = rw c.judged.ensures (why-judged c.in-Is.known (resolved-known c.of.ensures c.in-Is.is) c.if-buffer-place.false c.at.ensures.judged)
-
-pub returns-in-Unknown : goal.returns-in-Unknown
-returns-in-Unknown c = why-no-kind (resolved-unknown c.of.ensures c.in-Unknown.is)
+returns-else-buffer-place c =
+    let e = asked-kind c.of.result _ c.of.ensures (sym c.ok_or.ensures.value ∙ c.in_ok-kind.was) in
+    rw (c.err.ensures.value, failed-is c.at.result) (why-judged c.in_ok-kind.kind e c.if-buffer-place.false c.at.ensures.judged)

@@ -1,7 +1,7 @@
 -- 01, "Kinds and frames": "A kind is a bus and direction: 1 Nikobus, 2 Nest command, 3 Nest response, 4 Nibe, 5
 -- Homiq." Inside the library a kind is a case of the code's enum; the tables here say what a kind is, a line a kind.
 -- Assumes nothing.
-use Rattle.std.specs.Prelude.{Bool, false, List, [], ◌∷◌, ◌≡◌, ℕ}
+use Rattle.std.specs.Prelude.{Bool, false, List, [], ◌∷◌, ◌≡◌, ℕ, Option, Some, None}
 use Rattle.digits.specs.Paper.Refusals.{Answers}
 use Rattle.layouts.specs.declared.nest.Direction.TheVariants.{Command, Response}
 use Rattle.layouts.specs.Paper.Chars.{one_of}
@@ -13,8 +13,6 @@ use Rattle.layouts.specs.Paper.Nibe as nibes
 use Rattle.layouts.specs.Paper.Homiq as homiqs
 use Rattle.frames.specs.declared.kinds.Kind.{Kind}
 use Rattle.frames.specs.declared.kinds.Kind.TheVariants.{Nikobus, NestCommand, NestResponse, Nibe, Homiq}
-use Rattle.frames.specs.declared.kinds.Resolved.{Resolved}
-use Rattle.frames.specs.declared.kinds.Resolved.TheVariants.{Is, Unknown}
 
 -- "1 Nikobus, 2 Nest command, 3 Nest response, 4 Nibe, 5 Homiq"
 abbrev pub number_of : Kind → ℕ
@@ -44,16 +42,16 @@ pub data KindCause (k : ℕ) : ℕ → Type 0 where
   no_kind : known k ≡ false → KindCause k 2
 
 -- the refusal number and the value of what a number is resolved to: its kind has that number
-abbrev pub resolved_refusal : Resolved → ℕ
-resolved_refusal (Is kind) = 0
-resolved_refusal Unknown = 2
+abbrev pub resolved_refusal : Option Kind → ℕ
+resolved_refusal (Some kind) = 0
+resolved_refusal None = 2
 
-abbrev pub resolved_value : Resolved → ℕ
-resolved_value (Is kind) = number_of kind
-resolved_value Unknown = 0
+abbrev pub resolved_value : Option Kind → ℕ
+resolved_value (Some kind) = number_of kind
+resolved_value None = 0
 
 -- r is the right answer
-abbrev pub Resolves : ℕ → Resolved → Type 0
+abbrev pub Resolves : ℕ → Option Kind → Type 0
 Resolves k r = Answers 0 (KindCause k) (λ v. v ≡ k) (resolved_refusal r) (resolved_value r)
 
 -- f is a frame of the kind with the number k

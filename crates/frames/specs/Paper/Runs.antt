@@ -1,16 +1,14 @@
 -- 01, Search: "the next search begins at that frame's end".
 -- Assumes nothing.
-use Rattle.std.specs.Prelude.{List, [], ◌∷◌, ℕ, ◌+◌, ◌≤◌, ◌<◌}
+use Rattle.std.specs.Prelude.{List, [], ◌∷◌, ℕ, ◌+◌, ◌≤◌, ◌<◌, Ok, Err}
 use Rattle.digits.specs.declared.refusal.Refusal.TheVariants.{NoFrame}
 use Rattle.frames.specs.Paper.Search.{FrameAt, Hit, Searches}
-use Rattle.frames.specs.declared.Found.TheVariants.{At, Refused}
 
 -- what one search after the other finds from a place on, up to the one that finds no frame
 pub data Run (k : ℕ) (s : List ℕ) : ℕ → List Hit → Type 0 where
-  ends : {place : ℕ} → Searches k s place (Refused NoFrame) → Run k s place []
-  finds : {place start len from to : ℕ} {later : List Hit} → Searches k s place (At start len from to)
-      → Run k s (start + len) later
-      → Run k s place (record { start = start; len = len; from = from; to = to } ∷ later)
+  ends : {place : ℕ} → Searches k s place (Err NoFrame) → Run k s place []
+  finds : {place : ℕ} {v : Hit} {later : List Hit} → Searches k s place (Ok v) → Run k s (v.start + v.len) later
+      → Run k s place (v ∷ later)
 
 -- the frames stand one behind the other, none before the place and no two in one byte
 pub data InOrder (k : ℕ) (s : List ℕ) : ℕ → List Hit → Type 0 where

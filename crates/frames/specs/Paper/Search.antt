@@ -1,14 +1,14 @@
 -- 01, Search: "The search takes a kind, a buffer and a place, and finds the frame with the smallest start at or after
 -- the place".
 -- Assumes nothing.
-use Rattle.std.specs.Prelude.{false, List, ◌≡◌, ℕ, ◌+◌, ◌≤◌, ◌<◌, length}
+use Rattle.std.specs.Prelude.{false, List, ◌≡◌, ℕ, ◌+◌, ◌≤◌, ◌<◌, length, Result, Ok, Err}
 use Rattle.std.specs.Borrow.{Bor}
 use Rattle.digits.specs.Paper.Bytes.{part}
 use Rattle.digits.specs.Paper.Part.{Ends, HandsPart}
 use Rattle.digits.specs.Paper.Refusals.{refusal_number, Answers}
+use Rattle.digits.specs.declared.refusal.Refusal.{Refusal}
 use Rattle.frames.specs.Paper.Kinds.{known, Frame, payload_from, payload_to}
 use Rattle.frames.specs.declared.Found.{Found}
-use Rattle.frames.specs.declared.Found.TheVariants.{At, Refused}
 
 -- a frame of n bytes stands at the place i of the buffer
 pub record FrameAt (k : ℕ) (s : List ℕ) (i n : ℕ) : Type 0 where
@@ -16,11 +16,8 @@ pub record FrameAt (k : ℕ) (s : List ℕ) (i n : ℕ) : Type 0 where
   pub frame : Frame k (part i (i + n) s)
 
 -- what a search answers: the frame's start and length, and the places where its payload begins and ends
-pub record Hit : Type 0 where
-  pub start : ℕ
-  pub len : ℕ
-  pub from : ℕ
-  pub to : ℕ
+abbrev pub Hit : Type 0
+Hit = Found
 
 -- "the frame with the smallest start at or after the place"
 pub record Leftmost (k : ℕ) (s : List ℕ) (place : ℕ) (v : Hit) : Type 0 where
@@ -37,19 +34,19 @@ pub data SearchCause (k : ℕ) (s : List ℕ) (place : ℕ) : ℕ → Type 0 whe
   no_place : length s < place → SearchCause k s place 3
 
 -- the refusal number and the values of an answer
-abbrev pub found_refusal : Found → ℕ
-found_refusal (At start len from to) = 0
-found_refusal (Refused why) = refusal_number why
+abbrev pub found_refusal : Result Found Refusal → ℕ
+found_refusal (Ok v) = 0
+found_refusal (Err why) = refusal_number why
 
 abbrev pub zero_hit : Hit
 zero_hit = record { start = 0; len = 0; from = 0; to = 0 }
 
-abbrev pub found_hit : Found → Hit
-found_hit (At start len from to) = record { start = start; len = len; from = from; to = to }
-found_hit (Refused why) = zero_hit
+abbrev pub found_hit : Result Found Refusal → Hit
+found_hit (Ok v) = v
+found_hit (Err why) = zero_hit
 
 -- r is the right answer
-abbrev pub Searches : ℕ → List ℕ → ℕ → Found → Type 0
+abbrev pub Searches : ℕ → List ℕ → ℕ → Result Found Refusal → Type 0
 Searches k s place r = Answers zero_hit (SearchCause k s place) (Leftmost k s place) (found_refusal r) (found_hit r)
 
 -- "The frame and its payload are handed back as that part of the caller's buffer": where each begins and ends

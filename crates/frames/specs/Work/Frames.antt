@@ -1,6 +1,6 @@
 -- The recognisers of the kinds, a line a kind, and what they find at a place of a buffer.
 -- Assumes nothing.
-use Rattle.std.specs.Prelude.{Bool, ◌&&◌, List, ◌≡◌, ℕ, zero, suc, leb, get_or, take, drop}
+use Rattle.std.specs.Prelude.{Bool, ◌&&◌, List, ℕ, zero, suc, leb, get_or, take, drop, Option, Some, None}
 use Rattle.layouts.specs.Paper.Nest.{preamble}
 use Rattle.layouts.specs.Paper.Starts.{nikobus_starts, nest_starts, nibe_starts, homiq_starts}
 use Rattle.layouts.specs.Work.Homiq.{homiq_recogniser}
@@ -9,6 +9,7 @@ use Rattle.layouts.specs.Work.Nibe.{nibe_recogniser}
 use Rattle.layouts.specs.Work.Nikobus.{nikobus_recogniser}
 use Rattle.layouts.specs.Work.Recogniser as found
 use Rattle.layouts.specs.Work.Recogniser.{Recogniser}
+use Rattle.layouts.specs.declared.Frame.{Frame}
 use Rattle.layouts.specs.declared.nest.Direction.TheVariants.{Command, Response}
 use Rattle.frames.specs.declared.kinds.Kind.{Kind}
 use Rattle.frames.specs.declared.kinds.Kind.TheVariants.{Nikobus, NestCommand, NestResponse, Nibe, Homiq}
@@ -37,28 +38,19 @@ starts Homiq = homiq_starts
 abbrev pub frame_len : Kind → List ℕ → ℕ
 frame_len kind s = found.frame_len (recogniser kind) s
 
--- a value if there is a frame of n bytes, 0 if there is none
-abbrev pub wherever : ℕ → ℕ → ℕ
-wherever zero x = 0
-wherever (suc n) x = x
+-- the first n bytes of s as a frame, none for 0
+abbrev pub framed : Recogniser → List ℕ → ℕ → Option Frame
+framed r s zero = None
+framed r s (suc n) =
+    Some (record { len = suc n; from = r.from (take (suc n) s); to = r.to (take (suc n) s) })
 
--- the length of the frame at the place i of the buffer s, and the places in it where its payload begins and ends;
--- zeros for none
+-- the length of the frame at the place i of the buffer s, 0 for none; and the frame
 unfoldable pub len_at : Kind → List ℕ → ℕ → ℕ
 len_at kind s i = frame_len kind (drop i s)
 
-unfoldable pub from_at : Kind → List ℕ → ℕ → ℕ
-from_at kind s i = wherever (len_at kind s i) ((recogniser kind).from (take (len_at kind s i) (drop i s)))
-
-unfoldable pub to_at : Kind → List ℕ → ℕ → ℕ
-to_at kind s i = wherever (len_at kind s i) ((recogniser kind).to (take (len_at kind s i) (drop i s)))
+unfoldable pub frame_at : Kind → List ℕ → ℕ → Option Frame
+frame_at kind s i = framed (recogniser kind) (drop i s) (len_at kind s i)
 
 -- whether a frame can begin at the place i of s
 unfoldable pub may_start : Kind → List ℕ → ℕ → Bool
 may_start kind s i = starts kind (drop i s)
-
--- what is answered of the place i of s: the three numbers
-pub record HeadAt (kind : Kind) (s : List ℕ) (i n from to : ℕ) : Type 0 where
-  pub len_is : n ≡ len_at kind s i
-  pub from_is : from ≡ from_at kind s i
-  pub to_is : to ≡ to_at kind s i

@@ -19,14 +19,13 @@ use Rattle.digits.specs.Paper.Decimal.{decimal}
 use Rattle.digits.specs.Paper.Refusals.{refusal_number, answers}
 use Rattle.digits.specs.declared.refusal.Refusal.{Refusal}
 use Rattle.digits.proofs.Laws.Refusals.{some_number, one_answer}
-use Rattle.puts.specs.Paper.Wrote.{written_refusal, written_count, Writes}
-use Rattle.puts.specs.declared.Written.{Written}
-use Rattle.puts.specs.declared.Written.TheVariants.{Bytes, Refused}
+use Rattle.std.specs.Prelude.{Result, Ok, Err}
+use Rattle.std.specs.Result.{result_unwrap_or}
+use Rattle.puts.specs.Paper.Wrote.{Written, written_refusal, written_count, Writes}
 use Rattle.numbers.specs.Paper.Raw.{Raw}
 use Rattle.numbers.specs.Paper.Text.{below_zero, sign, text_of, text}
 use Rattle.numbers.specs.Paper.Single.{fits_single}
 use Rattle.numbers.specs.Paper.Answers.{TextCause, fits_value, AnswersFits}
-use Rattle.numbers.specs.declared.single.Fit.{Fit}
 use Rattle.numbers.proofs.Laws.Causes.{in-range}
 use Rattle.numbers.proofs.Laws.Signs.{back, read_back, said, less, not-less, below, Cast, plain, turned, plus}
 use Rattle.numbers.proofs.Theorems.Text.{room-of-12}
@@ -37,17 +36,22 @@ use Rattle.json_values.specs.declared.Decimals.TheVariants.{Zero, One, Two, Thre
 
 -- ---- whether a single holds it
 
-pub fit-value : (z : ℤ) (r : Fit) → SFits w64 z → Raw z → AnswersFits (back z) r → fits_value r ≡ fits_single z
+fit-value : (z : ℤ) (r : Result Bool Refusal) → SFits w64 z → Raw z → AnswersFits (back z) r → fits_value r ≡ fits_single z
 fit-value z r f h a = (one_answer (λ x y g k. g ∙ sym k) (said (λ (y : ℤ). AnswersFits y r) z f a) (answers {v = fits_single z} (in-range z h) refl)).1
+
+-- a number that is refused has no single; a raw number never is
+pub fit : (z : ℤ) (r : Result Bool Refusal) → SFits w64 z → Raw z → AnswersFits (back z) r → result_unwrap_or r false ≡ fits_single z
+fit z (Ok b) f h a = fit-value z (Ok b) f h a
+fit z (Err why) f h a = fit-value z (Err why) f h a
 
 -- ---- its text, in a room of 12
 
 module _ (z : ℤ) (d : ℕ) (f : SFits w64 z) (h : Raw z) (few : d ≤ 3) (room later : List ℕ) (r : Written) (twelve : length room ≡ 12)
     (a : Writes (TextCause (back z) d (length room)) (text (back z) d) room r later) where
-  written : (r ≡ Bytes (length (text z d))) × (later ≡ text z d ++ drop (length (text z d)) room)
+  written : (r ≡ Ok (length (text z d))) × (later ≡ text z d ++ drop (length (text z d)) room)
   written = room-of-12 z d r room later h few (omega arith) (said (λ (y : ℤ). Writes (TextCause y d (length room)) (text y d) room r later) z f a)
 
-  module _ (n : ℕ) (e : r ≡ Bytes n) where
+  module _ (n : ℕ) (e : r ≡ Ok n) where
     count : n ≡ length (text z d)
     count = ap written_count (sym e ∙ written.0)
 
@@ -61,7 +65,7 @@ module _ (z : ℤ) (d : ℕ) (f : SFits w64 z) (h : Raw z) (few : d ≤ 3) (room
         let m : n - 0 ≡ n = omega arith in
         ap (λ (k : ℕ). take k later) m ∙ ap (take n) written.1 ∙ take_at (text z d) (drop (length (text z d)) room) n (sym count)
 
-  pub never-refused : (why : Refusal) → r ≡ Refused why → ⊥
+  pub never-refused : (why : Refusal) → r ≡ Err why → ⊥
   never-refused why e = let g : refusal_number why ≡ 0 = ap written_refusal (sym e ∙ written.0) in omega (arith, some_number why)
 
 -- ---- its text with no decimals

@@ -8,12 +8,12 @@ use Rattle.json_values.proofs.number.Goals as goal
 
 pub slice_bounds-bytes-end : goal.slice_bounds-bytes-end
 slice_bounds-bytes-end c =
-    omega (arith, text-within c.args.raw c.args.decimals c.ranges.raw c.requires.0 c.requires.1 _ _ _ refl c.write.ensures _ c.in-Bytes.is)
+    omega (arith, text-within c.args.raw c.args.decimals c.ranges.raw c.requires.0 c.requires.1 _ _ _ refl c.write.ensures _ c.in-Ok.is)
 
-pub returns-in-Bytes : goal.returns-in-Bytes
-returns-in-Bytes c =
-    puts-as (text-front c.args.raw c.args.decimals c.ranges.raw c.requires.0 c.requires.1 _ _ _ refl c.write.ensures _ c.in-Bytes.is) c.bytes.ensures
+pub returns-in-Ok : goal.returns-in-Ok
+returns-in-Ok c =
+    puts-as (text-front c.args.raw c.args.decimals c.ranges.raw c.requires.0 c.requires.1 _ _ _ refl c.write.ensures _ c.in-Ok.is) c.bytes.ensures
 
-pub returns-in-Refused : goal.returns-in-Refused
-returns-in-Refused c =
-    absurd (never-refused c.args.raw c.args.decimals c.ranges.raw c.requires.0 c.requires.1 _ _ _ refl c.write.ensures _ c.in-Refused.is)
+pub returns-in-Err : goal.returns-in-Err
+returns-in-Err c =
+    absurd (never-refused c.args.raw c.args.decimals c.ranges.raw c.requires.0 c.requires.1 _ _ _ refl c.write.ensures _ c.in-Err.is)

@@ -18,31 +18,31 @@ array-returns-then-s-at t c = rest-cut (value-never c.args.names c.args.depth) c
 pub array-returns-then-s-at-eq93 : goal.array-returns-then-s-at-eq93
 array-returns-then-s-at-eq93 t c = rest-empty c.blanks-at.ensures c.if-s-at.false c.if-s-at-eq93.true
 
-pub array-loop-p-init : goal.array-loop-p-init
-array-loop-p-init t c = begin-at c.blanks-at.ensures c.if-s-at.false c.if-s-at-eq93.false
+pub array-loop-e-init : goal.array-loop-e-init
+array-loop-e-init t c = begin-at c.blanks-at.ensures c.if-s-at.false c.if-s-at-eq93.false
 
-pub array-returns-then-e-eq0 : goal.array-returns-then-e-eq0
-array-returns-then-e-eq0 t c = no-element c.loop-p.invariant c.value-e.ensures c.if-e-eq0.true
+pub array-returns-in_err-e : goal.array-returns-in_err-e
+array-returns-in_err-e t c = rw c.from_residual.ensures (no-element c.loop-e.invariant c.in_err-e.ensures)
 
 pub array-returns-then-s-f : goal.array-returns-then-s-f
 array-returns-then-s-f t c =
-    neither-end c.loop-p.invariant (found c.value-e.ensures c.if-e-eq0.false) c.blanks-f.ensures c.if-s-f.true
+    neither-end c.loop-e.invariant (found c.in_ok-e.ensures) c.blanks-f.ensures c.if-s-f.true
 
 pub array-returns-then-s-f-eq93 : goal.array-returns-then-s-f-eq93
 array-returns-then-s-f-eq93 t c =
-    closed c.loop-p.invariant (found c.value-e.ensures c.if-e-eq0.false) c.blanks-f.ensures c.if-s-f.false c.if-s-f-eq93.true (λ e. omega arith)
+    closed c.loop-e.invariant (found c.in_ok-e.ensures) c.blanks-f.ensures c.if-s-f.false c.if-s-f-eq93.true (λ e. omega arith)
 
 pub array-returns-then-s-f-ne44 : goal.array-returns-then-s-f-ne44
 array-returns-then-s-f-ne44 t c =
-    neither-at c.loop-p.invariant (found c.value-e.ensures c.if-e-eq0.false) c.blanks-f.ensures c.if-s-f.false c.if-s-f-eq93.false c.if-s-f-ne44.true
+    neither-at c.loop-e.invariant (found c.in_ok-e.ensures) c.blanks-f.ensures c.if-s-f.false c.if-s-f-eq93.false c.if-s-f-ne44.true
 
-pub array-loop-p-smaller : goal.array-loop-p-smaller
-array-loop-p-smaller t c =
-    let v = found c.value-e.ensures c.if-e-eq0.false in omega (arith, v.on, v.within, c.blanks-f.ensures.on, c.blanks-at-in-loop-p.ensures.on)
+pub array-loop-e-smaller : goal.array-loop-e-smaller
+array-loop-e-smaller t c =
+    let v = found c.in_ok-e.ensures in omega (arith, v.on, v.within, c.blanks-f.ensures.on, c.blanks-at-in-loop-e.ensures.on)
 
-pub array-loop-p-preserved : goal.array-loop-p-preserved
-array-loop-p-preserved t c =
-    another c.loop-p.invariant (found c.value-e.ensures c.if-e-eq0.false) c.blanks-f.ensures c.if-s-f.false c.if-s-f-ne44.false (λ e. omega arith) c.blanks-at-in-loop-p.ensures
+pub array-loop-e-preserved : goal.array-loop-e-preserved
+array-loop-e-preserved t c =
+    another c.loop-e.invariant (found c.in_ok-e.ensures) c.blanks-f.ensures c.if-s-f.false c.if-s-f-ne44.false (λ e. omega arith) c.blanks-at-in-loop-e.ensures
 
 pub is_new-returns-then-not-names : goal.is_new-returns-then-not-names
 is_new-returns-then-not-names t c = uncompared c.args.names c.if-not-names.true
@@ -51,47 +51,46 @@ pub is_new-returns-then-same_name : goal.is_new-returns-then-same_name
 is_new-returns-then-same_name t c =
     stands-before c.args.names c.if-not-names.false c.loop-i.invariant c.loop-i-test.true (told-true c.same_name.ensures c.if-same_name.true)
 
-pub is_new-returns-then-next-eq0 : goal.is_new-returns-then-next-eq0
-is_new-returns-then-next-eq0 t c =
-    no-next c.args.names c.if-not-names.false c.loop-i.invariant c.loop-i-test.true c.later-next.ensures c.if-next-eq0.true
+pub is_new-returns-in_default : goal.is_new-returns-in_default
+is_new-returns-in_default t c = (no-next c.args.names c.if-not-names.false c.loop-i.invariant c.loop-i-test.true c.in_default.ensures)
 
 pub is_new-loop-i-smaller : goal.is_new-loop-i-smaller
-is_new-loop-i-smaller t c = onward-less c.loop-i-test.true c.later-next.ensures c.if-next-eq0.false
+is_new-loop-i-smaller t c = onward-less c.loop-i-test.true c.in-Some.ensures
 
 pub is_new-loop-i-preserved : goal.is_new-loop-i-preserved
 is_new-loop-i-preserved t c =
-    compare-on c.loop-i.invariant c.loop-i-test.true (told-false c.same_name.ensures c.if-same_name.false) c.later-next.ensures c.if-next-eq0.false
+    compare-on c.loop-i.invariant c.loop-i-test.true (told-false c.same_name.ensures c.if-same_name.false) c.in-Some.ensures
 
 pub is_new-returns : goal.is_new-returns
 is_new-returns t c = all_new c.args.names c.if-not-names.false c.loop-i.invariant c.loop-i-test.false
 
-pub later-returns-then-e-eq0 : goal.later-returns-then-e-eq0
-later-returns-then-e-eq0 t c = later-none c.member-e.ensures c.if-e-eq0.true
+pub later-returns-in_err-e : goal.later-returns-in_err-e
+later-returns-in_err-e t c = rw c.from_residual.ensures (later-none c.in_err-e.ensures)
 
 pub later-returns-then-s-f : goal.later-returns-then-s-f
-later-returns-then-s-f t c = later-end (found c.member-e.ensures c.if-e-eq0.false) c.blanks-f.ensures c.if-s-f.true
+later-returns-then-s-f t c = later-end (found c.in_ok-e.ensures) c.blanks-f.ensures c.if-s-f.true
 
 pub later-returns-then-s-f-ne44 : goal.later-returns-then-s-f-ne44
 later-returns-then-s-f-ne44 t c =
-    later_last (found c.member-e.ensures c.if-e-eq0.false) c.blanks-f.ensures c.if-s-f.false c.if-s-f-ne44.true
+    later_last (found c.in_ok-e.ensures) c.blanks-f.ensures c.if-s-f.false c.if-s-f-ne44.true
 
 pub later-returns : goal.later-returns
 later-returns t c =
-    next (a-next c.member-e.ensures c.if-e-eq0.false c.blanks-f.ensures c.if-s-f.false c.if-s-f-ne44.false c.blanks.ensures)
+    next (a-next c.in_ok-e.ensures c.blanks-f.ensures c.if-s-f.false c.if-s-f-ne44.false c.blanks.ensures)
 
-pub member-returns-then-a-eq0 : goal.member-returns-then-a-eq0
-member-returns-then-a-eq0 t c = no_name c.string-a.ensures c.if-a-eq0.true
+pub member-returns-in_default : goal.member-returns-in_default
+member-returns-in_default t c = (no_name c.in_default.ensures)
 
 pub member-returns-then-s-b : goal.member-returns-then-s-b
-member-returns-then-s-b t c = no-colon-end (found c.string-a.ensures c.if-a-eq0.false) c.blanks-b.ensures c.if-s-b.true
+member-returns-then-s-b t c = no-colon-end (found c.in-Some.ensures) c.blanks-b.ensures c.if-s-b.true
 
 pub member-returns-then-s-b-ne58 : goal.member-returns-then-s-b-ne58
 member-returns-then-s-b-ne58 t c =
-    no-colon-at (found c.string-a.ensures c.if-a-eq0.false) c.blanks-b.ensures c.if-s-b.false c.if-s-b-ne58.true
+    no-colon-at (found c.in-Some.ensures) c.blanks-b.ensures c.if-s-b.false c.if-s-b-ne58.true
 
 pub member-returns : goal.member-returns
 member-returns t c =
-    valued (found c.string-a.ensures c.if-a-eq0.false) c.blanks-b.ensures c.if-s-b.false c.if-s-b-ne58.false c.blanks-c.ensures c.value.ensures
+    valued (found c.in-Some.ensures) c.blanks-b.ensures c.if-s-b.false c.if-s-b-ne58.false c.blanks-c.ensures c.value.ensures
 
 pub object-returns-then-s-first : goal.object-returns-then-s-first
 object-returns-then-s-first t c =
@@ -101,34 +100,34 @@ pub object-returns-then-s-first-eq125 : goal.object-returns-then-s-first-eq125
 object-returns-then-s-first-eq125 t c =
     empty-object c.args.names c.blanks-first.ensures c.if-s-first.false c.if-s-first-eq125.true
 
-pub object-loop-p-init : goal.object-loop-p-init
-object-loop-p-init t c = enter c.args.names c.args.depth c.blanks-first.ensures c.if-s-first.false c.if-s-first-eq125.false
+pub object-loop-e-init : goal.object-loop-e-init
+object-loop-e-init t c = enter c.args.names c.args.depth c.blanks-first.ensures c.if-s-first.false c.if-s-first-eq125.false
 
-pub object-returns-then-e-eq0 : goal.object-returns-then-e-eq0
-object-returns-then-e-eq0 t c = no-object (no-element c.loop-p.invariant.going c.member-e.ensures c.if-e-eq0.true)
+pub object-returns-in_default : goal.object-returns-in_default
+object-returns-in_default t c = (no-object (no-element c.loop-e.invariant.going c.in_default.ensures))
 
 pub object-returns-then-not-is_new : goal.object-returns-then-not-is_new
-object-returns-then-not-is_new t c = named-twice c.loop-p.invariant c.is_new.ensures c.if-not-is_new.true
+object-returns-then-not-is_new t c = named-twice c.loop-e.invariant c.is_new.ensures c.if-not-is_new.true
 
 pub object-returns-then-s-f : goal.object-returns-then-s-f
 object-returns-then-s-f t c =
-    no-object (neither-end c.loop-p.invariant.going (found c.member-e.ensures c.if-e-eq0.false) c.blanks-f.ensures c.if-s-f.true)
+    no-object (neither-end c.loop-e.invariant.going (found c.in-Some.ensures) c.blanks-f.ensures c.if-s-f.true)
 
 pub object-returns-then-s-f-eq125 : goal.object-returns-then-s-f-eq125
 object-returns-then-s-f-eq125 t c =
-    object-ends c.loop-p.invariant c.is_new.ensures c.if-not-is_new.false c.member-e.ensures c.if-e-eq0.false c.blanks-f.ensures c.if-s-f.false c.if-s-f-eq125.true
+    object-ends c.loop-e.invariant c.is_new.ensures c.if-not-is_new.false c.in-Some.ensures c.blanks-f.ensures c.if-s-f.false c.if-s-f-eq125.true
 
 pub object-returns-then-s-f-ne44 : goal.object-returns-then-s-f-ne44
 object-returns-then-s-f-ne44 t c =
-    no-object (neither-at c.loop-p.invariant.going (found c.member-e.ensures c.if-e-eq0.false) c.blanks-f.ensures c.if-s-f.false c.if-s-f-eq125.false c.if-s-f-ne44.true)
+    no-object (neither-at c.loop-e.invariant.going (found c.in-Some.ensures) c.blanks-f.ensures c.if-s-f.false c.if-s-f-eq125.false c.if-s-f-ne44.true)
 
-pub object-loop-p-smaller : goal.object-loop-p-smaller
-object-loop-p-smaller t c =
-    let v = found c.member-e.ensures c.if-e-eq0.false in omega (arith, v.on, v.within, c.blanks-f.ensures.on, c.blanks-at.ensures.on)
+pub object-loop-e-smaller : goal.object-loop-e-smaller
+object-loop-e-smaller t c =
+    let v = found c.in-Some.ensures in omega (arith, v.on, v.within, c.blanks-f.ensures.on, c.blanks-at.ensures.on)
 
-pub object-loop-p-preserved : goal.object-loop-p-preserved
-object-loop-p-preserved t c =
-    object-on c.loop-p.invariant c.is_new.ensures c.if-not-is_new.false c.member-e.ensures c.if-e-eq0.false c.blanks-f.ensures c.if-s-f.false c.if-s-f-ne44.false c.blanks-at.ensures
+pub object-loop-e-preserved : goal.object-loop-e-preserved
+object-loop-e-preserved t c =
+    object-on c.loop-e.invariant c.is_new.ensures c.if-not-is_new.false c.in-Some.ensures c.blanks-f.ensures c.if-s-f.false c.if-s-f-ne44.false c.blanks-at.ensures
 
 pub value-returns-then-depth-eq0 : goal.value-returns-then-depth-eq0
 value-returns-then-depth-eq0 t c = too-deep c.args.names c.if-depth-eq0.true

@@ -26,11 +26,11 @@ decreases-object l = 5 * l.depth + 4
 abbrev pub decreases-value : goal.decreases-value
 decreases-value l = 5 * l.depth
 
-abbrev pub invariant-array-loop-p : goal.invariant-array-loop-p
-invariant-array-loop-p l = Going (tight l.names l.depth) 0x5D l.s l.p l.at
+abbrev pub invariant-array-loop-e : goal.invariant-array-loop-e
+invariant-array-loop-e l = Going (tight l.names l.depth) 0x5D l.s l.p l.at
 
-abbrev pub decreases-array-loop-p : goal.decreases-array-loop-p
-decreases-array-loop-p l = length l.s - l.at
+abbrev pub decreases-array-loop-e : goal.decreases-array-loop-e
+decreases-array-loop-e l = length l.s - l.at
 
 abbrev pub invariant-is_new-loop-i : goal.invariant-is_new-loop-i
 invariant-is_new-loop-i l = Comparing (tight false l.depth) l.s l.first l.at l.i
@@ -38,8 +38,8 @@ invariant-is_new-loop-i l = Comparing (tight false l.depth) l.s l.first l.at l.i
 abbrev pub decreases-is_new-loop-i : goal.decreases-is_new-loop-i
 decreases-is_new-loop-i l = l.at - l.i
 
-abbrev pub invariant-object-loop-p : goal.invariant-object-loop-p
-invariant-object-loop-p l = Inside l.names l.depth l.s l.p l.first l.at
+abbrev pub invariant-object-loop-e : goal.invariant-object-loop-e
+invariant-object-loop-e l = Inside l.names l.depth l.s l.p l.first l.at
 
-abbrev pub decreases-object-loop-p : goal.decreases-object-loop-p
-decreases-object-loop-p l = length l.s - l.at
+abbrev pub decreases-object-loop-e : goal.decreases-object-loop-e
+decreases-object-loop-e l = length l.s - l.at

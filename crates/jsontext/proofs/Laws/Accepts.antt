@@ -9,6 +9,7 @@ use native.Mathlib.Omega.{arith}
 use lib.Dec.{leb}
 use lib.ListN.{length, drop}
 use borrow.Author.Tests.{le-leb, lt-leb}
+use Rattle.std.specs.Prelude.{None}
 use Rattle.digits.specs.Paper.Read.{Decides, holds, fails}
 use Rattle.jsontext.specs.Paper.Json.{blank}
 use Rattle.jsontext.specs.Paper.Names.{InGrammar, most_bytes, most_depth}
@@ -23,11 +24,11 @@ pub too_long : {s : List ℕ} → most_bytes < length s → Decides (InGrammar s
 too_long h = fails (λ x. omega (arith, x.short))
 
 -- no value behind the first blanks
-pub no_value : {s : List ℕ} {a b : ℕ} → Skipped blank s 0 a → Found (tight true most_depth) s a b → b ≡ 0 → Decides (InGrammar s) false
-no_value {s} {a} k v z = fails (λ x. go (text-to most_depth s x.text))
+pub no_value : {s : List ℕ} {a : ℕ} → Skipped blank s 0 a → Found (tight true most_depth) s a None → Decides (InGrammar s) false
+no_value {s} {a} k v = fails (λ x. go (text-to most_depth s x.text))
   where
     go : Read most_depth s → ⊥
-    go r = not_found v z r.b (rw (k.only r.a r.before) at r.is)
+    go r = not_found v r.b (rw (k.only r.a r.before) at r.is)
 
 module _ {s : List ℕ} {a b c : ℕ} (k : Skipped blank s 0 a) (v : Ends (tight true most_depth) s a b) (l : Skipped blank s b c) where
   -- a value, and something behind it

@@ -3,9 +3,10 @@
 use mathlib.Core.Path.{◌≡◌, refl, sym, subst}
 use mathlib.Core.Logic.{◌⊎◌, inl, inr}
 use mathlib.Core.List.{List, [], ◌∷◌}
-use Prim.Native.Nat.{ℕ, ◌+◌, ◌≤◌, ◌<◌}
+use Prim.Native.Nat.{ℕ, ◌+◌, ◌≤◌, ◌<◌, max}
 use native.Mathlib.Omega.{arith}
 use lib.ListN.{length, get_or, drop}
+use Rattle.std.specs.Prelude.{None, Some}
 use Rattle.jsontext.specs.Paper.Abnf.{Rule, range, ◌∕◌, many, done, more}
 use Rattle.jsontext.specs.Paper.Json.{blank, HEXDIG, DIGIT}
 use Rattle.jsontext.specs.Work.Tight.{All, Without, IsBlank, IsHex}
@@ -106,19 +107,24 @@ module _ {a : Rule} {C : ℕ → Type 0} (k : Class a C) where
   pub stop-end : {s : List ℕ} {p i : ℕ} → length s ≤ i → Behind a s p i → Skipped a s p i
   stop-end {s} {p} {i} h b = stop-at (λ t x. k.never t (rw (at-end s i h) at x)) b
 
+-- the end of the walk: the end of s, or p where that is behind it
+pub walked : {a : Rule} {C : ℕ → Type 0} (k : Class a C) {s : List ℕ} {p i r : ℕ} → length s ≤ i → i ≤ max p (length s) → Behind a s p i
+    → r ≡ max (length s) p → Skipped a s p r
+walked {a} k {s} {p} {i} {r} h l b e = let n : r ≡ i = omega (arith, b.on) in subst (Skipped a s p) (sym n) (stop-end k h b)
+
 -- one of a class
 module _ {a : Rule} {C : ℕ → Type 0} (k : Class a C) where
-  pub class-one : {s : List ℕ} {p : ℕ} → p < length s → C (get_or s p 0) → Found a s p (p + 1)
+  pub class-one : {s : List ℕ} {p : ℕ} → p < length s → C (get_or s p 0) → Found a s p (Some (p + 1))
   class-one {s} {p} h c =
       let l : p < p + 1 = omega arith in
       let l2 : p + 1 ≤ length s = omega arith in
       let e : drop p s ≡ get_or s p 0 ∷ drop (p + 1) s = at_place s p h in
       ends l l2 (rw e (k.is (get_or s p 0) (drop (p + 1) s) c)) (λ t x. sym (k.rest (get_or s p 0) (drop (p + 1) s) t (rw e at x)))
 
-  pub class-none : {s : List ℕ} {p : ℕ} → p < length s → (C (get_or s p 0) → ⊥) → Found a s p 0
+  pub class-none : {s : List ℕ} {p : ℕ} → p < length s → (C (get_or s p 0) → ⊥) → Found a s p None
   class-none {s} {p} h f = none (λ t x. f (k.first (get_or s p 0) (drop (p + 1) s) t (rw (at_place s p h) at x)))
 
-  pub class-end : {s : List ℕ} {p : ℕ} → length s ≤ p → Found a s p 0
+  pub class-end : {s : List ℕ} {p : ℕ} → length s ≤ p → Found a s p None
   class-end {s} {p} h = none (λ t x. k.never t (rw (at-end s p h) at x))
 
 either : {a b : Rule} {C D : ℕ → Type 0} → Class a C → Class b D → Class (a ∕ b) (λ x. C x ⊎ D x)

@@ -9,6 +9,7 @@ use native.Mathlib.Omega.{arith}
 use lib.ListN.{length, get_or, drop}
 use lib.Dec.{eqb}
 use borrow.Author.Tests.{ne_eqb, eqb-true, eqb-false}
+use Rattle.std.specs.Prelude.{None, Some}
 use Rattle.digits.specs.Paper.Read.{Decides, holds, fails}
 use Rattle.jsontext.specs.Paper.Abnf.{Rule, byte}
 use Rattle.jsontext.specs.Paper.Faults.{Stops, InMember, no_name, no-colon, no_value, Names, other_name}
@@ -62,8 +63,8 @@ module _ {item : Rule} {May : Names} {f : Stops} {s : List ℕ} {p i : ℕ} (g :
   Here r = StopsFrom (behind_blanks (InItems item May f [])) s p r
 
   -- the next item is none, and has a fault of its own
-  pub in_item : {e : ℕ} {r : Fault} → Found item s i e → e ≡ 0 → StopsFrom f s i r → Here r
-  in_item v z (at h x) = at h (g.back _ _ (no_item (not_found v z) x))
+  pub in_item : {r : Fault} → Found item s i None → StopsFrom f s i r → Here r
+  in_item v (at h x) = at h (g.back _ _ (no_item (not_found v) x))
 
   module _ {e : ℕ} (v : Ends item s i e) where
     pub named-before : (May g.names (drop i s) → ⊥) → Here (At OtherName i)
@@ -100,15 +101,15 @@ module _ {d : ℕ} {s : List ℕ} {p first i : ℕ} (g : PassingMembers d s p fi
     pub is-twice : b ≡ false → other_name g.passing.names (drop i s) → ⊥
     is-twice e = told-no (t g.passing.names g.reached) e
 
-  pub members-on : {e j a : ℕ} → Found (Member (tight true d)) s i e → ((e ≡ 0) → ⊥) → other_name g.passing.names (drop i s)
+  pub members-on : {e j a : ℕ} → Found (Member (tight true d)) s i (Some e) → other_name g.passing.names (drop i s)
       → Skipped blank s e j → Stands s j 0x2C → Skipped blank s (j + 1) a → PassingMembers d s p first a
   unfolding pass_on
-  members-on v z m k n q =
-      record { passing = pass_on g.passing (found v z) m k n q; reached = reached-on g.reached (a-next (plain-found true d v z) z k n.inside n.is q) }
+  members-on v m k n q =
+      record { passing = pass_on g.passing (found v) m k n q; reached = reached-on g.reached (a-next (plain-found true d v) k n.inside n.is q) }
 
 module _ {f : Stops} {s : List ℕ} {p : ℕ} where
-  pub name-lacks : {a : ℕ} → p ≤ length s → Found string s p a → a ≡ 0 → StopsFrom (InMember f) s p (At Name p)
-  name-lacks h v z = at h (no_name (not_found v z))
+  pub name-lacks : p ≤ length s → Found string s p None → StopsFrom (InMember f) s p (At Name p)
+  name-lacks h v = at h (no_name (not_found v))
 
   module _ {a b : ℕ} (v : Ends string s p a) (k : Skipped blank s a b) where
     pub colon-lacks : (Stands s b 0x3A → ⊥) → StopsFrom (InMember f) s p (At Colon b)
@@ -158,12 +159,12 @@ nested-too-deep {s = s} {p} e h =
 
 -- ---- the whole text
 
-pub in-text : {s : List ℕ} {a b : ℕ} {r : Fault} → length s ≤ most_bytes → Skipped blank s 0 a → Found (tight true most_depth) s a b → b ≡ 0
-    → StopsFrom (value_stops most_depth) s a r → FaultOf s r
-in-text h k v z (at l x) = inside h k.is (not_found v z) l x
+pub in-text : {s : List ℕ} {a : ℕ} {r : Fault} → length s ≤ most_bytes → Skipped blank s 0 a → Found (tight true most_depth) s a None
+    → StopsFrom (value_stops most_depth) s a r → FaultOf s (Some r)
+in-text h k v (at l x) = inside h k.is (not_found v) l x
 
 -- a value, and something behind it, or the text would be in the grammar
 pub behind-value : {s : List ℕ} {a b c : ℕ} → length s ≤ most_bytes → (InGrammar s → ⊥) → Skipped blank s 0 a → Ends (tight true most_depth) s a b
-    → Skipped blank s b c → FaultOf s (At End c)
+    → Skipped blank s b c → FaultOf s (Some (At End c))
 behind-value {s} {c = c} h n k v l =
     ⊎_elim (λ e. behind h k.is v.is e l.is) (λ e. absurd (n (told-true (all_read k v l h e) refl))) (less c (length s))

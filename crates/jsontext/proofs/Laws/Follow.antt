@@ -7,6 +7,7 @@ use Prim.Native.Nat.{ℕ, ◌+◌, ◌≤◌, ◌<◌}
 use native.Mathlib.Omega.{arith}
 use lib.ListN.{length, get_or, drop}
 use borrow.Author.Tests.{ne_eqb, lt-ltb, le-ltb}
+use Rattle.std.specs.Prelude.{Option, None, Some}
 use Rattle.jsontext.specs.Paper.Abnf.{Rule}
 use Rattle.jsontext.specs.Paper.Json.{UTF8-tail}
 use Rattle.jsontext.specs.Work.Tight.{Lead, lead, follow, nothing, done, two, three, escapes, four, is_short}
@@ -74,13 +75,13 @@ f-F4 b e = rw e
 pub cast : {a b : Rule} → a ≡ b → (u t : List ℕ) → a u t → b u t
 cast e u t x = subst (λ (r : Rule). r u t) e x
 
-pub followed : {f : ℕ → Rule} {s : List ℕ} {p r : ℕ} (x : Rule) → p < length s → f (get_or s p 0) ≡ x → Found x s (p + 1) r → Found (Lead f) s p r
+pub followed : {f : ℕ → Rule} {s : List ℕ} {p : ℕ} {r : Option ℕ} (x : Rule) → p < length s → f (get_or s p 0) ≡ x → Found x s (p + 1) r → Found (Lead f) s p r
 followed {f} {s} {p} x h e v = led-behind (get_or s p 0) h refl x (cast (sym e)) (cast e) v
 
-pub followed-none : {f : ℕ → Rule} {s : List ℕ} {p : ℕ} → p < length s → f (get_or s p 0) ≡ nothing → Found (Lead f) s p 0
+pub followed-none : {f : ℕ → Rule} {s : List ℕ} {p : ℕ} → p < length s → f (get_or s p 0) ≡ nothing → Found (Lead f) s p None
 followed-none {f} {s} {p} h e = led-none (get_or s p 0) h refl (cast e)
 
-pub followed-done : {f : ℕ → Rule} {s : List ℕ} {p : ℕ} → p < length s → f (get_or s p 0) ≡ done → Found (Lead f) s p (p + 1)
+pub followed-done : {f : ℕ → Rule} {s : List ℕ} {p : ℕ} → p < length s → f (get_or s p 0) ≡ done → Found (Lead f) s p (Some (p + 1))
 followed-done {f} {s} {p} h e =
     let l : p < p + 1 = omega arith in
     let k : p + 1 ≤ length s = omega arith in

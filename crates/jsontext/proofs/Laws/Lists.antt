@@ -5,6 +5,7 @@ use mathlib.Core.List.{List, [], ◌∷◌}
 use Prim.Native.Nat.{ℕ, ◌+◌, ◌≤◌, ◌<◌}
 use native.Mathlib.Omega.{arith}
 use lib.ListN.{length, get_or, drop}
+use Rattle.std.specs.Prelude.{Option, None, Some}
 use Rattle.jsontext.specs.Paper.Abnf.{Rule, byte}
 use Rattle.jsontext.specs.Paper.Json.{string, blank}
 use Rattle.jsontext.specs.Work.Tight.{Blanks, Without, Elements, last, next, Rest, empty, full, Member, member}
@@ -34,7 +35,7 @@ rest-cases f g (empty b e) = f _ b e
 rest-cases f g (full b w r) = g _ b w r
 
 -- the answer where no element stands
-pub rest-empty : {one : Rule} {close : ℕ} {s : List ℕ} {p a : ℕ} → Skipped blank s p a → a < length s → get_or s a 0 ≡ close → Found (Rest one close) s p (a + 1)
+pub rest-empty : {one : Rule} {close : ℕ} {s : List ℕ} {p a : ℕ} → Skipped blank s p a → a < length s → get_or s a 0 ≡ close → Found (Rest one close) s p (Some (a + 1))
 rest-empty {one} {close} {s} {p} {a} k h e =
     let l : p < a + 1 = omega (arith, k.on) in
     let l2 : a + 1 ≤ length s = omega arith in
@@ -56,15 +57,15 @@ begin {one} {close} {s} {p} {a} k f =
       back = λ t r. full k.is f r;
     }
 
-pub no-element : {one : Rule} {close : ℕ} {s : List ℕ} {p i e : ℕ} → Going one close s p i → Found one s i e → e ≡ 0 → Found (Rest one close) s p 0
-no-element g f z = none (λ t r. not_found f z _ (split (g.there t r)).first)
+pub no-element : {one : Rule} {close : ℕ} {s : List ℕ} {p i : ℕ} → Going one close s p i → Found one s i None → Found (Rest one close) s p None
+no-element g f = none (λ t r. not_found f _ (split (g.there t r)).first)
 
 module _ {one : Rule} {close : ℕ} {s : List ℕ} {p i e f : ℕ} (g : Going one close s p i) (v : Ends one s i e) (k : Skipped blank s e f) where
   -- the only place behind the element and its blanks
   meets : (t : List ℕ) (x : Split one close (drop i s) t) → x.n ≡ drop f s
   meets t x = k.only _ (subst (λ (l : List ℕ). Blanks l x.n) (v.only _ x.first) x.blanks)
 
-  pub closed : f < length s → get_or s f 0 ≡ close → (close ≡ 0x2C → ⊥) → Found (Rest one close) s p (f + 1)
+  pub closed : f < length s → get_or s f 0 ≡ close → (close ≡ 0x2C → ⊥) → Found (Rest one close) s p (Some (f + 1))
   closed h c d =
       let l : p < f + 1 = omega (arith, g.on, v.on, k.on) in
       let l2 : f + 1 ≤ length s = omega arith in
@@ -78,7 +79,7 @@ module _ {one : Rule} {close : ℕ} {s : List ℕ} {p i e f : ℕ} (g : Going on
       go : (t : List ℕ) → Split one close (drop i s) t → drop f s ≡ close ∷ drop (f + 1) s → t ≡ drop (f + 1) s
       go t x st = by_way t x.n (meets t x) st x.way
 
-  pub neither : Without (byte close) (drop f s) → Without (byte 0x2C) (drop f s) → Found (Rest one close) s p 0
+  pub neither : Without (byte close) (drop f s) → Without (byte 0x2C) (drop f s) → Found (Rest one close) s p None
   neither a b = none (λ t r. go t (split (g.there t r)))
     where
       by_way : (t n : List ℕ) → n ≡ drop f s → Either-way one close t n → ⊥
@@ -109,27 +110,27 @@ module _ {one : Rule} {close : ℕ} {s : List ℕ} {p i e f : ℕ} (g : Going on
       go t x = by_way t x.n (meets t x) x.way
 
 -- a member
-pub no_name : {value : Rule} {s : List ℕ} {p r : ℕ} → Found string s p r → r ≡ 0 → Found (Member value) s p 0
-no_name f z = none (λ t x. not_found f z _ (parts x).string)
+pub no_name : {value : Rule} {s : List ℕ} {p : ℕ} → Found string s p None → Found (Member value) s p None
+no_name f = none (λ t x. not_found f _ (parts x).string)
 
 module _ {value : Rule} {s : List ℕ} {p a b : ℕ} (n : Ends string s p a) (k : Skipped blank s a b) where
-  pub no-colon : Without (byte 0x3A) (drop b s) → Found (Member value) s p 0
+  pub no-colon : Without (byte 0x3A) (drop b s) → Found (Member value) s p None
   no-colon f = none (λ t x. f _ (sym (at-colon n k (parts x)) ∙ (parts x).colon))
 
-  pub valued : {d r : ℕ} → b < length s → get_or s b 0 ≡ 0x3A → Skipped blank s (b + 1) d → Found value s d r → Found (Member value) s p r
+  pub valued : {d : ℕ} {r : Option ℕ} → b < length s → get_or s b 0 ≡ 0x3A → Skipped blank s (b + 1) d → Found value s d r → Found (Member value) s p r
   valued {d} h e q v = by v
     where
       there : (t : List ℕ) → Member value (drop p s) t → value (drop d s) t
       there t x = subst (λ (l : List ℕ). value l t) (at_value n k (parts x) h e q) (parts x).is
 
-      by : {r : ℕ} → Found value s d r → Found (Member value) s p r
+      by : {r : Option ℕ} → Found value s d r → Found (Member value) s p r
       by (ends {r} l m w o) =
           let i : p < r = omega (arith, n.on, k.on, q.on) in
           ends i m (member n.is k.is (stands s b 0x3A h e) q.is w) (λ t x. o t (there t x))
       by (none f) = none (λ t x. f t (there t x))
 
 -- the same, of what stands at a place
-pub rest-cut : {one : Rule} {close : ℕ} {s : List ℕ} {p a : ℕ} → Without one [] → Skipped blank s p a → length s ≤ a → Found (Rest one close) s p 0
+pub rest-cut : {one : Rule} {close : ℕ} {s : List ℕ} {p a : ℕ} → Without one [] → Skipped blank s p a → length s ≤ a → Found (Rest one close) s p None
 rest-cut {one} {close} {s} {p} {a} n k h =
     none
     (λ t. rest-cases (λ m b x. nothing (sym (at-end s a h) ∙ sym (k.only m b) ∙ x))
@@ -139,17 +140,17 @@ pub begin-at : {one : Rule} {close : ℕ} {s : List ℕ} {p a : ℕ} → Skipped
 begin-at {one} {close} {s} {p} {a} k h f = begin k (not_there s a close h f)
 
 module _ {one : Rule} {close : ℕ} {s : List ℕ} {p i e f : ℕ} (g : Going one close s p i) (v : Ends one s i e) (k : Skipped blank s e f) where
-  pub neither-at : f < length s → ((get_or s f 0 ≡ close) → ⊥) → ((get_or s f 0 ≡ 0x2C) → ⊥) → Found (Rest one close) s p 0
+  pub neither-at : f < length s → ((get_or s f 0 ≡ close) → ⊥) → ((get_or s f 0 ≡ 0x2C) → ⊥) → Found (Rest one close) s p None
   neither-at h x y = neither g v k (not_there s f close h x) (not_there s f 0x2C h y)
 
-  pub neither-end : length s ≤ f → Found (Rest one close) s p 0
+  pub neither-end : length s ≤ f → Found (Rest one close) s p None
   neither-end h = neither g v k (past s f close h) (past s f 0x2C h)
 
 module _ {value : Rule} {s : List ℕ} {p a b : ℕ} (n : Ends string s p a) (k : Skipped blank s a b) where
-  pub no-colon-at : b < length s → ((get_or s b 0 ≡ 0x3A) → ⊥) → Found (Member value) s p 0
+  pub no-colon-at : b < length s → ((get_or s b 0 ≡ 0x3A) → ⊥) → Found (Member value) s p None
   no-colon-at h f = no-colon n k (not_there s b 0x3A h f)
 
-  pub no-colon-end : length s ≤ b → Found (Member value) s p 0
+  pub no-colon-end : length s ≤ b → Found (Member value) s p None
   no-colon-end h = no-colon n k (past s b 0x3A h)
 
 no-string : (t : List ℕ) → string [] t → ⊥

@@ -1,13 +1,12 @@
 -- The names of an object, looked through one by one.
 -- Assumes nothing.
-use mathlib.Core.Bool.{Bool, true, false, cond}
+use mathlib.Core.Bool.{Bool, true, false}
 use mathlib.Core.Path.{◌≡◌, refl, sym, ap, subst, ◌∙◌}
 use mathlib.Core.List.{List, [], ◌∷◌, ◌++◌}
 use Prim.Native.Nat.{ℕ, ◌+◌, ◌-◌, ◌≤◌, ◌<◌}
 use native.Mathlib.Omega.{arith}
-use lib.Dec.{eqb}
 use lib.ListN.{length, get_or, drop, length-drop}
-use borrow.Author.Tests.{ne_eqb}
+use Rattle.std.specs.Prelude.{Option, None, Some}
 use Rattle.digits.specs.Paper.Read.{Decides, holds, fails}
 use Rattle.jsontext.specs.Paper.Abnf.{Rule, byte}
 use Rattle.jsontext.specs.Paper.Json.{blank}
@@ -76,9 +75,9 @@ moved {v} {t = t} e r = subst (λ (l : List ℕ). Moved v l t (names_in r) (memb
 
 -- ---- the next member
 
-pub later-none : {v : Rule} {s : List ℕ} {p e : ℕ} → Found (Member v) s p e → e ≡ 0 → Later v s p 0
-later-none f z =
-    last (λ k n. not_found f z _ (found n.member n.there).is) (λ t x. absurd (not_found f z (parted x).m (parted x).first))
+pub later-none : {v : Rule} {s : List ℕ} {p : ℕ} → Found (Member v) s p None → Later v s p None
+later-none f =
+    last (λ k n. not_found f _ (found n.member).is) (λ t x. absurd (not_found f (parted x).m (parted x).first))
 
 -- a place is known by what stands from it on
 pub same_place : (s : List ℕ) {i j : ℕ} → i ≤ length s → j ≤ length s → drop i s ≡ drop j s → i ≡ j
@@ -91,11 +90,11 @@ module _ {v : Rule} {s : List ℕ} {p e f : ℕ} (m : Ends (Member v) s p e) (k 
 
   next-meets : {j : ℕ} (n : Next v s p j) → (n.e ≡ e) × (drop n.f s ≡ drop f s)
   next-meets n =
-      let o = found n.member n.there in
+      let o = found n.member in
       let q : drop n.e s ≡ drop e s = m.only _ o.is in
       (same_place s o.within m.within q, k.only _ (subst (λ (l : List ℕ). Blanks l (drop n.f s)) q n.blanks.is))
 
-  it-ends : Without (byte 0x2C) (drop f s) → Later v s p 0
+  it-ends : Without (byte 0x2C) (drop f s) → Later v s p None
   it-ends h =
       last (λ j n. h (drop (n.f + 1) s) (sym (next-meets n).1 ∙ stands s n.f 0x2C n.inside n.comma))
       (λ t x.
@@ -112,20 +111,20 @@ module _ {v : Rule} {s : List ℕ} {p e f : ℕ} (m : Ends (Member v) s p e) (k 
       by (ended a) q = (refl, refl)
       by (goes {u = u} a b r) q = absurd (h u (sym q ∙ a))
 
-  pub later-end : length s ≤ f → Later v s p 0
+  pub later-end : length s ≤ f → Later v s p None
   later-end h = it-ends (past s f 0x2C h)
 
-  pub later_last : f < length s → ((get_or s f 0 ≡ 0x2C) → ⊥) → Later v s p 0
+  pub later_last : f < length s → ((get_or s f 0 ≡ 0x2C) → ⊥) → Later v s p None
   later_last h g = it-ends (not_there s f 0x2C h g)
 
 -- what is read, as the next place wants it
-pub a-next : {v : Rule} {s : List ℕ} {p e f j : ℕ} → Found (Member v) s p e → ((e ≡ 0) → ⊥) → Skipped blank s e f → f < length s → get_or s f 0 ≡ 0x2C
+pub a-next : {v : Rule} {s : List ℕ} {p e f j : ℕ} → Found (Member v) s p (Some e) → Skipped blank s e f → f < length s → get_or s f 0 ≡ 0x2C
     → Skipped blank s (f + 1) j → Next v s p j
-a-next {e = e} {f} m n k h c q = record { e = e; f = f; member = m; there = n; blanks = k; inside = h; comma = c; behind = q }
+a-next {e = e} {f} m k h c q = record { e = e; f = f; member = m; blanks = k; inside = h; comma = c; behind = q }
 
 module _ {v : Rule} {s : List ℕ} {i j : ℕ} (n : Next v s i j) where
   ends_there : Ends (Member v) s i n.e
-  ends_there = found n.member n.there
+  ends_there = found n.member
 
   pub onward : i < j
   onward = omega (arith, ends_there.on, n.blanks.on, n.behind.on)
@@ -165,24 +164,16 @@ module _ {v : Rule} {s : List ℕ} {i j : ℕ} (n : Next v s i j) where
       same_place s within (m.behind.within (omega arith)) (sym (n.behind.only _ (subst (λ (l : ℕ). Blanks (drop (l + 1) s) (drop k s)) f m.behind.is)))
 
 -- what falls: the places still before a walk
-pub span : List ℕ → ℕ → ℕ
-span s i = cond (eqb i 0) 0 (1 + (length s - i))
+abbrev pub span : List ℕ → Option ℕ → ℕ
+span s None = 0
+span s (Some i) = 1 + (length s - i)
 
-span-at : (s : List ℕ) (i : ℕ) → ((i ≡ 0) → ⊥) → span s i ≡ 1 + (length s - i)
-unfolding span
-span-at s i f = simp (ne_eqb i 0 f)
+pub later-less : {v : Rule} {s : List ℕ} {i : ℕ} {r : Option ℕ} → Later v s i r → span s r < span s (Some i)
+later-less (last g f) = omega arith
+later-less (next x) = omega (arith, onward x, within x)
 
-span-0 : (s : List ℕ) → span s 0 ≡ 0
-unfolding span
-span-0 s = refl
-
-pub later-less : {v : Rule} {s : List ℕ} {i r : ℕ} → ((i ≡ 0) → ⊥) → Later v s i r → span s r < span s i
-later-less {s = s} {i} n (last g f) = omega (arith, span-0 s, span-at s i n)
-later-less {s = s} {i} n (next {r = r} x) = omega (arith, onward x, within x, span-at s r (λ z. omega (arith, onward x)), span-at s i n)
-
-pub goes_further : {v : Rule} {s : List ℕ} {i r : ℕ} → Later v s i r → ((r ≡ 0) → ⊥) → Next v s i r
-goes_further (last g f) n = absurd (n refl)
-goes_further (next x) n = x
+pub goes_further : {v : Rule} {s : List ℕ} {i r : ℕ} → Later v s i (Some r) → Next v s i r
+goes_further (next x) = x
 
 -- ---- the members passed
 
@@ -261,15 +252,14 @@ module _ (names : Bool) {v : Rule} {s : List ℕ} {first at i : ℕ} (q : names 
       let (k, ks, n, rest, is) = walking w h in
       if-compared names q (fails (λ o. other-here (subst (Other (name_in (drop at s))) is (to o)) (sym e)))
 
-  pub no-next : i < at → {r : ℕ} → Later v s i r → r ≡ 0 → TellsNew names v s first at false
-  no-next h l z ns r =
+  pub no-next : i < at → Later v s i None → TellsNew names v s first at false
+  no-next h l ns r =
       let (ms, w, to, from) = c.left ns r in
       let (k, ks, n, rest, is) = walking w h in
-      absurd (none-there l z k n)
+      absurd (none-there l k n)
     where
-      none-there : {r : ℕ} → Later v s i r → r ≡ 0 → (k : ℕ) → Next v s i k → ⊥
-      none-there (last g f) e k n = g k n
-      none-there (next x) e k n = omega (arith, onward x)
+      none-there : Later v s i None → (k : ℕ) → Next v s i k → ⊥
+      none-there (last g f) k n = g k n
 
   pub all_new : at ≤ i → TellsNew names v s first at true
   all_new h ns r = let (ms, w, to, from) = c.left ns r in if-compared names q (holds (from (by w h)))
@@ -278,30 +268,29 @@ module _ (names : Bool) {v : Rule} {s : List ℕ} {first at i : ℕ} (q : names 
       by here g = paper.none
       by (on n w) g = absurd (omega (arith, onward n, reached-le w))
 
-pub compare-on : {v : Rule} {s : List ℕ} {first at i r : ℕ} → Comparing v s first at i → i < at → ((name_in (drop i s) ≡ name_in (drop at s)) → ⊥) → Later v s i r → ((r ≡ 0) → ⊥)
+pub compare-on : {v : Rule} {s : List ℕ} {first at i r : ℕ} → Comparing v s first at i → i < at → ((name_in (drop i s) ≡ name_in (drop at s)) → ⊥) → Later v s i (Some r)
     → Comparing v s first at r
-compare-on {v} {s} {first} {at} {i} {r} c h d l z =
+compare-on {v} {s} {first} {at} {i} {r} c h d l =
     record {
       left =
           λ ns w.
           let (ms, x, to, from) = c.left ns w in
           let (k, ks, n, rest, is) = walking x h in
-          let e : k ≡ r = one-next n (goes_further l z) in
+          let e : k ≡ r = one-next n (goes_further l) in
           (ks, subst (λ (j : ℕ). Reached v s j at ks) e rest, (λ o. other-behind (subst (Other (name_in (drop at s))) is (to o))), (λ o. from (subst (Other (name_in (drop at s))) (sym is) (paper.and (λ y. d (sym y)) o))));
     }
 
-pub onward-less : {v : Rule} {s : List ℕ} {at i r : ℕ} → i < at → Later v s i r → ((r ≡ 0) → ⊥) → at - r < at - i
-onward-less h l z = let k = onward (goes_further l z) in omega arith
+pub onward-less : {v : Rule} {s : List ℕ} {at i r : ℕ} → i < at → Later v s i (Some r) → at - r < at - i
+onward-less h l = let k = onward (goes_further l) in omega arith
 
 -- ---- an object
 
-pub no-object : {n : Bool} {v : Rule} {s : List ℕ} {p : ℕ} → Found (Rest (Member v) 0x7D) s p 0 → Found (Object n v) s p 0
-no-object f = none (λ t x. not_found f refl t x.members)
+pub no-object : {n : Bool} {v : Rule} {s : List ℕ} {p : ℕ} → Found (Rest (Member v) 0x7D) s p None → Found (Object n v) s p None
+no-object f = none (λ t x. not_found f t x.members)
 
 -- with names as is asked
-an-object : {n : Bool} {v : Rule} {s : List ℕ} {p e : ℕ} → Found (Rest (Member v) 0x7D) s p e → ((x : Rest (Member v) 0x7D (drop p s) (drop e s)) → Compared n (names_of x)) → Found (Object n v) s p e
+an-object : {n : Bool} {v : Rule} {s : List ℕ} {p e : ℕ} → Found (Rest (Member v) 0x7D) s p (Some e) → ((x : Rest (Member v) 0x7D (drop p s) (drop e s)) → Compared n (names_of x)) → Found (Object n v) s p (Some e)
 an-object (ends h k x o) f = ends h k (record { members = x; once = f x }) (λ t y. o t y.members)
-an-object (none f) g = none (λ t x. f t x.members)
 
 -- the object is read up to the member at a place
 pub record Inside (n : Bool) (d : ℕ) (s : List ℕ) (p first at : ℕ) : Type 0 where
@@ -320,7 +309,7 @@ none_yet false = tt
 pub enter : (n : Bool) (d : ℕ) {s : List ℕ} {p a : ℕ} → Skipped blank s p a → a < length s → ((get_or s a 0 ≡ 0x7D) → ⊥) → Inside n d s p a a
 enter n d k h f = record { going = begin-at k h f; start = k; some = h; no_end = f; names = []; reached = here; once = none_yet n }
 
-pub empty-object : (n : Bool) {v : Rule} {s : List ℕ} {p a : ℕ} → Skipped blank s p a → a < length s → get_or s a 0 ≡ 0x7D → Found (Object n v) s p (a + 1)
+pub empty-object : (n : Bool) {v : Rule} {s : List ℕ} {p a : ℕ} → Skipped blank s p a → a < length s → get_or s a 0 ≡ 0x7D → Found (Object n v) s p (Some (a + 1))
 unfolding names_of
 empty-object n {v} {s} {p} {a} k h e = an-object (rest-empty k h e) (λ x. by x refl)
   where
@@ -344,10 +333,10 @@ plain-rest : (n : Bool) (d : ℕ) {s t : List ℕ} (x : Rest (Member (tight.tigh
 plain-rest true d x = weaken-rest d x
 plain-rest false d x = record { rest = x; same = refl }
 
-pub plain-found : (n : Bool) (d : ℕ) {s : List ℕ} {p e : ℕ} → Found (Member (tight.tight n d)) s p e → ((e ≡ 0) → ⊥) → Found (Member (tight.tight false d)) s p e
-plain-found false d f z = f
-plain-found true d f z =
-    let m = found f z in
+pub plain-found : (n : Bool) (d : ℕ) {s : List ℕ} {p e : ℕ} → Found (Member (tight.tight n d)) s p (Some e) → Found (Member (tight.tight false d)) s p (Some e)
+plain-found false d f = f
+plain-found true d f =
+    let m = found f in
     let x = member-in-place (weaken d) _ _ m.is in
     ends m.on m.within x (λ t y. member-only false d _ _ _ _ refl y x)
 
@@ -360,12 +349,12 @@ module _ {n : Bool} {d : ℕ} {s : List ℕ} {p first at : ℕ} (o : Inside n d 
       let (r, g) = reached-names o.reached t z in
       (r, sym y.same ∙ e ∙ g)
 
-  pub named-twice : {b : Bool} → TellsNew n (tight.tight false d) s first at b → b ≡ false → Found (Object n (tight.tight n d)) s p 0
+  pub named-twice : {b : Bool} → TellsNew n (tight.tight false d) s first at b → b ≡ false → Found (Object n (tight.tight n d)) s p None
   named-twice t e = by n (told-false (t o.names o.reached) e) (λ u x. so_far u x)
     where
       by : (m : Bool) → (New m (name_in (drop at s)) o.names → ⊥)
           → ((u : List ℕ) (x : Rest (Member (tight.tight m d)) 0x7D (drop p s) u) → (r : Members (tight.tight false d) (drop at s) u) × (names_of x ≡ o.names ++ names_in r))
-          → Found (Object m (tight.tight m d)) s p 0
+          → Found (Object m (tight.tight m d)) s p None
       by false f g = absurd (f tt)
       by true f g =
           none
@@ -386,38 +375,34 @@ module _ {n : Bool} {d : ℕ} {s : List ℕ} {p first at : ℕ} (o : Inside n d 
         by true c w = once_last c w
         by false c w = tt
 
-    module _ {q f : ℕ} (m : Found (Member (tight.tight n d)) s at q) (z : (q ≡ 0) → ⊥) (k : Skipped blank s q f) (h : f < length s) where
-      pub object-ends : get_or s f 0 ≡ 0x7D → Found (Object n (tight.tight n d)) s p (f + 1)
+    module _ {q f : ℕ} (m : Found (Member (tight.tight n d)) s at (Some q)) (k : Skipped blank s q f) (h : f < length s) where
+      pub object-ends : get_or s f 0 ≡ 0x7D → Found (Object n (tight.tight n d)) s p (Some (f + 1))
       object-ends c =
-          an-object (closed o.going (found m z) k h c (λ e. omega arith))
+          an-object (closed o.going (found m) k h c (λ e. omega arith))
           (λ x.
           let (r, g) = so_far (drop (f + 1) s) x in
-          let l : names_in r ≡ name_in (drop at s) ∷ [] = single (later_last (found (plain-found n d m z) z) k h (λ i. different (sym c ∙ i))) r in
+          let l : names_in r ≡ name_in (drop at s) ∷ [] = single (later_last (found (plain-found n d m)) k h (λ i. different (sym c ∙ i))) r in
           subst (Compared n) (sym (g ∙ ap {B = List (List ℕ)} (λ i. o.names ++ i) l)) still-once)
         where
           different : ◌≡◌ {A = ℕ} 0x7D 0x2C → ⊥
           different i = omega arith
 
-          single : {v : Rule} {t : List ℕ} → Later v s at 0 → (x : Members v (drop at s) t) → names_in x ≡ name_in (drop at s) ∷ []
-          single {v} {t} l x = go l refl
-            where
-              go : {r : ℕ} → Later v s at r → r ≡ 0 → names_in x ≡ name_in (drop at s) ∷ []
-              go (last g f) i = (f t x).names
-              go (next y) i = absurd (omega (arith, onward y))
+          single : {v : Rule} {t : List ℕ} → Later v s at None → (x : Members v (drop at s) t) → names_in x ≡ name_in (drop at s) ∷ []
+          single {t = t} (last g f) x = (f t x).names
 
       pub object-on : {j : ℕ} → get_or s f 0 ≡ 0x2C → Skipped blank s (f + 1) j → Inside n d s p first j
       object-on c q =
           record {
-            going = another o.going (found m z) k h c (λ e. omega arith) q;
+            going = another o.going (found m) k h c (λ e. omega arith) q;
             start = o.start;
             some = o.some;
             no_end = o.no_end;
             names = o.names ++ (name_in (drop at s) ∷ []);
-            reached = reached-on o.reached (a-next (plain-found n d m z) z k h c q);
+            reached = reached-on o.reached (a-next (plain-found n d m) k h c q);
             once = still-once;
           }
 
 -- an object whose names are not compared is what stands between its brackets
-pub rest_of : {v : Rule} {s : List ℕ} {p e : ℕ} → Found (Object false v) s p e → Found (Rest (Member v) 0x7D) s p e
+pub rest_of : {v : Rule} {s : List ℕ} {p : ℕ} {e : Option ℕ} → Found (Object false v) s p e → Found (Rest (Member v) 0x7D) s p e
 rest_of (ends h k x o) = ends h k x.members (λ t y. o t (record { members = y; once = tt }))
 rest_of (none f) = none (λ t y. f t (record { members = y; once = tt }))

@@ -7,6 +7,7 @@ use Prim.Native.Nat.{ℕ, zero, suc, ◌≤◌, ◌<◌}
 use native.Mathlib.Omega.{arith}
 use lib.Dec.{eqb}
 use lib.ListN.{length, drop}
+use Rattle.std.specs.Prelude.{Option, Some}
 use Rattle.jsontext.specs.Paper.Abnf.{Rule}
 use Rattle.jsontext.specs.Paper.Faults.{Stops, InMember, no_name, no-colon, no_value, Names, InItems, no_item, twice, no-comma, further}
 use Rattle.jsontext.specs.Paper.Faults.{behind_blanks, value_stops, FaultOf, none, long, inside, behind}
@@ -120,10 +121,10 @@ a-value {s} g k n = let r = text-to most_depth s g.text in not-both r.b k n r.be
 no_end : (s : List ℕ) {b : List ℕ} {n : ℕ} → n < length s → Blanks b (drop n s) → Blanks b [] → ⊥
 no_end s {n = n} h x y = nothing (same-blanks refl y x ∙ at_place s n h)
 
-same_stop : (s : List ℕ) {w v : Lack} {n m : ℕ} → n ≤ length s → m ≤ length s → Same w (drop n s) v (drop m s) → At w n ≡ At v m
+same_stop : (s : List ℕ) {w v : Lack} {n m : ℕ} → n ≤ length s → m ≤ length s → Same w (drop n s) v (drop m s) → Some (At w n) ≡ Some (At v m)
 same_stop s {w} {v} {n} {m} h k (e, i) = let j : n ≡ m = same_place s h k i in rw e (rw j refl)
 
-pub one-fault : {s : List ℕ} {r q : Fault} → FaultOf s r → FaultOf s q → r ≡ q
+pub one-fault : {s : List ℕ} {r q : Option Fault} → FaultOf s r → FaultOf s q → r ≡ q
 one-fault (none g) (none h) = refl
 one-fault (none g) (long h) = absurd (omega (arith, g.short))
 one-fault (none g) (inside h b n l x) = absurd (a-value g b n)

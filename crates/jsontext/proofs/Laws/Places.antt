@@ -8,6 +8,7 @@ use native.Mathlib.Numerals.{add-one}
 use native.Mathlib.Omega.{arith}
 use lib.ListN.{length, get_or, drop}
 use lib.Seq.{drop-cons}
+use Rattle.std.specs.Prelude.{Option, None, Some}
 use Rattle.jsontext.specs.Paper.Abnf.{Rule, byte, ◌⨾◌}
 use Rattle.jsontext.specs.Work.Tight.{Without}
 use Rattle.digits.specs.Paper.Read.{Decides, holds, fails}
@@ -43,32 +44,31 @@ pub past : (s : List ℕ) (i b : ℕ) → length s ≤ i → Without (byte b) (d
 past s i b h t e = nothing (sym (at-end s i h) ∙ e)
 
 -- the same answer for a rule with the same meaning
-pub same-found : {a b : Rule} {s : List ℕ} {p r : ℕ} → ((t : List ℕ) → a (drop p s) t → b (drop p s) t) → ((t : List ℕ) → b (drop p s) t → a (drop p s) t) → Found a s p r → Found b s p r
+pub same-found : {a b : Rule} {s : List ℕ} {p : ℕ} {r : Option ℕ} → ((t : List ℕ) → a (drop p s) t → b (drop p s) t) → ((t : List ℕ) → b (drop p s) t → a (drop p s) t) → Found a s p r → Found b s p r
 same-found f g (ends h k x o) = ends h k (f _ x) (λ t y. o t (g t y))
 same-found f g (none n) = none (λ t y. n t (g t y))
 
 -- an answer for what stands one byte further on
-pub after-byte : {a b : Rule} {s : List ℕ} {p r : ℕ} → ((t : List ℕ) → a (drop (p + 1) s) t → b (drop p s) t) → ((t : List ℕ) → b (drop p s) t → a (drop (p + 1) s) t) → Found a s (p + 1) r → Found b s p r
+pub after-byte : {a b : Rule} {s : List ℕ} {p : ℕ} {r : Option ℕ} → ((t : List ℕ) → a (drop (p + 1) s) t → b (drop p s) t) → ((t : List ℕ) → b (drop p s) t → a (drop (p + 1) s) t) → Found a s (p + 1) r → Found b s p r
 after-byte {p = p} f g (ends {r} h k x o) = let l : p < r = omega arith in ends l k (f _ x) (λ t y. o t (g t y))
 after-byte f g (none n) = none (λ t y. n t (g t y))
 
 -- one byte
-pub one : {b : ℕ} {s : List ℕ} {p : ℕ} → p < length s → get_or s p 0 ≡ b → Found (byte b) s p (p + 1)
+pub one : {b : ℕ} {s : List ℕ} {p : ℕ} → p < length s → get_or s p 0 ≡ b → Found (byte b) s p (Some (p + 1))
 one {b} {s} {p} h e =
     let l : p < p + 1 = omega arith in
     let k : p + 1 ≤ length s = omega arith in
     ends l k (stands s p b h e) (λ t x. tail_of (sym x ∙ stands s p b h e))
 
-pub other : {b : ℕ} {s : List ℕ} {p : ℕ} → p < length s → ((get_or s p 0 ≡ b) → ⊥) → Found (byte b) s p 0
+pub other : {b : ℕ} {s : List ℕ} {p : ℕ} → p < length s → ((get_or s p 0 ≡ b) → ⊥) → Found (byte b) s p None
 other {b} {s} {p} h f = none (not_there s p b h f)
 
-pub beyond : {b : ℕ} {s : List ℕ} {p : ℕ} → length s ≤ p → Found (byte b) s p 0
+pub beyond : {b : ℕ} {s : List ℕ} {p : ℕ} → length s ≤ p → Found (byte b) s p None
 beyond {b} {s} {p} h = none (past s p b h)
 
--- an answer that is 0, and one that is not
-pub not_found : {a : Rule} {s : List ℕ} {p r : ℕ} → Found a s p r → r ≡ 0 → Without a (drop p s)
-not_found (ends h k x o) e = absurd (omega arith)
-not_found (none n) e = n
+-- no answer, and a place
+pub not_found : {a : Rule} {s : List ℕ} {p : ℕ} → Found a s p None → Without a (drop p s)
+not_found (none n) = n
 
 pub record Ends (a : Rule) (s : List ℕ) (p r : ℕ) : Type 0 where
   pub on : p < r
@@ -76,15 +76,14 @@ pub record Ends (a : Rule) (s : List ℕ) (p r : ℕ) : Type 0 where
   pub is : a (drop p s) (drop r s)
   pub only : (t : List ℕ) → a (drop p s) t → t ≡ drop r s
 
-pub found : {a : Rule} {s : List ℕ} {p r : ℕ} → Found a s p r → ((r ≡ 0) → ⊥) → Ends a s p r
-found (ends h k x o) f = record { on = h; within = k; is = x; only = o }
-found (none n) f = absurd (f refl)
+pub found : {a : Rule} {s : List ℕ} {p r : ℕ} → Found a s p (Some r) → Ends a s p r
+found (ends h k x o) = record { on = h; within = k; is = x; only = o }
 
 -- one behind the other
-pub then-none : {a b : Rule} {s : List ℕ} {p q : ℕ} → Found a s p q → q ≡ 0 → Found (a ⨾ b) s p 0
-then-none f z = none (λ t x. not_found f z x.0 x.1)
+pub then-none : {a b : Rule} {s : List ℕ} {p : ℕ} → Found a s p None → Found (a ⨾ b) s p None
+then-none f = none (λ t x. not_found f x.0 x.1)
 
-pub then_found : {a b : Rule} {s : List ℕ} {p q r : ℕ} → Ends a s p q → Found b s q r → Found (a ⨾ b) s p r
+pub then_found : {a b : Rule} {s : List ℕ} {p q : ℕ} {r : Option ℕ} → Ends a s p q → Found b s q r → Found (a ⨾ b) s p r
 then_found {a} {b} {s} {p} {q} x (ends {r} h k y o) =
     let l : p < r = omega (arith, x.on) in
     ends l k (drop q s, x.is, y) (λ t z. o t (subst (λ (l : List ℕ). b l t) (x.only z.0 z.1) z.2))

@@ -5,6 +5,7 @@ use mathlib.Core.List.{List, ◌∷◌}
 use Prim.Native.Nat.{ℕ, ◌+◌, ◌≤◌, ◌<◌}
 use native.Mathlib.Omega.{arith}
 use lib.ListN.{length, get_or, drop}
+use Rattle.std.specs.Prelude.{Option, None, Some}
 use Rattle.jsontext.specs.Paper.Abnf.{Rule, byte, many, done, more, ◌⨾◌}
 use Rattle.jsontext.specs.Paper.Json.{char, string}
 use Rattle.jsontext.specs.Work.Tight.{Char, Without}
@@ -42,11 +43,11 @@ opened {s} {p} h e =
       back = λ t x. (drop (p + 1) s, stands s p 0x22 h e, x);
     }
 
-pub not_opened : {s : List ℕ} {p : ℕ} → p < length s → ((get_or s p 0 ≡ 0x22) → ⊥) → Found string s p 0
+pub not_opened : {s : List ℕ} {p : ℕ} → p < length s → ((get_or s p 0 ≡ 0x22) → ⊥) → Found string s p None
 unfolding string
 not_opened {s} {p} h f = none (λ t x. not_there s p 0x22 h f x.0 x.1)
 
-pub no-string : {s : List ℕ} {p : ℕ} → length s ≤ p → Found string s p 0
+pub no-string : {s : List ℕ} {p : ℕ} → length s ≤ p → Found string s p None
 unfolding string
 no-string {s} {p} h = none (λ t x. past s p 0x22 h x.0 x.1)
 
@@ -54,7 +55,7 @@ quoted-end : (s t u : List ℕ) → s ≡ 0x22 ∷ u → Way s t → t ≡ u
 quoted-end s t u e (closes x) = tail_of (sym x ∙ e)
 quoted-end s t u e (goes m c r) = absurd (char-quote u m (subst (λ (l : List ℕ). char l m) e c))
 
-pub closed : {s : List ℕ} {p i : ℕ} → Inside s p i → i < length s → get_or s i 0 ≡ 0x22 → Found string s p (i + 1)
+pub closed : {s : List ℕ} {p i : ℕ} → Inside s p i → i < length s → get_or s i 0 ≡ 0x22 → Found string s p (Some (i + 1))
 closed {s} {p} {i} w h e =
     let l : p < i + 1 = omega (arith, w.on) in
     let k : i + 1 ≤ length s = omega arith in
@@ -64,27 +65,27 @@ no_way : (s t : List ℕ) → Without (byte 0x22) s → Without char s → Way s
 no_way s t f g (closes x) = f t x
 no_way s t f g (goes m c r) = g m c
 
-as-char : {s : List ℕ} {p r : ℕ} → Found Char s p r → Found char s p r
+as-char : {s : List ℕ} {p : ℕ} {r : Option ℕ} → Found Char s p r → Found char s p r
 as-char {s} {p} v = same-found (λ t x. from-char (drop p s) t x) (λ t x. to-char (drop p s) t x) v
 
-pub broken : {s : List ℕ} {p i r : ℕ} → Inside s p i → i < length s → ((get_or s i 0 ≡ 0x22) → ⊥) → Found Char s i r → r ≡ 0 → Found string s p 0
-broken {s} {p} {i} w h f v z = none (λ t x. no_way (drop i s) t (not_there s i 0x22 h f) (not_found (as-char v) z) (way (drop i s) t (w.there t x)))
+pub broken : {s : List ℕ} {p i : ℕ} → Inside s p i → i < length s → ((get_or s i 0 ≡ 0x22) → ⊥) → Found Char s i None → Found string s p None
+broken {s} {p} {i} w h f v = none (λ t x. no_way (drop i s) t (not_there s i 0x22 h f) (not_found (as-char v)) (way (drop i s) t (w.there t x)))
 
-pub unclosed : {s : List ℕ} {p i : ℕ} → Inside s p i → length s ≤ i → Found string s p 0
+pub unclosed : {s : List ℕ} {p i : ℕ} → Inside s p i → length s ≤ i → Found string s p None
 unclosed {s} {p} {i} w h = none (λ t x. no_way (drop i s) t (past s i 0x22 h) (λ m c. char-never m (subst (λ (l : List ℕ). char l m) (at-end s i h) c)) (way (drop i s) t (w.there t x)))
 
 onwards : (s u t : List ℕ) → Without (byte 0x22) s → ((m : List ℕ) → char s m → m ≡ u) → Way s t → Inner u t
 onwards s u t f o (closes x) = absurd (f t x)
 onwards s u t f o (goes m c r) = subst (λ (l : List ℕ). Inner l t) (o m c) r
 
-pub one_more : {s : List ℕ} {p i r : ℕ} → Inside s p i → i < length s → ((get_or s i 0 ≡ 0x22) → ⊥) → Found Char s i r → ((r ≡ 0) → ⊥) → Inside s p r
-one_more {s} {p} {i} {r} w h f v n =
-    let x : Ends char s i r = found (as-char v) n in
+pub one_more : {s : List ℕ} {p i r : ℕ} → Inside s p i → i < length s → ((get_or s i 0 ≡ 0x22) → ⊥) → Found Char s i (Some r) → Inside s p r
+one_more {s} {p} {i} {r} w h f v =
+    let x : Ends char s i r = found (as-char v) in
     record {
       on = omega (arith, w.on, x.on);
       there = λ t y. onwards (drop i s) (drop r s) t (not_there s i 0x22 h f) x.only (way (drop i s) t (w.there t y));
       back = λ t y. w.back t (y.0, more x.is y.1, y.2);
     }
 
-pub goes_on : {s : List ℕ} {i r : ℕ} → Found Char s i r → ((r ≡ 0) → ⊥) → (i < r) × (r ≤ length s)
-goes_on v n = ((found v n).on, (found v n).within)
+pub goes_on : {s : List ℕ} {i r : ℕ} → Found Char s i (Some r) → (i < r) × (r ≤ length s)
+goes_on v = ((found v).on, (found v).within)

@@ -7,6 +7,7 @@ use Prim.Native.Nat.{ℕ, zero, suc, ◌+◌, ◌-◌, ◌≤◌, ◌<◌}
 use native.Mathlib.Omega.{arith}
 use lib.ListN.{length, get_or, drop}
 use borrow.Author.Tests.{ne_eqb}
+use Rattle.std.specs.Prelude.{Option, None}
 use Rattle.digits.specs.Paper.Ascii.{ascii}
 use Rattle.jsontext.specs.Paper.Abnf.{Rule, text}
 use Rattle.jsontext.specs.Paper.Json.{string}
@@ -17,7 +18,7 @@ use Rattle.jsontext.proofs.Laws.Places.{tail_of, head_of, nothing, at-end, stand
 pub unlead : {f : ℕ → Rule} {b : ℕ} {s u t : List ℕ} → s ≡ b ∷ u → Lead f s t → f b u t
 unlead {f} {b} {s} {u} {t} e (lead {b = c} {u = v} x y) = subst (λ (l : List ℕ). f b l t) (tail_of (sym x ∙ e)) (subst (λ (n : ℕ). f n v t) (head_of (sym x ∙ e)) y)
 
-module _ {f : ℕ → Rule} {s : List ℕ} {p r : ℕ} (b : ℕ) (h : p < length s) (e : get_or s p 0 ≡ b) where
+module _ {f : ℕ → Rule} {s : List ℕ} {p : ℕ} {r : Option ℕ} (b : ℕ) (h : p < length s) (e : get_or s p 0 ≡ b) where
   pub led-here : (x : Rule) → ((u t : List ℕ) → x (b ∷ u) t → f b u t) → ((u t : List ℕ) → f b u t → x (b ∷ u) t) → Found x s p r → Found (Lead f) s p r
   led-here x to from v =
       let there : drop p s ≡ b ∷ drop (p + 1) s = stands s p b h e in
@@ -28,22 +29,22 @@ module _ {f : ℕ → Rule} {s : List ℕ} {p r : ℕ} (b : ℕ) (h : p < length
       let there : drop p s ≡ b ∷ drop (p + 1) s = stands s p b h e in
       after-byte (λ t y. lead there (to (drop (p + 1) s) t y)) (λ t y. from (drop (p + 1) s) t (unlead there y)) v
 
-pub led-none : {f : ℕ → Rule} {s : List ℕ} {p : ℕ} (b : ℕ) → p < length s → get_or s p 0 ≡ b → ((u t : List ℕ) → f b u t → ⊥) → Found (Lead f) s p 0
+pub led-none : {f : ℕ → Rule} {s : List ℕ} {p : ℕ} (b : ℕ) → p < length s → get_or s p 0 ≡ b → ((u t : List ℕ) → f b u t → ⊥) → Found (Lead f) s p None
 led-none {f} {s} {p} b h e n = none (λ t y. n (drop (p + 1) s) t (unlead (stands s p b h e) y))
 
 no_lead : {f : ℕ → Rule} {s t : List ℕ} → s ≡ [] → Lead f s t → ⊥
 no_lead e (lead x y) = nothing (sym e ∙ x)
 
-pub led-end : {f : ℕ → Rule} {s : List ℕ} {p : ℕ} → length s ≤ p → Found (Lead f) s p 0
+pub led-end : {f : ℕ → Rule} {s : List ℕ} {p : ℕ} → length s ≤ p → Found (Lead f) s p None
 led-end {s = s} {p} h = none (λ t y. no_lead (at-end s p h) y)
 
 -- a value nested no deeper than 0
-pub too-deep : (names : Bool) {s : List ℕ} {d p : ℕ} → d ≡ 0 → Found (tight names d) s p 0
+pub too-deep : (names : Bool) {s : List ℕ} {d p : ℕ} → d ≡ 0 → Found (tight names d) s p None
 unfolding tight
 too-deep names e = rw e (none (λ t x. x))
 
 -- one deeper
-deep : (names : Bool) {s : List ℕ} {d p r : ℕ} → ((d ≡ 0) → ⊥) → Found (Lead (leads names (tight names (d - 1)))) s p r → Found (tight names d) s p r
+deep : (names : Bool) {s : List ℕ} {d p : ℕ} {r : Option ℕ} → ((d ≡ 0) → ⊥) → Found (Lead (leads names (tight names (d - 1)))) s p r → Found (tight names d) s p r
 unfolding tight
 deep names {s} {d} {p} {r} f v = go d f v
   where
@@ -51,10 +52,10 @@ deep names {s} {d} {p} {r} f v = go d f v
     go zero f v = absurd (f refl)
     go (suc d) f v = let z : suc d - 1 ≡ d = omega arith in subst (λ (n : ℕ). Found (Lead (leads names (tight names n))) s p r) z v
 
-pub no_value : (names : Bool) {s : List ℕ} {d p : ℕ} → ((d ≡ 0) → ⊥) → length s ≤ p → Found (tight names d) s p 0
+pub no_value : (names : Bool) {s : List ℕ} {d p : ℕ} → ((d ≡ 0) → ⊥) → length s ≤ p → Found (tight names d) s p None
 no_value names f h = deep names f (led-end h)
 
-module _ (names : Bool) {s : List ℕ} {d p r : ℕ} (f : (d ≡ 0) → ⊥) (h : p < length s) where
+module _ (names : Bool) {s : List ℕ} {d p : ℕ} {r : Option ℕ} (f : (d ≡ 0) → ⊥) (h : p < length s) where
   pub is-string : get_or s p 0 ≡ 0x22 → Found string s p r → Found (tight names d) s p r
   unfolding leads
   is-string e v = deep names f (led-here 0x22 h e string (λ u t x. x) (λ u t x. x) v)
@@ -83,7 +84,7 @@ pub leads-number : (names : Bool) (v : Rule) (b : ℕ) (u t : List ℕ) → ((b 
 unfolding leads
 leads-number names v b u t a1 a2 a3 a4 a5 a6 = simp (ne_eqb b 0x22 a1, ne_eqb b 0x7B a2, ne_eqb b 0x5B a3, ne_eqb b 0x74 a4, ne_eqb b 0x66 a5, ne_eqb b 0x6E a6)
 
-pub is_number : (names : Bool) {s : List ℕ} {d p r : ℕ} → ((d ≡ 0) → ⊥) → p < length s → ((get_or s p 0 ≡ 0x22) → ⊥) → ((get_or s p 0 ≡ 0x7B) → ⊥) → ((get_or s p 0 ≡ 0x5B) → ⊥) → ((get_or s p 0 ≡ 0x74) → ⊥) → ((get_or s p 0 ≡ 0x66) → ⊥) → ((get_or s p 0 ≡ 0x6E) → ⊥) → Found Number s p r → Found (tight names d) s p r
+pub is_number : (names : Bool) {s : List ℕ} {d p : ℕ} {r : Option ℕ} → ((d ≡ 0) → ⊥) → p < length s → ((get_or s p 0 ≡ 0x22) → ⊥) → ((get_or s p 0 ≡ 0x7B) → ⊥) → ((get_or s p 0 ≡ 0x5B) → ⊥) → ((get_or s p 0 ≡ 0x74) → ⊥) → ((get_or s p 0 ≡ 0x66) → ⊥) → ((get_or s p 0 ≡ 0x6E) → ⊥) → Found Number s p r → Found (tight names d) s p r
 is_number names {s} {d} {p} f h a1 a2 a3 a4 a5 a6 v =
     let same : (u t : List ℕ) → leads names (tight names (d - 1)) (get_or s p 0) u t ≡ Number (get_or s p 0 ∷ u) t = λ u t. leads-number names (tight names (d - 1)) (get_or s p 0) u t a1 a2 a3 a4 a5 a6 in
     deep names f (led-here (get_or s p 0) h refl Number (λ u t x. subst (λ (A : Type 0). A) (sym (same u t)) x) (λ u t x. subst (λ (A : Type 0). A) (same u t) x) v)

@@ -7,10 +7,10 @@ use Rattle.jsontext.proofs.accepts.Goals as goal
 pub returns-then-text-gt-MOST_BYTES : goal.returns-then-text-gt-MOST_BYTES
 returns-then-text-gt-MOST_BYTES c = too_long c.if-text-gt-MOST_BYTES.true
 
-pub returns-then-end-eq0 : goal.returns-then-end-eq0
-returns-then-end-eq0 c = no_value c.blanks-start.ensures c.value-end.ensures c.if-end-eq0.true
+pub returns-in_default : goal.returns-in_default
+returns-in_default c = no_value c.blanks-start.ensures c.in_default.ensures
 
 pub returns : goal.returns
 returns c =
-    judged c.blanks-start.ensures (found c.value-end.ensures c.if-end-eq0.false) c.blanks.ensures
+    judged c.blanks-start.ensures (found c.in-Some.ensures) c.blanks.ensures
     c.if-text-gt-MOST_BYTES.false

@@ -2,7 +2,8 @@
 -- must stand there. The text is read as the grammar has it, from the front (Work/Tight), and the fault is where the
 -- reading has to stop.
 -- Assumes nothing.
-use Rattle.std.specs.Prelude.{true, cond, List, [], ◌∷◌, ◌++◌, ◌≡◌, ℕ, zero, suc, ◌≤◌, ◌<◌, eqb, length, drop}
+use Rattle.std.specs.Prelude.{true, cond, List, [], ◌∷◌, ◌++◌, ◌≡◌, ℕ, ◌≤◌, ◌<◌, eqb, length, drop}
+use Rattle.std.specs.Prelude.{zero, suc, Option, None, Some}
 use Rattle.jsontext.specs.Paper.Abnf.{Rule, byte}
 use Rattle.jsontext.specs.Paper.Json.{string}
 use Rattle.jsontext.specs.Paper.Names.{Other, InGrammar, most_bytes, most_depth}
@@ -11,7 +12,7 @@ use Rattle.jsontext.specs.Work.Units.{name_in}
 use Rattle.jsontext.specs.declared.faults.Lack.{Lack}
 use Rattle.jsontext.specs.declared.faults.Lack.TheVariants.{Value, Depth, Name, OtherName, Colon, Comma, End}
 use Rattle.jsontext.specs.declared.faults.Fault.{Fault}
-use Rattle.jsontext.specs.declared.faults.Fault.TheVariants.{None, Long, At}
+use Rattle.jsontext.specs.declared.faults.Fault.TheVariants.{Long, At}
 
 -- `f s w t`: the reading of s stops where t stands, and w must stand there
 abbrev pub Stops : Type 1
@@ -82,10 +83,10 @@ object_stops d = members_stop d (value_stops d)
 
 -- JSON-text = ws value ws. None: the text is in the grammar. Long: it has more than 8,192 bytes. At w n: w must stand
 -- at byte n, counted from 0, and does not; for `End`, a value has ended and more stands behind it
-pub data FaultOf (s : List ℕ) : Fault → Type 0 where
+pub data FaultOf (s : List ℕ) : Option Fault → Type 0 where
   none : InGrammar s → FaultOf s None
-  long : most_bytes < length s → FaultOf s Long
+  long : most_bytes < length s → FaultOf s (Some Long)
   inside : {a : List ℕ} {w : Lack} {n : ℕ} → length s ≤ most_bytes → Blanks s a → Without (tight true most_depth) a
-      → n ≤ length s → value_stops most_depth a w (drop n s) → FaultOf s (At w n)
+      → n ≤ length s → value_stops most_depth a w (drop n s) → FaultOf s (Some (At w n))
   behind : {a b : List ℕ} {n : ℕ} → length s ≤ most_bytes → Blanks s a → tight true most_depth a b
-      → n < length s → Blanks b (drop n s) → FaultOf s (At End n)
+      → n < length s → Blanks b (drop n s) → FaultOf s (Some (At End n))

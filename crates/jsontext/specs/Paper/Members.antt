@@ -1,18 +1,16 @@
 -- RFC 8259, 4: the members of an object, for a caller that reads them; and the promises of those readers. 02, K4: "An
 -- object with the members of a line of 01, .. in any order"; "strings read with their escapes".
 -- Assumes nothing.
-use Rattle.std.specs.Prelude.{List, [], ◌∷◌, ◌++◌, ◌≡◌, ℕ, ◌-◌, ◌≤◌, ◌<◌, length}
+use Rattle.std.specs.Prelude.{List, [], ◌∷◌, ◌++◌, ◌≡◌, ℕ, ◌-◌, ◌≤◌, ◌<◌, length, Result, Ok, Err}
 use Rattle.digits.specs.Paper.Bytes.{Bytes}
 use Rattle.digits.specs.Paper.Part.{Ends, zero_ends}
 use Rattle.digits.specs.Paper.Refusals.{refusal_number, Answers}
+use Rattle.digits.specs.declared.refusal.Refusal.{Refusal}
 use Rattle.puts.specs.Paper.Right.{WritesRight}
-use Rattle.puts.specs.declared.Written.{Written}
+use Rattle.puts.specs.Paper.Wrote.{Written}
 use Rattle.jsontext.specs.Paper.Json.{blank, value, JSON-text}
 use Rattle.jsontext.specs.Paper.Names.{Member, object_of, spelt, most_bytes, most_depth}
-use Rattle.jsontext.specs.declared.members.Many.{Many}
-use Rattle.jsontext.specs.declared.members.Many.TheVariants.{Is, Refused}
 use Rattle.jsontext.specs.declared.members.Value.{Value}
-use Rattle.jsontext.specs.declared.members.Value.TheVariants.{At, Refused as NoValue}
 
 -- ---- the members
 
@@ -47,15 +45,15 @@ pub record CountOf (s : List ℕ) (n : ℕ) : Type 0 where
   pub object : IsObject s members
   pub is : n ≡ length members
 
-abbrev pub count_refusal : Many → ℕ
-count_refusal (Is n) = 0
-count_refusal (Refused why) = refusal_number why
+abbrev pub count_refusal : Result ℕ Refusal → ℕ
+count_refusal (Ok n) = 0
+count_refusal (Err why) = refusal_number why
 
-abbrev pub count_value : Many → ℕ
-count_value (Is n) = n
-count_value (Refused why) = 0
+abbrev pub count_value : Result ℕ Refusal → ℕ
+count_value (Ok n) = n
+count_value (Err why) = 0
 
-abbrev pub Counts : List ℕ → Many → Type 0
+abbrev pub Counts : List ℕ → Result ℕ Refusal → Type 0
 Counts s r = Answers 0 (CountCause s) (CountOf s) (count_refusal r) (count_value r)
 
 -- ---- the value of one of them
@@ -75,15 +73,15 @@ pub record ValueOf (s name : List ℕ) (e : Ends) : Type 0 where
   pub first : FirstNamed name members member
   pub is : e ≡ value_ends s member
 
-abbrev pub value_refusal : Value → ℕ
-value_refusal (At from to) = 0
-value_refusal (NoValue why) = refusal_number why
+abbrev pub value_refusal : Result Value Refusal → ℕ
+value_refusal (Ok v) = 0
+value_refusal (Err why) = refusal_number why
 
-abbrev pub value_value : Value → Ends
-value_value (At from to) = record { from = from; to = to }
-value_value (NoValue why) = zero_ends
+abbrev pub value_value : Result Value Refusal → Ends
+value_value (Ok v) = record { from = v.from; to = v.to }
+value_value (Err why) = zero_ends
 
-abbrev pub FindsValue : List ℕ → List ℕ → Value → Type 0
+abbrev pub FindsValue : List ℕ → List ℕ → Result Value Refusal → Type 0
 FindsValue s name r = Answers zero_ends (ValueCause s name) (ValueOf s name) (value_refusal r) (value_value r)
 
 -- ---- a string's characters

@@ -1,7 +1,7 @@
 -- What the readers of names answer.
 -- Assumes nothing.
-use Rattle.std.specs.Prelude.{Bool, true, false, cond, List, [], ◌∷◌, ◌≡◌, ℕ, ◌+◌, ◌-◌, ◌*◌, ◌<◌, eqb, length, get_or}
-use Rattle.std.specs.Prelude.{drop}
+use Rattle.std.specs.Prelude.{Bool, true, false, List, [], ◌∷◌, ◌≡◌, ℕ, ◌+◌, ◌<◌, length, get_or}
+use Rattle.std.specs.Prelude.{drop, Option, None, Some}
 use Rattle.digits.specs.Paper.Read.{Decides}
 use Rattle.jsontext.specs.Paper.Abnf.{Rule}
 use Rattle.jsontext.specs.Paper.Json.{blank}
@@ -10,32 +10,12 @@ use Rattle.jsontext.specs.Work.Found.{Found, Skipped}
 use Rattle.jsontext.specs.Work.Members.{member_in, members_in}
 use Rattle.jsontext.specs.Work.Tight.{Member, Elements, names_in}
 use Rattle.jsontext.specs.Work.Units.{units, name_in}
-use Rattle.jsontext.specs.declared.units.Cursor.{Cursor}
-use Rattle.jsontext.specs.declared.units.Unit.{Unit as NextUnit}
-use Rattle.jsontext.specs.declared.units.Unit.TheVariants.{Is, End}
-use Rattle.jsontext.specs.declared.units.Met.{Met}
-use Rattle.jsontext.specs.declared.units.Met.TheVariants.{Both, Told}
 
--- ---- units
-
--- the units left at a cursor: the second of a character of four bytes, if it waits, and those that stand behind
-unfoldable pub left : List ℕ → Cursor → List ℕ
-left s c = cond (eqb c.low 0) (units (drop c.at s)) (c.low ∷ units (drop c.at s))
-
--- what a walk has before it, a number that falls with each unit
-unfoldable pub weight : List ℕ → Cursor → ℕ
-weight s c = 2 * (length s - c.at) + cond (eqb c.low 0) 0 1
-
--- the next unit, and the cursor behind it
-pub data Steps (s : List ℕ) (c : Cursor) : NextUnit → Type 0 where
-  ended : left s c ≡ [] → Steps s c End
-  goes : {u : ℕ} {d : Cursor} → left s c ≡ u ∷ left s d → weight s d < weight s c → Steps s c (Is u d)
-
--- one unit of each of two strings, compared
-pub data Compares (s : List ℕ) (x y : Cursor) : Met → Type 0 where
-  told : {b : Bool} → Decides (left s x ≡ left s y) b → Compares s x y (Told b)
-  on : {v w : Cursor} {u : ℕ} → left s x ≡ u ∷ left s v → left s y ≡ u ∷ left s w → weight s v < weight s x
-      → Compares s x y (Both v w)
+-- the units left of a string: the second of a character of four bytes, if it waits, and those of the bytes that
+-- are left
+abbrev pub left : Option ℕ → List ℕ → List ℕ
+left None s = units s
+left (Some low) s = low ∷ units s
 
 -- ---- names
 
@@ -61,18 +41,17 @@ pub record Behind (value : Rule) (s : List ℕ) (i r : ℕ) (t : List ℕ) (x : 
 pub record Next (value : Rule) (s : List ℕ) (i k : ℕ) : Type 0 where
   pub e : ℕ
   pub f : ℕ
-  pub member : Found (Member value) s i e
-  pub there : (e ≡ 0) → ⊥
+  pub member : Found (Member value) s i (Some e)
   pub blanks : Skipped blank s e f
   pub inside : f < length s
   pub comma : get_or s f 0 ≡ 0x2C
   pub behind : Skipped blank s (f + 1) k
 
--- where the next member stands; 0 if there is none
-pub data Later (value : Rule) (s : List ℕ) (i : ℕ) : ℕ → Type 0 where
+-- where the next member stands, if there is one
+pub data Later (value : Rule) (s : List ℕ) (i : ℕ) : Option ℕ → Type 0 where
   last : ((k : ℕ) → Next value s i k → ⊥) → ((t : List ℕ) (x : Members value (drop i s) t) → Single value s i t x)
-      → Later value s i 0
-  next : {r : ℕ} → Next value s i r → Later value s i r
+      → Later value s i None
+  next : {r : ℕ} → Next value s i r → Later value s i (Some r)
 
 -- the members from i on, up to j: their names
 pub data Reached (value : Rule) (s : List ℕ) : ℕ → ℕ → List (List ℕ) → Type 0 where

@@ -4,18 +4,20 @@
 use mathlib.Core.Bool.{Bool, true, false, true≢false}
 use mathlib.Core.List.{List, [], ◌∷◌, ◌++◌, append_assoc}
 use mathlib.Core.Path.{◌≡◌, refl, sym, ◌∙◌, ap, ap₂, subst}
-use Prim.Native.Nat.{ℕ, zero, suc, ◌+◌, ◌-◌, ◌^◌, ◌≤◌, ◌<◌}
+use Prim.Native.Nat.{ℕ, zero, suc, ◌+◌, ◌≤◌, ◌<◌}
 use native.Mathlib.Omega.{arith}
-use lib.Dec.{T, eqb, leb, eqb→eq, leb→le}
+use lib.Dec.{T, eqb, eqb→eq, leb→le}
 use lib.ListN.{length, get_or, take, drop, length-append, length-take, length-drop, take-append-drop}
 use lib.Seq.{get_or-take, take-append_seam, drop-append_seam, length-take-le, take_at, drop_at}
 use borrow.Author.Tests.{eq-eqb, le-leb}
+use Rattle.std.specs.Prelude.{Some, nat_eq}
+use Rattle.std.specs.Cmp.Lexicographic.{pointwise, same_text, other_text}
 use Rattle.digits.proofs.Laws.Parts.{part-rest}
 use Rattle.digits.proofs.Laws.Tests.{T_and, T_true}
 use Rattle.digits.specs.Paper.Bytes.{part}
 use Rattle.layouts.specs.Paper.Chars.{all}
 use Rattle.layouts.specs.Paper.Layout.{StartsWith}
-use Rattle.layouts.specs.Work.Heads.{only_if, starts, word_len, run_len, on, onward, and_then, or_else, passing}
+use Rattle.layouts.specs.Work.Heads.{Ends, only_if, starts, word_len, run_len, on, onward, and_then, or_else, passing}
 
 -- s starts with a word of P, of n elements
 pub record Head (P : List ℕ → Type 0) (s : List ℕ) (n : ℕ) : Type 0 where
@@ -114,6 +116,15 @@ starts? p s = go (starts p s) refl
     go true e = yes (starts_with p s e)
     go false e = no (not-starts p s e)
 
+-- what the library's test tells
+pub starts-told : (p s : List ℕ) (r : Bool) → r ≡ pointwise nat_eq p (take (length p) s) → r ≡ starts p s
+starts-told p s true e = sym (with-starts p s (sym (same_text p (take (length p) s) e)))
+starts-told p s false e = go (starts p s) refl
+  where
+    go : (b : Bool) → starts p s ≡ b → false ≡ b
+    go true t = absurd (other_text p (take (length p) s) e (sym (starts_with p s t)))
+    go false t = refl
+
 -- each byte of the mark
 pub mark-at : (p s : List ℕ) → StartsWith p s → (i : ℕ) → i < length p → get_or s i 0 ≡ get_or p i 0
 mark-at p s e i h = sym (get_or-take (length p) s i 0 h) ∙ ap (λ (w : List ℕ). get_or w i 0) e
@@ -143,21 +154,9 @@ pub word-there : (w s : List ℕ) → starts w s ≡ true → word_len w s ≡ l
 unfolding word_len
 word-there w s e = only_yes _ _ e
 
-pub word-length : (w s : List ℕ) → 0 < word_len w s → word_len w s ≡ length w
+pub word-missing : (w s : List ℕ) → starts w s ≡ false → word_len w s ≡ 0
 unfolding word_len
-word-length w s h = only-eq _ _ h
-
--- a word of any length lies in the list
-pub word-inside : (w s : List ℕ) → word_len w s ≤ length s
-unfolding word_len only_if
-word-inside w s = go (starts w s) refl
-  where
-    go : (b : Bool) → starts w s ≡ b → only_if b (length w) ≤ length s
-    go false e = omega arith
-    go true e =
-        let h : s ≡ w ++ drop (length w) s = starts-splits w s (rw e tt) in
-        let l : length s ≡ length (w ++ drop (length w) s) = ap length h in
-        omega (arith, length-append w (drop (length w) s))
+word-missing w s e = only_no _ _ e
 
 -- two words of one length: the first is at the head of the second and what follows only where they are the same
 pub starts-same : (u v t : List ℕ) → length u ≡ length v → T (starts u (v ++ t)) → u ≡ v
@@ -195,19 +194,6 @@ module _ (f : ℕ → Bool) (k : ℕ) where
           let l : k ≤ length (u ++ t) = omega (arith, length-append u t, r.size) in
           let e : take k (u ++ t) ≡ u = take_at u t k r.size in
           only_yes _ _ (le-leb k (length (u ++ t)) l) ∙ only_yes _ _ (rw e (T_true _ r.each)) ∙ sym r.size
-
--- a run of any length lies in the list
-pub run_inside : (f : ℕ → Bool) (k : ℕ) (s : List ℕ) → run_len f k s ≤ length s
-unfolding run_len only_if
-run_inside f k s = go (leb k (length s)) refl
-  where
-    inner : (b : Bool) → k ≤ length s → only_if b k ≤ length s
-    inner true h = h
-    inner false h = omega arith
-
-    go : (b : Bool) → leb k (length s) ≡ b → only_if b (only_if (all f (take k s)) k) ≤ length s
-    go true e = inner (all f (take k s)) (leb→le k (length s) (rw e tt))
-    go false e = omega arith
 
 -- two lists, each of two parts of which the first are equally long: the parts are the same
 pub cut-same : (a b c d : List ℕ) → length a ≡ length b → a ++ c ≡ b ++ d → (a ≡ b) × (c ≡ d)
@@ -375,25 +361,24 @@ module _ {P : List ℕ → Type 0} {f : List ℕ → ℕ} (p : Right P f) where
   found s n h a =
       ap f (sym (take-append-drop n s)) ∙ p.complete a (drop n s) ∙ length-take-le n s h
 
--- what stands at a place ends in the list, too, wherever it is looked for
-pub ends-inside : (f : List ℕ → ℕ) → ((s : List ℕ) → f s ≤ length s) → (s : List ℕ) (at r : ℕ) → r ≡ onward f s at → r ≤ length s
+-- what the code finds in the part from a place on
+module _ (f : List ℕ → ℕ) (s : List ℕ) (at : ℕ) where
+  pub onward-none : f (part at (length s) s) ≡ 0 → onward f s at ≡ 0
+  onward-none e = ap (on at) (ap f (sym (part-rest at s)) ∙ e) ∙ on_none at
+
+  pub onward-some : {n : ℕ} → 0 < at → n ≡ f (part at (length s) s) → 0 < n → at + n ≡ onward f s at
+  onward-some p e q = sym (on_both at _ p q) ∙ ap (on at) (e ∙ ap f (part-rest at s))
+
+-- .. behind what h found
+module _ (h f : List ℕ → ℕ) {s : List ℕ} {a : ℕ} (is : Ends h s (Some a)) where
+  pub then-some : {n : ℕ} → Ends f (part a (length s) s) (Some n) → Ends (and_then h (λ _. f)) s (Some (a + n))
+  then-some q =
+      let e = subst (λ (k : ℕ). onward f s a ≡ onward f s k) is.0 refl in
+      (onward-some f s a is.1 q.0 q.1 ∙ e, omega (arith, is.1), omega (arith, q, ap length (part-rest a s), length-drop a s, is.2))
+
+  pub then-none : f (part a (length s) s) ≡ 0 → and_then h (λ _. f) s ≡ 0
+  then-none z = subst (λ (k : ℕ). onward f s k ≡ 0) is.0 (onward-none f s a z)
+
+pub then-stops : (h f : List ℕ → ℕ) {s : List ℕ} → h s ≡ 0 → and_then h (λ _. f) s ≡ 0
 unfolding on
-ends-inside f inner s zero r e = omega arith
-ends-inside f inner s (suc a) r e = go (f (drop (suc a) s)) (inner (drop (suc a) s)) e
-  where
-    go : (n : ℕ) → n ≤ length (drop (suc a) s) → r ≡ on (suc a) n → r ≤ length s
-    go zero k e = omega arith
-    go (suc n) k e = omega (arith, length-drop (suc a) s)
-
-pub onward-inside : (f : List ℕ → ℕ) → ((s : List ℕ) → f s ≤ length s) → (s : List ℕ) (at : ℕ) → at ≤ length s → onward f s at ≤ length s
-onward-inside f inner s at h = ends-inside f inner s at (onward f s at) refl
-
--- what the code finds in the part from a place on: its end is no larger than a slice is long, and is where the word ends
-module _ (f : List ℕ → ℕ) (s : List ℕ) (at n : ℕ) (e : n ≡ f (part at (length s) s)) where
-  pub at-fits : ((u : List ℕ) → f u ≤ length u) → at ≤ length s → length s < 2 ^ 64 → at + n < 2 ^ 64
-  at-fits inner h l =
-      let k : n ≤ length (drop at s) = rw (e, part-rest at s) (inner (drop at s)) in
-      omega (arith, length-drop at s)
-
-  pub at-ends : (r : ℕ) → r ≡ on at n → r ≡ onward f s at
-  at-ends r q = q ∙ ap (on at) (e ∙ ap f (part-rest at s))
+then-stops h f z = rw z

@@ -2,12 +2,13 @@
 -- Assumes nothing.
 use mathlib.Core.Bool.{Bool, true, false, not, ◌&&◌, ◌||◌}
 use mathlib.Core.List.{List, [], ◌∷◌, ◌++◌}
-use mathlib.Core.Path.{◌≡◌, refl, sym, ◌∙◌, ap, ap₂, subst}
+use mathlib.Core.Path.{◌≡◌, refl, sym, ◌∙◌, ap, ap₂}
 use Prim.Native.Nat.{ℕ, zero, suc, ◌+◌, ◌-◌, ◌*◌, ◌/◌, ◌%◌, ◌^◌, ◌≤◌, ◌<◌}
 use native.Mathlib.Omega.{arith}
 use lib.Dec.{T, eqb, leb, eqb→eq, leb→le}
 use lib.ListN.{length, get_or, drop, length-drop}
 use borrow.Author.Tests.{lt-ltb, le-ltb, leb-true, leb-false, not-true, not-false}
+use Rattle.std.specs.Prelude.{Some, None}
 use Rattle.digits.proofs.Laws.Bytes.{bytes-nil, bytes-cons, bytes-head, bytes-tail}
 use Rattle.digits.proofs.Laws.Hex.{place-digit, place-lt, digit-upper, digit-of, byte_of, byte-parts}
 use Rattle.digits.proofs.Laws.Parts.{next}
@@ -19,8 +20,6 @@ use Rattle.digits.specs.Paper.Ascii.{ascii}
 use Rattle.digits.specs.Paper.Bytes.{Bytes}
 use Rattle.digits.specs.Paper.Hex.{hex_digit, hex_byte, hex_word, hex_bytes}
 use Rattle.digits.specs.Work.Hex.{place_of}
-use Rattle.digits.specs.declared.hex.Byte.{Byte}
-use Rattle.digits.specs.declared.hex.Byte.TheVariants.{Is, NoDigit}
 use Rattle.checks.proofs.Laws.Feed.{feed-append, feed-nil}
 use Rattle.checks.specs.Paper.Check.{Check, feed}
 use Rattle.layouts.specs.Paper.Chars.{one_of, all, is_hex}
@@ -123,21 +122,21 @@ pub byte_pair : (x y : ℕ) → T (is_hex x) → T (is_hex y) → hex_byte (hex_
 byte_pair x y h k = byte_of (place_of x) (place_of y) (place-lt x) (place-lt y) ∙ rw (digit-place x h, digit-place y k)
 
 -- what reading two digits answers
-pub pair_is : {high low b : ℕ} {r : Byte} → ReadsByte high low r → r ≡ Is b → b ≡ hex_pair high low
-pair_is {high} {low} {b} d e =
-    let a = answered (omega arith) (subst (ReadsByte high low) e d) refl in
-    let q = byte-parts b high low a.0 a.1 in
-    sym (pair-byte b a.0) ∙ rw (q.0, q.1)
+module _ {high low b : ℕ} (read : ReadsByte high low (Some b)) where
+  pub pair_is : b ≡ hex_pair high low
+  pair_is =
+      let a = answered (omega arith) read refl in
+      let q = byte-parts b high low a.0 a.1 in
+      sym (pair-byte b a.0) ∙ rw (q.0, q.1)
 
-pub pair-hex : {high low b : ℕ} {r : Byte} → ReadsByte high low r → r ≡ Is b → T (is_hex high) × T (is_hex low)
-pair-hex {high} {low} {b} d e =
-    let a = answered (omega arith) (subst (ReadsByte high low) e d) refl in
-    let q = byte-parts b high low a.0 a.1 in
-    (rw q.0 at (digit-hex (b / 16) (omega (arith, a.0))), rw q.1 at (digit-hex (b % 16) (omega arith)))
+  pub pair-hex : T (is_hex high) × T (is_hex low)
+  pair-hex =
+      let a = answered (omega arith) read refl in
+      let q = byte-parts b high low a.0 a.1 in
+      (rw q.0 at (digit-hex (b / 16) (omega (arith, a.0))), rw q.1 at (digit-hex (b % 16) (omega (arith, a.0))))
 
-pub pair_read : {high low : ℕ} {r : Byte} → T (is_hex high) → T (is_hex low) → ReadsByte high low r → r ≡ NoDigit → ⊥
-pair_read {high} {low} h l d e =
-    refused (omega arith) (subst (ReadsByte high low) e d) refl (hex_pair high low) (pair_lt high low) (byte_pair high low h l)
+pub pair_read : {high low : ℕ} → T (is_hex high) → T (is_hex low) → ReadsByte high low None → ⊥
+pair_read {high} {low} h l d = refused (omega arith) d refl (hex_pair high low) (pair_lt high low) (byte_pair high low h l)
 
 -- ---- bytes
 

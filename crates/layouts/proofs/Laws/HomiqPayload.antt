@@ -3,20 +3,22 @@
 use mathlib.Core.Bool.{Bool, true, false}
 use mathlib.Core.List.{List, [], ◌∷◌, ◌++◌, append_assoc}
 use mathlib.Core.Path.{◌≡◌, refl, sym, ◌∙◌, ap, subst}
-use Prim.Native.Nat.{ℕ, ◌+◌, ◌≤◌, ◌<◌}
+use Prim.Native.Nat.{ℕ, ◌+◌, ◌<◌}
 use native.Mathlib.Omega.{arith}
 use lib.Dec.{T}
 use lib.ListN.{length, get_or, length-append}
 use lib.Seq.{get_or_at}
+use Rattle.std.specs.Prelude.{Some}
 use Rattle.digits.specs.Paper.Ascii.{ascii}
+use Rattle.digits.specs.Paper.Bytes.{part}
 use Rattle.digits.specs.Paper.Decimal.{decimal}
 use Rattle.digits.specs.Paper.Read.{Decides, holds, fails}
 use Rattle.layouts.specs.Paper.Chars.{one_of}
 use Rattle.layouts.specs.Paper.Homiq.{last_id, Limits, payload}
 use Rattle.layouts.specs.Paper.Made.{Wire, closed, homiq_of, Payload}
 use Rattle.layouts.specs.Work.Homiq.{field_len, number_len, five_len}
-use Rattle.layouts.specs.Work.Heads.{onward}
-use Rattle.layouts.proofs.Laws.Heads.{Right, Head, Then, join, glue, then-right, inside}
+use Rattle.layouts.specs.Work.Heads.{Ends, and_then}
+use Rattle.layouts.proofs.Laws.Heads.{Right, Head, Then, join, glue, then-right, then-some, then-none, then-stops}
 use Rattle.layouts.proofs.Laws.HomiqFields.{Fielded, NumberField, field-right, number-right}
 use Rattle.layouts.proofs.Laws.Made.{homiq-fit}
 
@@ -34,11 +36,59 @@ five-right =
     then-right (then-right (then-right (then-right (field-right 8) (λ w a. field-right 16)) (λ w a. field-right 4)) (λ w a. field-right 4))
     (λ w a. number-right last_id (omega arith))
 
--- the five, one behind the other
-pub five-whole : (s : List ℕ) (a b c d r : ℕ) → a ≡ field_len 8 s → b ≡ onward (field_len 16) s a → c ≡ onward (field_len 4) s b
-    → d ≡ onward (field_len 4) s c → r ≡ onward (number_len last_id) s d → r ≡ five_len s
+-- the first two of them, the first three, and the first four; none of the five are found where these are not
+abbrev pub two_len : List ℕ → ℕ
+two_len = and_then (field_len 8) (λ _. field_len 16)
+
+abbrev pub three_len : List ℕ → ℕ
+three_len = and_then two_len (λ _. field_len 4)
+
+abbrev pub four_len : List ℕ → ℕ
+four_len = and_then three_len (λ _. field_len 4)
+
+pub without-five : (p : List ℕ) → four_len p ≡ 0 → five_len p ≡ 0
 unfolding five_len
-five-whole s a b c d r ha hb hc hd hr = rw (hr, hd, hc, hb, ha)
+without-five p z = then-stops four_len (number_len last_id) z
+
+pub without-four : (p : List ℕ) → three_len p ≡ 0 → five_len p ≡ 0
+without-four p z = without-five p (then-stops three_len (field_len 4) z)
+
+pub without-three : (p : List ℕ) → two_len p ≡ 0 → five_len p ≡ 0
+without-three p z = without-four p (then-stops two_len (field_len 4) z)
+
+pub without-two : (p : List ℕ) → field_len 8 p ≡ 0 → five_len p ≡ 0
+without-two p z = without-three p (then-stops (field_len 8) (field_len 16) z)
+
+-- where the code found them
+module _ (p : List ℕ) {a : ℕ} (one : Ends (field_len 8) p (Some a)) where
+  pub no-val : field_len 16 (part a (length p) p) ≡ 0 → five_len p ≡ 0
+  no-val z = without-three p (then-none (field_len 8) (field_len 16) one z)
+
+  module _ {b : ℕ} (two : Ends (field_len 16) (part a (length p) p) (Some b)) where
+    at-two : Ends two_len p (Some (a + b))
+    at-two = then-some (field_len 8) (field_len 16) one two
+
+    pub no-src : field_len 4 (part (a + b) (length p) p) ≡ 0 → five_len p ≡ 0
+    no-src z = without-four p (then-none two_len (field_len 4) at-two z)
+
+    module _ {c : ℕ} (three : Ends (field_len 4) (part (a + b) (length p) p) (Some c)) where
+      at-three : Ends three_len p (Some (a + b + c))
+      at-three = then-some two_len (field_len 4) at-two three
+
+      pub no-dst : field_len 4 (part (a + b + c) (length p) p) ≡ 0 → five_len p ≡ 0
+      no-dst z = without-five p (then-none three_len (field_len 4) at-three z)
+
+      module _ {d : ℕ} (four : Ends (field_len 4) (part (a + b + c) (length p) p) (Some d)) where
+        at-four : Ends four_len p (Some (a + b + c + d))
+        at-four = then-some three_len (field_len 4) at-three four
+
+        pub no-id : number_len last_id (part (a + b + c + d) (length p) p) ≡ 0 → five_len p ≡ 0
+        unfolding five_len
+        no-id z = then-none four_len (number_len last_id) at-four z
+
+        pub five-there : {e : ℕ} → Ends (number_len last_id) (part (a + b + c + d) (length p) p) (Some e) → Ends five_len p (Some (a + b + c + d + e))
+        unfolding five_len
+        five-there five = then-some four_len (number_len last_id) at-four five
 
 -- ---- a payload: those, and TYPE
 
@@ -96,16 +146,13 @@ abbrev IsPayload : List ℕ → Type 0
 IsPayload p = (w : Wire) × Payload p w
 
 -- the end of the five fields is the place of the last character, and that is a TYPE
-record Ends (p : List ℕ) (last : ℕ) : Type 0 where
+record Ended (p : List ℕ) (last : ℕ) : Type 0 where
   some : 0 < last
   all : length p ≡ last + 1
   type : T (one_of (ascii "sa") (get_or p last 0))
 
 module _ (p : List ℕ) (last : ℕ) (is : last ≡ five_len p) where
-  pub last-inside : last ≤ length p
-  last-inside = rw is (inside five-right p)
-
-  payload-ends : IsPayload p → Ends p last
+  payload-ends : IsPayload p → Ended p last
   payload-ends (w, q) =
       let five = payload-fields w q.limits in
       let laid : p ≡ five_of w ++ (w.type ∷ []) = q.laid ∙ payload-five w in
@@ -130,13 +177,13 @@ module _ (p : List ℕ) (last : ℕ) (is : last ≡ five_len p) where
           subst IsPayload (sym e) (five-payload h.word t h.is (subst (λ (c : ℕ). T (one_of (ascii "sa") c)) k type))
       go (t ∷ s ∷ r) e l = absurd (omega arith)
 
-  pub without-fields : last ≡ 0 → Decides (IsPayload p) false
-  without-fields e = fails (λ q. omega (arith, (payload-ends q).some))
-
   pub longer : (length p ≡ last + 1 → ⊥) → Decides (IsPayload p) false
   longer f = fails (λ q. f (payload-ends q).all)
 
   -- r is the answer to the test of the last character
-  pub by-type : (last ≡ 0 → ⊥) → length p ≡ last + 1 → (r : Bool) → r ≡ one_of (ascii "sa") (get_or p last 0) → Decides (IsPayload p) r
-  by-type some all true e = holds (one_more (omega arith) all (rw (sym e) tt))
+  pub by-type : 0 < last → length p ≡ last + 1 → (r : Bool) → r ≡ one_of (ascii "sa") (get_or p last 0) → Decides (IsPayload p) r
+  by-type some all true e = holds (one_more some all (rw (sym e) tt))
   by-type some all false e = fails (λ q. rw (sym e) at (payload-ends q).type)
+
+pub without-fields : (p : List ℕ) → five_len p ≡ 0 → Decides (IsPayload p) false
+without-fields p e = fails (λ q. omega (arith, (payload-ends p _ refl q).some, e))

@@ -5,7 +5,7 @@ use mathlib.Core.Path.{◌≡◌, refl, sym, ◌∙◌, ap, ap₂, subst}
 use Prim.Native.Nat.{ℕ, ◌+◌, ◌-◌, ◌*◌, ◌/◌, ◌%◌, ◌≤◌, ◌<◌}
 use native.Mathlib.Decide.{dec_le}
 use native.Mathlib.Omega.{arith}
-use lib.Dec.{T, leb→le}
+use lib.Dec.{leb→le}
 use lib.ListN.{length, get_or, take, drop, length-append, length-drop, take-append-drop, get_or-append}
 use lib.Seq.{get_or-append_seam, get_or-drop, take-append_seam, drop-append_seam, length-take-le}
 use borrow.Author.Tests.{le-leb, lt-leb}
@@ -286,22 +286,22 @@ module _ (mark : List ℕ) (some : 0 < length mark) (s : List ℕ) (starts : Sta
       omega (arith, z, behind, body-there (drop (length mark) s) (bytes_drop (length mark) s b) l.short enough)
 
   -- what is found is laid out so
-  pub body-form : (n ≡ 0 → ⊥) → length mark + n ≡ nest_form_len mark s
+  pub body-form : 0 < n → length mark + n ≡ nest_form_len mark s
   unfolding nest_form_len
   body-form nz =
       let w : word_len mark s ≡ length mark = word-there mark s (with-starts mark s starts) in
-      sym (rw (w, ← behind) (on_both (length mark) n some (omega (arith, nz))))
+      sym (rw (w, ← behind) (on_both (length mark) n some nz))
 
   pub end-inside : length mark + n ≤ length s
   end-inside = omega (arith, behind, body-inside (drop (length mark) s), length-drop (length mark) s, room)
 
-  pub end-six : (n ≡ 0 → ⊥) → 6 ≤ n
+  pub end-six : 0 < n → 6 ≤ n
   end-six nz =
       let k = body-right.sound (drop (length mark) s) (omega (arith, nz, behind)) in
       let m = k.is.fields in
       omega (arith, behind, k.size, ap length (Body.layout k.is), body-length m.id m.crc m.payload)
 
-  pub end-two : (n ≡ 0 → ⊥) → 2 ≤ length (part (length mark) (length mark + n) s)
+  pub end-two : 0 < n → 2 ≤ length (part (length mark) (length mark + n) s)
   end-two nz = omega (arith, end-six nz, length_part (length mark) (length mark + n) s (omega arith) end-inside)
 
   pub end-payload : length mark + n - 2 ≡ length (take (length mark + n) s) - 2

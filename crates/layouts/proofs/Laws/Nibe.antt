@@ -186,33 +186,33 @@ module _ (s : List ℕ) where
   unfolding claimed_len
   claim-there h = sym (only_yes _ _ (le-leb _ _ h))
 
-  module _ (n : ℕ) (e : n ≡ claimed_len s) where
-    pub not-long : n ≡ 0 → Long s → ⊥
-    not-long z h = omega (arith, z, e, claim-there h)
+  pub not-long : claimed_len s ≡ 0 → Long s → ⊥
+  not-long z h = omega (arith, z, claim-there h)
 
-    pub is-long : (n ≡ 0 → ⊥) → Long s
-    is-long nz = go (dec_le (get_or s 2 0 + 4) (length s))
+  module _ (n : ℕ) (is : (n ≡ claimed_len s) × (0 < n)) where
+    pub is-long : Long s
+    is-long = go (dec_le (get_or s 2 0 + 4) (length s))
       where
         go : Dec (Long s) → Long s
         go (yes h) = h
-        go (no f) = absurd (nz (e ∙ sym (claim-short (omega (arith, f)))))
+        go (no f) = let z = claim-short (omega (arith, f)) in omega (arith, is, z)
 
-    claim-is : (n ≡ 0 → ⊥) → n ≡ get_or s 2 0 + 4
-    claim-is nz = e ∙ sym (claim-there (is-long nz))
+    claim-is : n ≡ get_or s 2 0 + 4
+    claim-is = is.0 ∙ sym (claim-there is-long)
 
-    pub claim-inside : (n ≡ 0 → ⊥) → n ≤ length s
-    claim-inside nz = omega (arith, is-long nz, claim-is nz)
+    pub claim-inside : n ≤ length s
+    claim-inside = omega (arith, is-long, claim-is)
 
-    pub claim-four : (n ≡ 0 → ⊥) → 4 ≤ length (part 0 n s)
-    claim-four nz = omega (arith, claim-is nz, ap length (part-front n s), length-take-le n s (claim-inside nz))
+    pub claim-four : 4 ≤ length (part 0 n s)
+    claim-four = omega (arith, claim-is, ap length (part-front n s), length-take-le n s claim-inside)
 
     -- with the mark before it and a command it is what is laid out so
-    pub claim-form : Bytes s → get_or s 0 0 ≡ 0xC0 → one_of commands (get_or s 1 0) ≡ true → (n ≡ 0 → ⊥) → n ≡ nibe_form_len s
+    pub claim-form : Bytes s → get_or s 0 0 ≡ 0xC0 → one_of commands (get_or s 1 0) ≡ true → n ≡ nibe_form_len s
     unfolding nibe_form_len
-    claim-form b a o nz = claim-is nz ∙ bytes-there (get_or s 2 0 + 4) s b (is-long nz) ∙ sym (only_yes _ _ (eq-eqb _ _ a) ∙ only_yes _ _ o)
+    claim-form b a o = claim-is ∙ bytes-there (get_or s 2 0 + 4) s b is-long ∙ sym (only_yes _ _ (eq-eqb _ _ a) ∙ only_yes _ _ o)
 
-    pub claim-end : (n ≡ 0 → ⊥) → n - 1 ≡ length (take n s) - 1
-    claim-end nz = ap (λ (k : ℕ). k - 1) (sym (length-take-le n s (claim-inside nz)))
+    pub claim-end : n - 1 ≡ length (take n s) - 1
+    claim-end = ap (λ (k : ℕ). k - 1) (sym (length-take-le n s claim-inside))
 
   pub pair-there : (n : ℕ) {c : Compared} → c ≡ nibe_pair (part 0 n s) → nibe_pair (take n s) ∷ [] ≡ c ∷ []
   pair-there n e = ap (λ (d : Compared). d ∷ []) (sym (e ∙ ap nibe_pair (part-front n s)))

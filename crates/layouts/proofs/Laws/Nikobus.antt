@@ -1,19 +1,20 @@
 -- Nikobus: its recogniser finds what is laid out as a link, a press or a tail, and only that; its pairs are the values of a link's
 -- checks; no two fields have the same bytes; and what the code finds on its way is that.
 -- Assumes nothing.
-use mathlib.Core.Bool.{Bool, true, false, cond}
+use mathlib.Core.Bool.{Bool, true, false, ◌&&◌, cond, and-true}
 use mathlib.Core.List.{List, [], ◌∷◌, ◌++◌, append_assoc}
 use mathlib.Core.Path.{◌≡◌, refl, sym, ◌∙◌, ap, ap₂, subst}
 use Prim.Native.Nat.{ℕ, zero, suc, ◌+◌, ◌-◌, ◌*◌, ◌/◌, ◌%◌, ◌≤◌, ◌<◌}
 use native.Mathlib.Decide.{dec_le, dec_lt}
+use native.Mathlib.Nat.{add-sub_cancel_left}
 use native.Mathlib.Omega.{arith}
-use lib.Dec.{T, ltb, eqb→eq, leb→le}
+use lib.Dec.{T, eqb, ltb, eqb→eq, leb→le}
 use lib.ListN.{length, get_or, take, drop, length-append, length-drop, take-append-drop}
 use lib.Seq.{get_or-drop, take_all, take_at, take-append_seam, take-take, drop_at, length-take-le}
 use borrow.Author.Tests.{eq-eqb, ne_eqb, le-leb, lt-ltb, ltb-true}
 use Rattle.digits.proofs.Laws.Bytes.{bytes_take, bytes_drop, bytes-append, bytes-cons, bytes-nil}
 use Rattle.digits.proofs.Laws.Hex.{length-hex, hex-append, hex-inj, byte-inj, word-inj, word_of}
-use Rattle.digits.proofs.Laws.Parts.{length_part, part_at, part-front, part-middle, take-ats}
+use Rattle.digits.proofs.Laws.Parts.{next, length_part, part_at, part-front, part-middle, take-ats}
 use Rattle.digits.proofs.Laws.Tests.{T_true}
 use Rattle.digits.specs.Paper.Ascii.{ascii}
 use Rattle.digits.specs.Paper.Bytes.{Bytes, part}
@@ -23,11 +24,11 @@ use Rattle.checks.specs.Paper.Check.{check}
 use Rattle.layouts.specs.Paper.Chars.{all, is_hex, CR}
 use Rattle.layouts.specs.Paper.Layout.{StartsWith, bytes_of, payload_from, payload_to, Form}
 use Rattle.layouts.specs.Paper.Nikobus.{Nikobus, link, press, tail, Limits, link-limits, press-limits, tail-limits, link_checked, compared, Begun, link-begun, press-begun, tail-begun, Long, link-long, press-long, tail-long, nikobus}
-use Rattle.layouts.specs.Work.Heads.{only_if, starts, word_len, run_len, on, onward, or_else}
+use Rattle.layouts.specs.Work.Heads.{only_if, starts, word_len, run_len, on, onward}
 use Rattle.layouts.specs.Work.Nikobus.{hex_pair, digits_len, ll_of, link_head_len, link_form_len, press_len, tail_len, nikobus_form_len, hex_four, pair16, pair8, nikobus_pairs, nikobus_from, nikobus_to, nikobus_recogniser, bytes_of as bytes_in}
 use Rattle.layouts.specs.declared.Compared.{Compared}
 use Rattle.layouts.proofs.Laws.Buses.{Bus, Few, no-pair, two-pairs, same-pair}
-use Rattle.layouts.proofs.Laws.Heads.{Head, Right, Then, Or, left, right, Run, join, glue, only-test, only-eq, only_yes, starts-splits, starts-append, starts_with, with-splits, with-starts, not-starts, starts?, mark-at, no_word, word-right, word-there, run-right, then-right, or_right, same-right, run_inside, ends-inside, or-first, taken, inside}
+use Rattle.layouts.proofs.Laws.Heads.{Head, Right, Then, Or, left, right, Run, join, glue, only-test, only-eq, only_yes, starts-splits, starts-append, starts_with, with-splits, with-starts, not-starts, starts?, mark-at, no_word, word-right, word-there, run-right, then-right, or_right, same-right, on_both, on_none, or-first, taken, inside}
 use Rattle.layouts.proofs.Laws.Runs.{all_take}
 use Rattle.layouts.proofs.Laws.HexDigits.{digit-hex, hex-at, length-byte, length-word, pair-byte, pair_lt, byte_pair, bytes-hex, hex-all, hex-bytes, length-bytes, bytes-bytes}
 
@@ -604,10 +605,10 @@ ll-there s k =
     subst LlThere (sym (h.splits ∙ ap (λ (w : List ℕ). w ++ h.rest) r.layout)) (ll-made r.ll h.rest r.low r.even r.byte)
 
 -- where one of these fails there is no LL
-pub no-ll : (s : List ℕ) → (LlThere s → ⊥) → 0 ≡ ll_of s
+pub no-ll : (s : List ℕ) → (LlThere s → ⊥) → ll_of s ≡ 0
 no-ll s f = go (ll_of s) refl
   where
-    go : (n : ℕ) → ll_of s ≡ n → 0 ≡ n
+    go : (n : ℕ) → ll_of s ≡ n → n ≡ 0
     go zero e = refl
     go (suc n) e = absurd (f (ll-there s (omega (arith, e))))
 
@@ -623,24 +624,47 @@ ll-take (x ∷ []) = refl
 ll-take (x ∷ y ∷ []) = refl
 ll-take (x ∷ y ∷ z ∷ s) = refl
 
-pub digits_are : (k : ℕ) (s : List ℕ) (r : Bool) → k ≤ length s → all is_hex (part 0 k s) ≡ r → digits_len k s ≡ only_if r k
-unfolding run_len
-digits_are k s r h e =
-    only_yes _ _ (le-leb k (length s) h) ∙ ap (λ (b : Bool). only_if b k) (ap (all is_hex) (sym (part-front k s)) ∙ e)
+-- k digits at a place, and CR behind them
+pub digits-cr : (s : List ℕ) (at k : ℕ) (r : Bool) → 0 < at → 0 < k → at + k < length s
+    → r ≡ (all is_hex (part at (at + k) s) && eqb (get_or s (at + k) 0) CR) → onward (word_len (CR ∷ [])) s (onward (digits_len k) s at) ≡ only_if r (at + k + 1)
+unfolding run_len word_len starts only_if on
+digits-cr s at k r some more h e =
+    let d : digits_len k (drop at s) ≡ only_if (all is_hex (take k (drop at s))) k =
+    only_yes _ _ (le-leb k (length (drop at s)) (omega (arith, h, length-drop at s)))
+    in
+    rw d (go (all is_hex (take k (drop at s))) (e ∙ ap (λ (i : ℕ). all is_hex (take i (drop at s)) && eqb (get_or s (at + k) 0) CR) (add-sub_cancel_left at k)))
+  where
+    cr : word_len (CR ∷ []) (drop (at + k) s) ≡ only_if (eqb (get_or s (at + k) 0) CR) 1
+    cr = rw (next s (at + k) h) (ap (λ (b : Bool). only_if b 1) (and-true _))
 
-module _ (s : List ℕ) (n : ℕ) (is : n ≡ ll_of s) where
-  pub form-whole : 0 < n → (end r : ℕ) → end ≡ onward (digits_len (n - 4)) s 3 → r ≡ onward (word_len (CR ∷ [])) s end → r ≡ link_form_len s
+    end : (b : Bool) → on (at + k) (only_if b 1) ≡ only_if b (at + k + 1)
+    end true = on_both (at + k) 1 (omega arith) (omega arith)
+    end false = on_none (at + k)
+
+    go : (b : Bool) → r ≡ (b && eqb (get_or s (at + k) 0) CR) → onward (word_len (CR ∷ [])) s (on at (only_if b k)) ≡ only_if r (at + k + 1)
+    go true f = rw (on_both at k some more) (ap (on (at + k)) cr ∙ end _ ∙ ap (λ (b : Bool). only_if b (at + k + 1)) (sym f))
+    go false f = rw (on_none at) (ap (λ (b : Bool). only_if b (at + k + 1)) (sym f))
+
+module _ (s : List ℕ) (n : ℕ) (is : (n ≡ ll_of s) × (0 < n)) where
+  pub ll-twelve : 12 ≤ n
+  ll-twelve = omega (arith, is, ll-least s (omega (arith, is)))
+
+  pub ll-three : 3 ≤ length s
+  ll-three = (ll-there s (omega (arith, is))).size
+
+  form-whole : (end r : ℕ) → end ≡ onward (digits_len (n - 4)) s 3 → r ≡ onward (word_len (CR ∷ [])) s end → r ≡ link_form_len s
   unfolding link_form_len link_head_len
-  form-whole nz end r ee er =
+  form-whole end r ee er =
       let h : only_if (ltb 0 (ll_of s)) 3 ≡ 3 = only_yes _ _ (lt-ltb 0 (ll_of s) (omega (arith, is))) in
-      er ∙ rw (ee, is, h, ll-take s)
+      er ∙ rw (ee, is.0, h, ll-take s)
 
-  -- the places on the way
-  pub ll-four : 0 < n → 4 ≤ n
-  ll-four nz = omega (arith, is, ll-least s (omega (arith, is)))
-
-  pub ll-three : 0 < n → 3 ≤ length s
-  ll-three nz = (ll-there s (omega (arith, is))).size
+  -- the digits of a link of n bytes, and CR
+  pub form-digits : (r : Bool) → n ≤ length s → r ≡ (all is_hex (part 3 (n - 1) s) && eqb (get_or s (n - 1) 0) CR) → link_form_len s ≡ only_if r n
+  form-digits r h e =
+      let l = ll-twelve in
+      let p : 3 + (n - 4) ≡ n - 1 = omega arith in
+      let q : 3 + (n - 4) + 1 ≡ n = omega arith in
+      sym (form-whole _ _ refl refl) ∙ digits-cr s 3 (n - 4) r (omega arith) (omega arith) (omega arith) (rw p e) ∙ ap (only_if r) q
 
 -- ---- .. a link
 
@@ -709,9 +733,6 @@ press-whole : (s : List ℕ) (a b r : ℕ) → a ≡ word_len (ascii "#N") s →
 unfolding press_len
 press-whole s a b r ea eb er = rw (er, eb, ea)
 
-pub digits-inside : (k : ℕ) (s : List ℕ) (at end : ℕ) → end ≡ onward (digits_len k) s at → end ≤ length s
-digits-inside k = ends-inside (digits_len k) (run_inside is_hex k)
-
 -- ---- .. and which of the three, by the start mark
 
 module _ (s : List ℕ) (mark : starts (ascii "$") s ≡ true) where
@@ -721,15 +742,15 @@ module _ (s : List ℕ) (mark : starts (ascii "$") s ≡ true) where
   pub dollar-begun : Begun s
   dollar-begun = link-begun dollar
 
-  module _ (n : ℕ) (e : n ≡ ll_of s) where
-    pub no-ll-short : n ≡ 0 → Long s → ⊥
-    no-ll-short z l = omega (arith, z, e, (long-ll s dollar l).0)
+  pub no-ll-short : ll_of s ≡ 0 → Long s → ⊥
+  no-ll-short z l = omega (arith, z, (long-ll s dollar l).0)
 
+  module _ (n : ℕ) (is : (n ≡ ll_of s) × (0 < n)) where
     pub ll-short : length s < n → Long s → ⊥
-    ll-short h l = omega (arith, h, e, (long-ll s dollar l).1)
+    ll-short h l = omega (arith, h, is, (long-ll s dollar l).1)
 
-    pub ll-enough : (n ≡ 0 → ⊥) → n ≤ length s → Long s
-    ll-enough nz h = ll-long s (omega (arith, nz, e)) (omega (arith, h, e))
+    pub ll-enough : n ≤ length s → Long s
+    ll-enough h = ll-long s (omega (arith, is)) (omega (arith, h, is))
 
   pub no-link-found : link_form_len s ≡ 0 → nikobus_form_len s ≡ 0
   unfolding nikobus_form_len
@@ -753,35 +774,39 @@ module _ (s : List ℕ) (mark : starts (ascii "#N") s ≡ true) where
   not-link : link_form_len s ≡ 0
   not-link = no-link s (λ x. omega (arith, x, mark-at (ascii "#N") s hash 0 (omega arith)))
 
-  module _ (end n : ℕ) (ee : end ≡ onward (digits_len 6) s 2) (en : n ≡ onward (word_len (CR ∷ [])) s end) where
-    pub press-is : n ≡ press_len s
-    press-is = press-whole s 2 end n (sym (word-there (ascii "#N") s mark)) ee en
+  module _ (h : 9 ≤ length s) (r : Bool) (e : r ≡ (all is_hex (part 2 8 s) && eqb (get_or s 8 0) CR)) where
+    press-is : only_if r 9 ≡ press_len s
+    press-is = sym (digits-cr s 2 6 r (omega arith) (omega arith) (omega arith) e) ∙ press-whole s 2 _ _ (sym (word-there (ascii "#N") s mark)) refl refl
 
-    pub no-press-found : n ≡ 0 → nikobus_form_len s ≡ 0
-    unfolding nikobus_form_len
-    no-press-found z =
+    pub no-press-found : r ≡ false → nikobus_form_len s ≡ 0
+    unfolding nikobus_form_len only_if
+    no-press-found f =
         let second = mark-at (ascii "#N") s hash 1 (omega arith) in
-        rw (not-link, sym press-is ∙ z, no-tail-at s 1 (omega arith) (λ x. omega (arith, x, second)))
+        rw (not-link, sym press-is ∙ ap (λ (b : Bool). only_if b 9) f, no-tail-at s 1 (omega arith) (λ x. omega (arith, x, second)))
 
-    module _ (nz : n ≡ 0 → ⊥) where
-      pub press-found : n ≡ nikobus_form_len s
+    module _ (t : r ≡ true) where
+      press-nine : 9 ≡ press_len s
+      unfolding only_if
+      press-nine = ap (λ (b : Bool). only_if b 9) (sym t) ∙ press-is
+
+      pub press-found : 9 ≡ nikobus_form_len s
       unfolding nikobus_form_len
-      press-found = press-is ∙ rw not-link (sym (or-first _ _ (omega (arith, nz, press-is))))
+      press-found = press-nine ∙ rw not-link (sym (or-first _ _ (omega (arith, press-nine))))
 
-      press-laid : (d : List ℕ) × (take n s ≡ bytes_of nikobus (press d))
+      press-laid : (d : List ℕ) × (take 9 s ≡ bytes_of nikobus (press d))
       press-laid =
-          let f = taken press-right s (omega (arith, nz, press-is)) in
-          (f.digits, ap (λ (i : ℕ). take i s) press-is ∙ f.laid)
+          let f = taken press-right s (omega (arith, press-nine)) in
+          (f.digits, ap (λ (i : ℕ). take i s) press-nine ∙ f.laid)
 
-      pub press-pairs : nikobus_pairs (take n s) ≡ []
+      pub press-pairs : nikobus_pairs (take 9 s) ≡ []
       unfolding nikobus_pairs starts
       press-pairs = rw press-laid.1
 
-      pub press-from : 2 ≡ nikobus_from (take n s)
+      pub press-from : 2 ≡ nikobus_from (take 9 s)
       unfolding nikobus_from starts
       press-from = rw press-laid.1
 
-      pub press-to : 8 ≡ nikobus_to (take n s)
+      pub press-to : 8 ≡ nikobus_to (take 9 s)
       unfolding nikobus_to starts
       press-to = rw press-laid.1
 

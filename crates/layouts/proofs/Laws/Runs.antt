@@ -1,12 +1,12 @@
 -- One step of each loop over a list, at an index; and the run of elements at the head of a list.
 -- Assumes nothing.
-use mathlib.Core.Bool.{Bool, true, false, ◌&&◌, and-true, and-false, and_assoc, cond}
+use mathlib.Core.Bool.{Bool, true, false, ◌&&◌, and-true, and_assoc, cond}
 use mathlib.Core.List.{List, [], ◌∷◌, ◌++◌}
-use mathlib.Core.Path.{◌≡◌, refl, sym, ap, ◌∙◌}
+use mathlib.Core.Path.{◌≡◌, refl, sym}
 use Prim.Native.Nat.{ℕ, zero, suc, ◌+◌, ◌≤◌, ◌<◌}
-use native.Mathlib.Nat.{le_of_suc-le-suc, add-sub_cancel_left}
+use native.Mathlib.Nat.{add-sub_cancel_left}
 use native.Mathlib.Omega.{arith}
-use lib.Dec.{T, eqb}
+use lib.Dec.{T}
 use lib.ListN.{length, get_or, drop, take, drop_of_length-le, length-take}
 use lib.Seq.{take-take, drop-drop}
 use borrow.Author.Tests.{eq-eqb, ne_eqb}
@@ -14,26 +14,7 @@ use Rattle.digits.specs.Paper.Bytes.{part}
 use Rattle.digits.proofs.Laws.Parts.{next}
 use Rattle.digits.proofs.Laws.Tests.{T_and, T_true}
 use Rattle.layouts.specs.Paper.Chars.{one_of, all}
-use Rattle.layouts.specs.Work.Heads.{starts, leading}
-
-module _ (p s : List ℕ) (i : ℕ) (h : i < length p) (k : i < length s) where
-  pub starts-hit : get_or s i 0 ≡ get_or p i 0 → starts (drop (i + 1) p) (drop (i + 1) s) ≡ starts (drop i p) (drop i s)
-  unfolding starts
-  starts-hit e = rw (next p i, next s i, eq-eqb _ _ e)
-
-  pub starts-miss : (get_or s i 0 ≡ get_or p i 0 → ⊥) → false ≡ starts (drop i p) (drop i s)
-  unfolding starts
-  starts-miss e = rw (next p i, next s i, ne_eqb _ _ e)
-
-pub starts-end : (p s : List ℕ) (i : ℕ) → length p ≤ i → true ≡ starts (drop i p) (drop i s)
-unfolding starts
-starts-end p s i h = rw (drop_of_length-le p h)
-
-pub starts-short : (p s : List ℕ) → length s < length p → starts p s ≡ false
-unfolding starts
-starts-short [] s h = absurd (omega arith)
-starts-short (y ∷ p) [] h = refl
-starts-short (y ∷ p) (x ∷ s) h = rw (starts-short p s (le_of_suc-le-suc h)) (and-false (eqb x y))
+use Rattle.layouts.specs.Work.Heads.{leading}
 
 -- the run of elements at the head: i of them passed
 module _ (f : ℕ → Bool) (s : List ℕ) (i : ℕ) where

@@ -1,8 +1,9 @@
 -- 01, "Kinds and frames": what a layout is, and what it is for bytes to be a frame.
 -- Assumes nothing.
-use Rattle.std.specs.Prelude.{List, [], ◌∷◌, ◌++◌, ◌≡◌, ℕ, ◌+◌, ◌≤◌, length, take}
+use Rattle.std.specs.Prelude.{List, [], ◌∷◌, ◌++◌, ◌≡◌, ℕ, ◌+◌, ◌≤◌, length, take, Option, Some, None}
 use Rattle.checks.specs.Paper.Check.{Check, check}
 use Rattle.layouts.specs.declared.Compared.{Compared}
+use Rattle.layouts.specs.declared.Frame.{Frame}
 
 -- A layout: the fields of a frame, among them the check values that stand in it; their limits; the bytes that they
 -- make, before the payload, the payload, and behind it; of each check, in the order of the tests, the value that
@@ -58,9 +59,11 @@ pub record FrameBy (l : Layout) (f : List ℕ) : Type 0 where
   pub form : Form l f
   pub passes : Agree (l.compared form.fields)
 
--- A frame of n bytes stands at the head of s, and its payload goes from one place in it to another; zeros if none
--- stands there.
-pub data Leads (l : Layout) (s : List ℕ) : (n from to : ℕ) → Type 0 where
-  leads : {n : ℕ} → n ≤ length s → (f : FrameBy l (take n s))
-      → Leads l s n (payload_from l f.form.fields) (payload_to l f.form.fields)
-  none : ((n : ℕ) → n ≤ length s → FrameBy l (take n s) → ⊥) → Leads l s 0 0 0
+-- what is answered of a frame of n bytes: how long it is, and where its payload begins and ends
+abbrev pub frame_of : (l : Layout) → ℕ → l.Fields → Frame
+frame_of l n m = record { len = n; from = payload_from l m; to = payload_to l m }
+
+-- This frame stands at the head of s, or none does.
+pub data Leads (l : Layout) (s : List ℕ) : Option Frame → Type 0 where
+  leads : {n : ℕ} → n ≤ length s → (f : FrameBy l (take n s)) → Leads l s (Some (frame_of l n f.form.fields))
+  none : ((n : ℕ) → n ≤ length s → FrameBy l (take n s) → ⊥) → Leads l s None

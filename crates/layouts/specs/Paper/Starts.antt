@@ -1,7 +1,7 @@
 -- How a frame of each bus can begin, by its first three bytes. (Ours: the search passes over every place where this
 -- does not hold. That no frame begins otherwise is a law.)
 -- Assumes nothing.
-use Rattle.std.specs.Prelude.{Bool, false, ◌&&◌, ◌||◌, List, [], ◌∷◌, ℕ, ◌/◌, eqb, leb, length, get_or}
+use Rattle.std.specs.Prelude.{Bool, ◌&&◌, ◌||◌, List, ℕ, ◌/◌, eqb, leb, length, get_or}
 use Rattle.layouts.specs.declared.nest.Direction.{Direction}
 use Rattle.layouts.specs.declared.nest.Direction.TheVariants.{Command, Response}
 

@@ -1,13 +1,23 @@
 -- Recognisers: the length of the word that stands at the head of a list, 0 for none.
 -- Assumes nothing.
 use Rattle.std.specs.Prelude.{Bool, true, false, ◌&&◌, cond, List, [], ◌∷◌, ℕ, zero, suc, ◌+◌, eqb, leb, ltb, length}
-use Rattle.std.specs.Prelude.{take, drop}
+use Rattle.std.specs.Prelude.{take, drop, ◌≡◌, ◌≤◌, ◌<◌, Option, Some, None}
 use Rattle.layouts.specs.Paper.Chars.{all}
 
 -- n if the test holds, else 0
 unfoldable pub only_if : Bool → ℕ → ℕ
 only_if true n = n
 only_if false n = 0
+
+-- what the code answers of a length: that length, or none if it is 0
+abbrev pub Lasts : ℕ → Option ℕ → Type 0
+Lasts n None = n ≡ 0
+Lasts n (Some k) = (k ≡ n) × (0 < k)
+
+-- .. and of one in s
+abbrev pub Ends : (List ℕ → ℕ) → List ℕ → Option ℕ → Type 0
+Ends f s None = f s ≡ 0
+Ends f s (Some k) = (k ≡ f s) × (0 < k) × (k ≤ length s)
 
 -- s starts with p
 unfoldable pub starts : List ℕ → List ℕ → Bool

@@ -1,14 +1,15 @@
 -- The line of a frame by the text of a sheet.
 -- Assumes nothing.
-use mathlib.Core.Bool.{Bool, true, false, ◌||◌, true≢false}
+use Rattle.std.specs.Prelude.{Err, Ok}
+use mathlib.Core.Bool.{Bool, false, ◌||◌, true≢false}
 use mathlib.Core.List.{List, [], ◌∷◌}
 use mathlib.Core.Option.{Option, some}
 use mathlib.Core.Path.{◌≡◌, refl, sym, ap, ◌∙◌, subst}
-use Prim.Native.Nat.{ℕ, ◌≤◌, ◌<◌}
+use Prim.Native.Nat.{ℕ, ◌<◌}
 use native.Mathlib.Omega.{arith}
 use lib.Dec.{eqb}
 use lib.ListN.{length, drop, length-append}
-use Rattle.digits.specs.Paper.Refusals.{refusal_order, refusal_number, First, clear, here, after}
+use Rattle.digits.specs.Paper.Refusals.{refusal_order, refusal_number, First, here, after}
 use Rattle.digits.specs.declared.refusal.Refusal.{Refusal}
 use Rattle.digits.proofs.Laws.Refusals.{cause-at, cause-of, pass-over, some_number}
 use Rattle.frames.specs.Paper.Kinds.{Frame}
@@ -16,15 +17,12 @@ use Rattle.frames.proofs.Laws.Kinds.{frame-known}
 use Rattle.messages.specs.Paper.Answers.{DecodeCause, Decodes}
 use Rattle.messages.specs.Paper.Answers as decoding
 use Rattle.messages.specs.declared.Decoded.{Decoded}
-use Rattle.messages.specs.declared.Decoded.TheVariants.{Is, Refused}
-use Rattle.messages.specs.declared.Message.{Message as Coded}
 use Rattle.messages.proofs.Laws.Cases.{said_in}
 use Rattle.messages.proofs.Laws.Decode.{is-frame}
 use Rattle.messages.proofs.Theorems.{has-message}
 use Rattle.puts.specs.Paper.Right as right
 use Rattle.puts.specs.Paper.Right.{WroteRight}
-use Rattle.puts.specs.declared.Written.{Written}
-use Rattle.puts.specs.declared.Written.TheVariants.{Refused as Unwritten}
+use Rattle.puts.specs.Paper.Wrote.{Written}
 use Rattle.puts.proofs.Laws.Right.{recast}
 use Rattle.sheet.specs.Paper.Answers.{MapCause, IsMap}
 use Rattle.sheet.specs.Paper.Map.{lookup_in, sheet_in}
@@ -97,15 +95,15 @@ module _ {k : ℕ} {f : List ℕ} {at : ℕ} {text room : List ℕ} where
       recast (λ no c. first-map (to m.is) (from m.is) c) (λ bs l. record { rows = m.rows; is = m.is; line = l })
       (subst (λ (sheet : Option Lookup). WritesLine sheet k f at room r later) e x)
 
-  pub bad-text : (r : Decoded) → Decodes k f r → {e : Coded} {from to : ℕ} → r ≡ Is e from to → (why : Refusal) → refusal_number why ≡ 10
-      → ((rows : List Row) → Sheet text rows → ⊥) → WritesLineByText k f at text room (Unwritten why) room
-  bad-text r a q why n g =
+  pub bad-text : {d : Decoded} → Decodes k f (Ok d) → (why : Refusal) → refusal_number why ≡ 10
+      → ((rows : List Row) → Sheet text rows → ⊥) → WritesLineByText k f at text room (Err why) room
+  bad-text a why n g =
       right.refused (some_number why)
-      (subst (First (LineByTextCause k f at text (length room)) refusal_order) (sym n) (bad (is-frame (said_in (subst (Decodes k f) q a)).stands) g))
+      (subst (First (LineByTextCause k f at text (length room)) refusal_order) (sym n) (bad (is-frame (said_in a).stands) g))
 
-  pub not-decoded : (r : Decoded) → Decodes k f r → {why : Refusal} → r ≡ Refused why → WritesLineByText k f at text room (Unwritten why) room
-  not-decoded r a {why} q =
-      let c = cause-of (subst (Decodes k f) q a) in
+  pub not-decoded : (why : Refusal) → Decodes k f (Err why) → WritesLineByText k f at text room (Err why) room
+  not-decoded why a =
+      let c = cause-of a in
       right.refused (some_number why) (refusing c (cause-at c (some_number why)))
 
 -- a map that has been written is not empty

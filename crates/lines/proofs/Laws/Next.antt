@@ -10,6 +10,7 @@ use lib.Dec.{leb, eqb, lit<}
 use lib.ListN.{length}
 use lib.Seq.{sets}
 use borrow.Author.Tests.{leb-true, not-true, not-false}
+use Rattle.std.specs.Prelude.{Result, Ok, Err}
 use Rattle.digits.specs.Paper.Bytes.{part}
 use Rattle.digits.specs.Paper.Refusals.{refusal_order, First, clear, here, after, Answers, answers, refuses}
 use Rattle.digits.specs.declared.refusal.Refusal.{Refusal}
@@ -17,11 +18,9 @@ use Rattle.digits.specs.declared.refusal.Refusal.TheVariants.{NoRoom}
 use Rattle.digits.proofs.Laws.Parts.{length_part, part-of-part}
 use Rattle.digits.proofs.Laws.Refusals.{answered, cause-of, cause-at, pass-over, some_number, refused-zeros}
 use Rattle.puts.specs.Paper.Put.{Put, largest_place}
-use Rattle.puts.specs.declared.Written.{Written}
-use Rattle.puts.specs.declared.Written.TheVariants.{Bytes, Refused as Unwritten}
+use Rattle.puts.specs.Paper.Wrote.{Written}
 use Rattle.frames.specs.Paper.Search as hits
 use Rattle.frames.specs.Paper.Search.{Leftmost, SearchCause, no-frame, no_kind, no_place, Searches, frame_part}
-use Rattle.frames.specs.declared.Found.TheVariants.{At as Hit}
 use Rattle.frames.proofs.Laws.Kinds.{frame-known}
 use Rattle.frames.proofs.Unique.{leftmost-one}
 use Rattle.messages.specs.Paper.Answers.{Said, Finds}
@@ -30,7 +29,6 @@ use Rattle.messages.specs.Paper.Says.{Says}
 use Rattle.messages.specs.Paper.Table.{Good}
 use Rattle.messages.specs.declared.Message.{Message as Coded}
 use Rattle.messages.specs.declared.FoundMessage.{FoundMessage}
-use Rattle.messages.specs.declared.FoundMessage.TheVariants.{At as SeenAt, Refused as NotFound}
 use Rattle.messages.proofs.Laws.Cases.{search-in, found_in, search-refused}
 use Rattle.messages.proofs.Laws.Decode.{inside}
 use Rattle.messages.proofs.Laws.Find.{in_buffer, behind-start, payloaded}
@@ -42,11 +40,9 @@ use Rattle.lines.specs.Paper.WithSheet.{line_with}
 use Rattle.lines.specs.Work.Put.{put, a_byte, Bounded, AllOrNone, all, none}
 use Rattle.lines.specs.Work.Tried.{Surely, Clipped, Comes, Tries}
 use Rattle.lines.specs.declared.Listed.{Listed}
-use Rattle.lines.specs.declared.Listed.TheVariants.{At, Refused}
 use Rattle.lines.specs.declared.Measured.{Measured}
-use Rattle.lines.specs.declared.Measured.TheVariants.{At as SizedAt, Refused as Unmeasured}
 use Rattle.lines.specs.declared.Tried.{Tried}
-use Rattle.lines.specs.declared.Tried.TheVariants.{At as TriedAt, Unsure, Refused as TriedRefused}
+use Rattle.lines.specs.declared.Tried.TheVariants.{At, Unsure}
 use Rattle.lines.proofs.Laws.Said.{put-said}
 use Rattle.lines.proofs.Laws.Sizes.{line-bounded, line-most}
 use Rattle.lines.proofs.Laws.Types.{InTypes}
@@ -91,8 +87,7 @@ module _ {k : ℕ} {s : List ℕ} {place : ℕ} where
   not-refused l (no_kind e) = true≢false (sym (frame-known l.stands.frame) ∙ e)
   not-refused l (no_place h) = omega (arith, l.behind, l.stands.inside)
 
-  pub hit-found : {start len from to : ℕ} → Leftmost k s place (record { start = start; len = len; from = from; to = to })
-      → Searches k s place (Hit start len from to)
+  pub hit-found : {v : hits.Hit} → Leftmost k s place v → Searches k s place (Ok v)
   hit-found l = answers (pass-over (λ n. false) (λ n e c. not-refused l c) refusal_order clear) l
 
 module _ {sheet : Option Lookup} {k : ℕ} {s : List ℕ} {place : ℕ} where
@@ -136,9 +131,9 @@ module _ {sheet : Option Lookup} {k : ℕ} {s : List ℕ} {place : ℕ} where
 -- ---- what is next, case by case
 
 -- the answer, where the line is put or is not
-abbrev pub listed_of : (start len to : ℕ) → Written → Listed
-listed_of start len to (Bytes n) = At start len (to + n)
-listed_of start len to (Unwritten why) = Refused why
+abbrev pub listed_of : (start len to : ℕ) → Written → Result Listed Refusal
+listed_of start len to (Ok n) = Ok (record { start = start; len = len; behind = to + n })
+listed_of start len to (Err why) = Err why
 
 module _ {sheet : Option Lookup} {k : ℕ} {s : List ℕ} {place : ℕ} {room : List ℕ} {to : ℕ} where
   pub next-placed : {start len from end : ℕ} {t later : List ℕ} {w : Written} → Leftmost k s place (record { start = start; len = len; from = from; to = end })
@@ -148,15 +143,15 @@ module _ {sheet : Option Lookup} {k : ℕ} {s : List ℕ} {place : ℕ} {room : 
       (record { from = from; end = end; found = l; text = t; line = o; behind-is = refl; room-is = refl })
   next-placed l o (none h) = refuses (lit< tt) (too_few l o h)
 
-  module _ {start len behind : ℕ} {later : List ℕ} (a : PutsNext sheet k s place room to (At start len behind) later) where
+  module _ {v : Placed} {later : List ℕ} (a : PutsNext sheet k s place room to (Ok v) later) where
     -- what is put
-    pub line-next : NextLine sheet k s place room to (record { start = start; len = len; behind = behind }) later
+    pub line-next : NextLine sheet k s place room to v later
     line-next = answered a refl
 
-    pub next-found : Searches k s place (Hit start len line-next.from line-next.end)
+    pub next-found : Searches k s place (Ok (record { start = v.start; len = v.len; from = line-next.from; to = line-next.end }))
     next-found = hit-found line-next.found
 
-  pub room-kept : (why : Refusal) {later : List ℕ} → PutsNext sheet k s place room to (Refused why) later → later ≡ room
+  pub room-kept : (why : Refusal) {later : List ℕ} → PutsNext sheet k s place room to (Err why) later → later ≡ room
   room-kept why a = ap (λ v. v.1) (refused-zeros a (some_number why))
 
 -- a line that no room of so many bytes is too short for
@@ -181,9 +176,21 @@ by-a-sheet {sure} {beside} {bytes} (x ∷ map) n e h = go (leb beside ((bytes - 
 -- ---- what is found
 
 module _ {k : ℕ} {s : List ℕ} {place : ℕ} where
-  module _ {start len from to : ℕ} (r : FoundMessage) {e : Coded} (a : Finds k s place r) (q : r ≡ SeenAt start len from to e) where
-    seen : Finds k s place (SeenAt start len from to e)
-    seen = subst (Finds k s place) q a
+  module _ {v : FoundMessage} (seen : Finds k s place (Ok v)) where
+    abbrev start : ℕ
+    start = v.start
+
+    abbrev len : ℕ
+    len = v.len
+
+    abbrev from : ℕ
+    from = v.from
+
+    abbrev to : ℕ
+    to = v.to
+
+    abbrev e : Coded
+    e = v.message
 
     found_inside : (start ≤ from) × (from ≤ to) × (to ≤ start + len) × (start + len ≤ length s)
     found_inside =
@@ -214,7 +221,7 @@ module _ {k : ℕ} {s : List ℕ} {place : ℕ} where
 
     pub tried-put : {sheet : Option Lookup} → InTypes sheet → length s ≤ largest_place → {sure : Bool} {room later : List ℕ} {place-to behind left : ℕ} (b : Bool) → Surely sheet sure (to - from) left b
         → not b ≡ false → left ≡ length room - place-to → Put room later place-to behind (put sheet e (part from to s) start len)
-        → Tries sheet k s place sure room place-to (TriedAt start len behind) later
+        → Tries sheet k s place sure room place-to (Ok (At (record { start = start; len = len; behind = behind }))) later
     tried-put {sheet} types h {sure} {left = left} b y i l p =
         let x = payload-in in
         let n = length_part from to s x.0 x.1 in
@@ -231,79 +238,77 @@ module _ {k : ℕ} {s : List ℕ} {place : ℕ} where
         }
 
     pub tried-unsure : {sheet : Option Lookup} {sure : Bool} {room : List ℕ} {place-to beside left : ℕ} (b : Bool) → Surely sheet sure beside left b → not b ≡ true
-        → Tries sheet k s place sure room place-to (Unsure start) room
+        → Tries sheet k s place sure room place-to (Ok (Unsure start)) room
     tried-unsure {sheet} {sure} {beside = beside} {left = left} b y i =
         record { comes = ((subst (Surely sheet sure beside left) (not-true b i) y).may-put, refl, (record { start = start; len = len; from = from; to = to }, answered (search-in seen) refl, refl)) }
 
-  pub tried-refused : (r : FoundMessage) {why : Refusal} → Finds k s place r → r ≡ NotFound why → {sheet : Option Lookup} {sure : Bool} {room : List ℕ} {to : ℕ}
-      → Tries sheet k s place sure room to (TriedRefused why) room
-  tried-refused r {why} a q = record { comes = (search-refused why (subst (Finds k s place) q a), refl) }
+  pub tried-refused : (why : Refusal) → Finds k s place (Err why) → {sheet : Option Lookup} {sure : Bool} {room : List ℕ} {to : ℕ}
+      → Tries sheet k s place sure room to (Err why) room
+  tried-refused why a = record { comes = (search-refused why a, refl) }
 
 -- ---- what is tried
 
-module _ {sheet : Option Lookup} {k : ℕ} {s : List ℕ} {place : ℕ} {sure : Bool} {room : List ℕ} {to : ℕ} {later : List ℕ} (r : Tried) (x : Tries sheet k s place sure room to r later) where
-  in-case : {q : Tried} → r ≡ q → Comes sheet k s place sure room to q later
-  in-case e = (subst (λ (q : Tried). Tries sheet k s place sure room to q later) e x).comes
-
+module _ {sheet : Option Lookup} {k : ℕ} {s : List ℕ} {place : ℕ} {sure : Bool} {room : List ℕ} {to : ℕ} {later : List ℕ} where
   -- a line that is put although nobody asked whether it fits
-  pub put-anyway : {v : hits.Hit} {t : List ℕ} → sure ≡ true → Leftmost k s place v → LineOf sheet k (frame_part s v) v.start t → later ≡ sets room to t
-  put-anyway {v} {t} e l o = go r x.comes
-    where
-      go : (r : Tried) → Comes sheet k s place sure room to r later → later ≡ sets room to t
-      go (TriedAt start len behind) c = c.put.room-is ∙ ap (sets room to) (one-found-line _ v c.found l c.line o)
-      go (Unsure start) c = absurd (true≢false (sym e ∙ c.0))
-      go (TriedRefused why) c = absurd (not-refused l (cause-at (cause-of c.0) (some_number why)))
+  pub put-anyway : (r : Result Tried Refusal) → Tries sheet k s place sure room to r later → {v : hits.Hit} {t : List ℕ} → sure ≡ true → Leftmost k s place v
+      → LineOf sheet k (frame_part s v) v.start t → later ≡ sets room to t
+  put-anyway (Ok (At w)) x {v} e l o = x.comes.put.room-is ∙ ap (sets room to) (one-found-line _ v x.comes.found l x.comes.line o)
+  put-anyway (Ok (Unsure _)) x e l o = absurd (true≢false (sym e ∙ x.comes.0))
+  put-anyway (Err why) x e l o = absurd (not-refused l (cause-at (cause-of x.comes.0) (some_number why)))
 
-  pub never-unsure : {start : ℕ} {A : Type 0} → sure ≡ true → r ≡ Unsure start → A
-  never-unsure h e = absurd (true≢false (sym h ∙ (in-case e).0))
-
-  module _ {start len behind : ℕ} (e : r ≡ TriedAt start len behind) where
-    tried-at : Clipped sheet k s place sure room to (record { start = start; len = len; behind = behind }) later
-    tried-at = in-case e
-
-    pub size-tried : InTypes sheet → to ≡ 0 → length s ≤ largest_place → Measures sheet k s place (SizedAt start len behind)
-    size-tried types z h =
-        let c = tried-at in
-        let few : start < 10 ^ 20 = omega (arith, c.found.stands.inside) in
-        answers {v = record { start = start; len = len; size = behind }} (cause-of (hit-found c.found))
-        (record { from = c.from; end = c.end; found = c.found; text = c.text; line = c.line; size_is = omega (arith, c.put.behind, line-most types few c.line) })
-
-    pub next-tried : sure ≡ false → to ≤ largest_place → PutsNext sheet k s place room to (At start len behind) later
-    next-tried h l =
-        let c = tried-at in
-        let f = c.fits h in
-        answers {v = (record { start = start; len = len; behind = behind }, later)} (enough c.found c.line f)
-        (record { from = c.from; end = c.end; found = c.found; text = c.text; line = c.line; behind-is = omega (arith, c.put.behind, c.put.slice); room-is = c.put.room-is })
-
-  module _ {why : Refusal} (e : r ≡ TriedRefused why) where
-    pub next-refused : PutsNext sheet k s place room to (Refused why) later
+  module _ {why : Refusal} (x : Tries sheet k s place sure room to (Err why) later) where
+    pub next-refused : PutsNext sheet k s place room to (Err why) later
     next-refused =
-        let c = in-case e in
-        subst (PutsNext sheet k s place room to (Refused why)) (sym c.1) (refuses (some_number why) (refusing (some_number why) (cause-of c.0)))
+        subst (PutsNext sheet k s place room to (Err why)) (sym x.comes.1) (refuses (some_number why) (refusing (some_number why) (cause-of x.comes.0)))
 
-    pub none-measured : Measures sheet k s place (Unmeasured why)
-    none-measured = refuses (some_number why) (cause-of (in-case e).0)
+    pub none-measured : Measures sheet k s place (Err why)
+    none-measured = refuses (some_number why) (cause-of x.comes.0)
+
+  module _ (t : Tried) (x : Tries sheet k s place sure room to (Ok t) later) where
+    in-case : {q : Tried} → t ≡ q → Comes sheet k s place sure room to (Ok q) later
+    in-case e = (subst (λ (q : Tried). Tries sheet k s place sure room to (Ok q) later) e x).comes
+
+    pub never-unsure : {start : ℕ} {A : Type 0} → sure ≡ true → t ≡ Unsure start → A
+    never-unsure h e = absurd (true≢false (sym h ∙ (in-case e).0))
+
+    module _ {v : Listed} (e : t ≡ At v) where
+      tried-at : Clipped sheet k s place sure room to v later
+      tried-at = in-case e
+
+      pub size-tried : InTypes sheet → to ≡ 0 → length s ≤ largest_place → Measures sheet k s place (Ok (record { start = v.start; len = v.len; size = v.behind }))
+      size-tried types z h =
+          let c = tried-at in
+          let few : v.start < 10 ^ 20 = omega (arith, c.found.stands.inside) in
+          answers {v = record { start = v.start; len = v.len; size = v.behind }} (cause-of (hit-found c.found))
+          (record { from = c.from; end = c.end; found = c.found; text = c.text; line = c.line; size_is = omega (arith, c.put.behind, line-most types few c.line) })
+
+      pub next-tried : sure ≡ false → to ≤ largest_place → PutsNext sheet k s place room to (Ok v) later
+      next-tried h l =
+          let c = tried-at in
+          let f = c.fits h in
+          answers {v = (v, later)} (enough c.found c.line f)
+          (record { from = c.from; end = c.end; found = c.found; text = c.text; line = c.line; behind-is = omega (arith, c.put.behind, c.put.slice); room-is = c.put.room-is })
 
 -- ---- what is measured
 
-module _ {sheet : Option Lookup} {k : ℕ} {s : List ℕ} {place : ℕ} (r : Measured) (m : Measures sheet k s place r) where
-  module _ {start len size : ℕ} (e : r ≡ SizedAt start len size) where
-    size-next : NextSize sheet k s place (record { start = start; len = len; size = size })
-    size-next = answered (subst (Measures sheet k s place) e m) refl
+module _ {sheet : Option Lookup} {k : ℕ} {s : List ℕ} {place : ℕ} where
+  module _ {v : Measured} (m : Measures sheet k s place (Ok v)) where
+    size-next : NextSize sheet k s place v
+    size-next = answered m refl
 
-    pub measured-short : {room : List ℕ} {to left : ℕ} → left ≡ length room - to → left < size → PutsNext sheet k s place room to (Refused NoRoom) room
+    pub measured-short : {room : List ℕ} {to left : ℕ} → left ≡ length room - to → left < v.size → PutsNext sheet k s place room to (Err NoRoom) room
     measured-short l h = let z = size-next in refuses (lit< tt) (too_few z.found z.line (omega (arith, z.size_is)))
 
-    pub measured-put : {room later : List ℕ} {to left : ℕ} → left ≡ length room - to → size ≤ left → (t : Tried) → Tries sheet k s place true room to t later
-        → PutsNext sheet k s place room to (At start len (to + size)) later
+    pub measured-put : {room later : List ℕ} {to left : ℕ} → left ≡ length room - to → v.size ≤ left → (t : Result Tried Refusal) → Tries sheet k s place true room to t later
+        → PutsNext sheet k s place room to (Ok (record { start = v.start; len = v.len; behind = to + v.size })) later
     measured-put {room} {later} {to} l h t x =
         let z = size-next in
         let n = z.size_is in
-        answers {v = (record { start = start; len = len; behind = to + size }, later)} (enough z.found z.line (omega arith))
+        answers {v = (record { start = v.start; len = v.len; behind = to + v.size }, later)} (enough z.found z.line (omega arith))
         (record { from = z.from; end = z.end; found = z.found; text = z.text; line = z.line; behind-is = omega arith; room-is = put-anyway t x refl z.found z.line })
 
-  pub none-next : {why : Refusal} {room : List ℕ} {to : ℕ} → r ≡ Unmeasured why → PutsNext sheet k s place room to (Refused why) room
-  none-next {why} e = refuses (some_number why) (refusing (some_number why) (cause-of (subst (Measures sheet k s place) e m)))
+  pub none-next : (why : Refusal) {room : List ℕ} {to : ℕ} → Measures sheet k s place (Err why) → PutsNext sheet k s place room to (Err why) room
+  none-next why m = refuses (some_number why) (refusing (some_number why) (cause-of m))
 
 -- ---- from the start of what is found
 
@@ -331,7 +336,7 @@ module _ {k : ℕ} {s : List ℕ} {place : ℕ} {v : hits.Hit} (l : Leftmost k s
     cause-there i (short {v = u} m o h) = short (subst (Leftmost k s v.start) (leftmost-one v u l m) at-start) o h
 
   -- what is next from there on is what is next from the place on
-  pub next-from-place : {sheet : Option Lookup} {start : ℕ} {room later : List ℕ} {to : ℕ} (r : Listed) → v.start ≡ start → PutsNext sheet k s start room to r later → PutsNext sheet k s place room to r later
+  pub next-from-place : {sheet : Option Lookup} {start : ℕ} {room later : List ℕ} {to : ℕ} (r : Result Listed Refusal) → v.start ≡ start → PutsNext sheet k s start room to r later → PutsNext sheet k s place room to r later
   next-from-place {sheet} {start} {room} {later} {to} r e a = go (subst (λ (i : ℕ). PutsNext sheet k s i room to r later) (sym e) a)
     where
       go : {n : ℕ} {w : Placed × List ℕ} → Answers {A = Placed × List ℕ} (zero_placed, room) (NextCause sheet k s v.start (length room - to)) (λ w. NextLine sheet k s v.start room to w.0 w.1) n w
@@ -342,8 +347,8 @@ module _ {k : ℕ} {s : List ℕ} {place : ℕ} {v : hits.Hit} (l : Leftmost k s
       go (refuses {no = n} p f) = refuses p (first-at (cause-here n) cause-there f)
 
 -- so what is unsure is settled there
-pub next-measured : {sheet : Option Lookup} {k : ℕ} {s : List ℕ} {place : ℕ} {sure : Bool} {room between : List ℕ} {to : ℕ} (t : Tried) → Tries sheet k s place sure room to t between
-    → {start : ℕ} → t ≡ Unsure start → (r : Listed) {later : List ℕ} → PutsNext sheet k s start between to r later → PutsNext sheet k s place room to r later
+pub next-measured : {sheet : Option Lookup} {k : ℕ} {s : List ℕ} {place : ℕ} {sure : Bool} {room between : List ℕ} {to : ℕ} (t : Tried) → Tries sheet k s place sure room to (Ok t) between
+    → {start : ℕ} → t ≡ Unsure start → (r : Result Listed Refusal) {later : List ℕ} → PutsNext sheet k s start between to r later → PutsNext sheet k s place room to r later
 next-measured {sheet} {k} {s} {place} {sure} {room} {between} {to} t x {start} e r {later} a =
     let c = in-case t x e in
     next-from-place c.2.1 r c.2.2 (subst (λ (y : List ℕ). PutsNext sheet k s start y to r later) c.1 a)

@@ -9,6 +9,7 @@ use native.Mathlib.Omega.{arith}
 use lib.Dec.{lit<}
 use lib.ListN.{length}
 use lib.Seq.{sets}
+use Rattle.std.specs.Prelude.{Ok, Err}
 use Rattle.digits.specs.Paper.Refusals.{refusal_order, First, answers, refuses}
 use Rattle.digits.specs.declared.refusal.Refusal.{Refusal}
 use Rattle.digits.specs.declared.refusal.Refusal.TheVariants.{OutOfLimits}
@@ -18,24 +19,18 @@ use Rattle.messages.specs.Paper.Meant.{ContentWith, MessageWith, Means}
 use Rattle.messages.specs.Paper.Message.{Message}
 use Rattle.messages.specs.Paper.Says.{Says}
 use Rattle.messages.specs.Paper.Table.{Above, Good}
-use Rattle.messages.specs.declared.Meant.{Meant}
-use Rattle.messages.specs.declared.Meant.TheVariants.{Is, Refused as Unmeant}
 use Rattle.messages.specs.declared.Message.{Message as Coded}
-use Rattle.messages.specs.declared.Standing.{Standing}
-use Rattle.messages.specs.declared.Standing.TheVariants.{Good as InTable, Refused}
 use Rattle.messages.specs.declared.Tag.{Tag}
 use Rattle.messages.proofs.Laws.Meant.{one-content-with, says-with, meant-in}
 use Rattle.messages.proofs.Laws.Says.{one-said}
 use Rattle.messages.proofs.Laws.Table.{one-message}
 use Rattle.puts.specs.Paper.Put.{largest_place, Put}
-use Rattle.puts.specs.declared.Written.{Written}
-use Rattle.puts.specs.declared.Written.TheVariants.{Refused as Unwritten}
+use Rattle.puts.specs.Paper.Wrote.{Written}
 use Rattle.puts.proofs.Laws.Right.{ours, first-5, first-4, no-cause}
 use Rattle.lines.specs.Paper.Answers.{LineSaid, SaidCause, no-message, short, PutSaid, WritesSaid, HasContent, PutContent, PutsContent}
 use Rattle.sheet.specs.Paper.Sheet.{Lookup}
 use Rattle.lines.specs.Paper.WithSheet.{line_with}
 use Rattle.lines.specs.Work.Put.{put, AllOrNone, all, none}
-use Rattle.lines.specs.declared.Ended.TheVariants.{At as EndedAt, Refused as Unended}
 use Rattle.lines.proofs.Laws.Next.{line-of-message}
 use Rattle.lines.proofs.Laws.Said.{put-said}
 
@@ -104,19 +99,18 @@ said-placed one {t = t} {room = room} {to = to} l (all h) =
 said-placed one l (none h) = refuses (lit< tt) (too_few l h)
 
 -- of a message
-module _ (e : Coded) (s : List ℕ) (r : Standing) (a : Allows e s r) {at len : ℕ} where
-  pub allowed-line : {sheet : Option Lookup} → r ≡ InTable → LineSaid sheet (Says e s) at len (put sheet e s at len)
-  allowed-line q = let x = answered (subst (Allows e s) q a) refl in line-of-message e s x.2 x.1
+module _ (e : Coded) (s : List ℕ) {at len : ℕ} where
+  pub allowed-line : {sheet : Option Lookup} → Allows e s (Ok tt) → LineSaid sheet (Says e s) at len (put sheet e s at len)
+  allowed-line a = let x = answered a refl in line-of-message e s x.2 x.1
 
-  pub not-allowed : {sheet : Option Lookup} {why : Refusal} {room : List ℕ} {to : ℕ} → r ≡ Refused why → WritesSaid sheet (Says e s) at len room to (Unwritten OutOfLimits) room
-  not-allowed {why = why} q =
-      refuses (lit< tt) (first-5 only (no-message (none_said e s (cause-at (cause-of (subst (Allows e s) q a)) (some_number why)))))
+  pub not-allowed : {sheet : Option Lookup} (why : Refusal) {room : List ℕ} {to : ℕ} → Allows e s (Err why) → WritesSaid sheet (Says e s) at len room to (Err OutOfLimits) room
+  not-allowed why a = refuses (lit< tt) (first-5 only (no-message (none_said e s (cause-at (cause-of a) (some_number why)))))
 
 -- of a content
-module _ (t : Tag) (p : List ℕ) (r : Meant) (a : Means (ContentWith t p) r) where
-  module _ {e : Coded} (q : r ≡ Is e) where
+module _ (t : Tag) (p : List ℕ) where
+  module _ {e : Coded} (a : Means (ContentWith t p) (Ok e)) where
     meant : MessageWith (ContentWith t p) e
-    meant = meant-in (subst (Means (ContentWith t p)) q a)
+    meant = meant-in a
 
     -- its message is said with the payload beside it, and so its line is the one that is put
     beside : Says e p meant.message
@@ -127,9 +121,9 @@ module _ (t : Tag) (p : List ℕ) (r : Meant) (a : Means (ContentWith t p) r) wh
         record { message = meant.message; good = meant.good; said = meant.content; is = put-said sheet e p at len meant.message meant.good.limits beside }
 
     pub meant-put : {sheet : Option Lookup} {at len : ℕ} {room later : List ℕ} {to behind : ℕ} → Put room later to behind (put sheet e p at len)
-        → PutsContent sheet t p at len room to (EndedAt behind) later
+        → PutsContent sheet t p at len room to (Ok behind) later
     meant-put {sheet} {at} {len} {later = later} {behind = behind} x =
-        answers {v = (behind, later)} (cause-of (subst (Means (ContentWith t p)) q a)) (record { text = put sheet e p at len; line = meant-line sheet at len; put = x })
+        answers {v = (behind, later)} (cause-of a) (record { text = put sheet e p at len; line = meant-line sheet at len; put = x })
 
-  pub not-meant : {sheet : Option Lookup} {at len : ℕ} {why : Refusal} {room : List ℕ} {to : ℕ} → r ≡ Unmeant why → PutsContent sheet t p at len room to (Unended why) room
-  not-meant {why = why} q = refuses (some_number why) (cause-of (subst (Means (ContentWith t p)) q a))
+  pub not-meant : {sheet : Option Lookup} {at len : ℕ} (why : Refusal) {room : List ℕ} {to : ℕ} → Means (ContentWith t p) (Err why) → PutsContent sheet t p at len room to (Err why) room
+  not-meant why a = refuses (some_number why) (cause-of a)

@@ -1,5 +1,6 @@
 -- What the code's message says, put as a line, is the line of the message.
 -- Assumes nothing.
+use Rattle.std.specs.Prelude.{Result, Ok, Err}
 use mathlib.Core.Path.{◌≡◌, refl, sym, ap, ◌∙◌, subst}
 use mathlib.Core.Bool.{Bool, true, false, cond}
 use mathlib.Core.List.{List, [], ◌++◌, append-nil}
@@ -10,6 +11,7 @@ use lib.ListN.{length}
 use borrow.Author.Tests.{ltb-true, ltb-false, le-ltb}
 use Rattle.digits.specs.Paper.Ascii.{ascii}
 use Rattle.digits.specs.Paper.Hex.{hex_bytes}
+use Rattle.digits.specs.declared.refusal.Refusal.{Refusal}
 use Rattle.digits.specs.declared.refusal.Refusal.TheVariants.{OutOfLimits}
 use Rattle.json_values.specs.Paper.Json.{Member, number, hex}
 use Rattle.layouts.specs.Paper.Made.{Wire, Payload}
@@ -26,7 +28,6 @@ use Rattle.messages.specs.declared.nest.Response.{Response}
 use Rattle.messages.specs.declared.nest.Response.TheVariants.{Climate, State, Break, End, Text}
 use Rattle.messages.specs.declared.nest.Response.TheVariants as response_cases
 use Rattle.messages.specs.declared.nest.Volts.{Volts}
-use Rattle.messages.specs.declared.nest.Volts.TheVariants.{Are, Refused as NoVolts}
 use Rattle.messages.specs.declared.nikobus.Nikobus.{Nikobus}
 use Rattle.messages.specs.declared.nikobus.Nikobus.TheVariants.{Read, Set, Answer, Press, Tail, Link}
 use Rattle.messages.proofs.Laws.Responses.{volts-refused, volts-read}
@@ -61,13 +62,13 @@ nikobus-said e s m (another n g) = fixed-rest e s n ∙ ap named (sym g)
 -- ---- Nest
 
 -- a state's members, from the voltages that are read from its payload
-pub state-members : (s : List ℕ) (r : Volts) → ReadsVolts s r → volts_members s r ≡ state_members s
+pub state-members : (s : List ℕ) (r : Result Volts Refusal) → ReadsVolts s r → volts_members s r ≡ state_members s
 unfolding state_members volts_members members
 state-members s r v = go (ltb (length s) 16) refl
   where
     go : (b : Bool) → ltb (length s) 16 ≡ b → volts_members s r ≡ cond b [] (commaed (members (state s)))
-    go true e = ap (volts_members s) (voltages s r (NoVolts OutOfLimits) v (volts-refused (ltb-true (length s) 16 e)))
-    go false e = ap (volts_members s) (voltages s r (Are (v_in s) (v_op s) (v_bat s)) v (volts-read (ltb-false (length s) 16 e) refl refl refl))
+    go true e = ap (volts_members s) (voltages s r (Err OutOfLimits) v (volts-refused (ltb-true (length s) 16 e)))
+    go false e = ap (volts_members s) (voltages s r (Ok (record { vin = v_in s; vop = v_op s; vbat = v_bat s })) v (volts-read (ltb-false (length s) 16 e) refl refl refl))
 
 state-rest : (s : List ℕ) → 16 ≤ length s → response_name_and_members State s ≡ named (state s)
 unfolding response_name_and_members state_members named

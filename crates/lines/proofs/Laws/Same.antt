@@ -1,7 +1,7 @@
 -- Two messages with the same line at the same place are the same: place and length end where they end, then the name, which says what
 -- members follow and how they are spelt, then each member's value.
 -- Assumes nothing.
-use mathlib.Core.List.{List, [], ◌∷◌, ◌++◌}
+use mathlib.Core.List.{List, ◌∷◌, ◌++◌}
 use mathlib.Core.Option.{Option}
 use mathlib.Core.Path.{◌≡◌, refl, sym, ap, ◌∙◌, subst}
 use Prim.Native.Nat.{ℕ}

@@ -1,15 +1,14 @@
 -- How long a line gets by a sheet.
 -- Assumes nothing.
-use mathlib.Core.Bool.{Bool, true, false}
-use mathlib.Core.List.{List, [], ◌∷◌, ◌++◌}
-use mathlib.Core.Option.{Option, none, some}
-use mathlib.Core.Path.{◌≡◌, refl, sym, ap, ◌∙◌, subst}
-use Prim.Native.Nat.{ℕ, zero, suc, ◌+◌, ◌*◌, ◌/◌, ◌^◌, ◌≤◌, ◌<◌}
+use mathlib.Core.Bool.{Bool}
+use mathlib.Core.List.{List, [], ◌∷◌}
+use mathlib.Core.Option.{some}
+use mathlib.Core.Path.{◌≡◌, ap, ◌∙◌}
+use Prim.Native.Nat.{ℕ, zero, suc, ◌+◌, ◌*◌, ◌/◌, ◌≤◌, ◌<◌}
 use native.Mathlib.Omega.{arith}
 use lib.IntN.{ℤ, nat_abs}
 use lib.ListN.{length, drop, length-append, length-drop}
 use Rattle.digits.specs.Paper.Ascii.{ascii}
-use Rattle.digits.specs.Paper.Bytes.{Bytes}
 use Rattle.digits.specs.Paper.Decimal.{decimal}
 use Rattle.digits.specs.Paper.LowFirst.{Width, one, two, four}
 use Rattle.digits.proofs.Laws.Decimal.{length-decimal}
@@ -24,8 +23,8 @@ use Rattle.numbers.proofs.Laws.Text.{length_last, length-text, length-sign}
 use Rattle.numbers.proofs.Laws.Values as values
 use Rattle.numbers.proofs.Theorems.ByteValues.{value-raw}
 use Rattle.sheet.specs.Paper.Sheet.{RegisterType, Lookup}
-use Rattle.sheet.specs.Paper.Split.{Pair, TypeHolds, Held, end, and, data_of, Splits}
-use Rattle.sheet.proofs.Laws.Pairs.{uncons, no_bytes}
+use Rattle.sheet.specs.Paper.Split.{Pair, TypeHolds, Held, and, Splits}
+use Rattle.sheet.proofs.Laws.Pairs.{uncons}
 use Rattle.lines.specs.Paper.WithSheet.{decimals_of, pair_value, pair_values}
 use Rattle.lines.proofs.Laws.Types.{InTypes}
 

@@ -9,7 +9,7 @@ use Prim.Native.Nat.{ℕ, ◌+◌, ◌*◌, ◌^◌, ◌≤◌, ◌<◌}
 use native.Mathlib.Nat.{pow-le-pow_right, zero-lt-suc, lt_of_lt_of_le}
 use native.Mathlib.Omega.{arith}
 use lib.Dec.{eqb}
-use lib.IntN.{ℤ, pos}
+use lib.IntN.{pos}
 use lib.ListN.{length, length-append}
 use borrow.Author.Tests.{eqb-true}
 use Rattle.digits.specs.Paper.Ascii.{ascii}
@@ -66,7 +66,7 @@ use Rattle.lines.specs.Paper.Answers.{LineOf, LineSaid}
 use Rattle.sheet.specs.Paper.Sheet.{RegisterType, Lookup}
 use Rattle.sheet.specs.Paper.Split.{is_unsolicited, typed_value, Pair, split_of}
 use Rattle.sheet.proofs.Laws.Computed.{computed-splits}
-use Rattle.lines.specs.Paper.Line.{high_byte_first, wired, members, line, line_room}
+use Rattle.lines.specs.Paper.Line.{high_byte_first, wired, members, line_room}
 use Rattle.lines.specs.Paper.WithSheet.{type_in, Share, a_value, some_data, nothing, share, by_share, behind_share, value_reading, values_of, values, members_with, further_members, line_with}
 use Rattle.lines.specs.Paper.WithSheet as with
 use Rattle.lines.specs.Work.Put.{Bounded, a_byte}

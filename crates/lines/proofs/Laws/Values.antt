@@ -1,13 +1,13 @@
 -- The table of forms is the paper's: its members, its names, and its values, which make their message again.
 -- Assumes nothing.
 use mathlib.Core.Bool.{Bool, true, false, cond}
-use mathlib.Core.List.{List, [], ◌∷◌, ◌++◌}
+use mathlib.Core.List.{List}
 use mathlib.Core.Option.{Option, none, some}
 use mathlib.Core.Path.{◌≡◌, refl, sym, ap, ◌∙◌, subst}
 use Prim.Native.Nat.{ℕ, ◌^◌, ◌<◌}
 use native.Mathlib.Omega.{arith}
 use lib.Dec.{T, eqb}
-use lib.IntN.{ℤ, pos, nat_abs}
+use lib.IntN.{pos, nat_abs}
 use borrow.Author.Tests.{eqb-true}
 use Rattle.digits.specs.Paper.Ascii.{ascii}
 use Rattle.digits.specs.Paper.Bytes.{Bytes}
@@ -27,7 +27,7 @@ use Rattle.layouts.proofs.Laws.ByteRuns.{bytes-by, one-of-bytes}
 use Rattle.layouts.proofs.Laws.HomiqOne.{field-bytes}
 use Rattle.messages.specs.Paper.Message.{Message, read, set, answer, press, tail, link, command, climate, state, break, end, text, response, ask, reply, put, done, nibe, output, input, shutter, beat, homiq, name}
 use Rattle.messages.specs.Paper.Table.{Limits}
-use Rattle.json_values.proofs.Laws.Tokens.{unquoted, Ends, Token, number-token, hex-token, chars-token, truth-token, reading-token}
+use Rattle.json_values.proofs.Laws.Tokens.{unquoted, Token, number-token, hex-token, chars-token, truth-token, reading-token}
 use Rattle.lines.specs.Paper.Line.{high_byte_first, members}
 use Rattle.lines.specs.Paper.WithSheet.{value_reading, members_with}
 use Rattle.lines.specs.Work.Values.{Spelling, as_number, as_hex, as_chars, as_truth, as_reading, as_value, Of, spelt, Columns, close, column, Values, members_of, of_high_byte_first, wire_columns, wire_values, form_of, values, same_text, form_in, form_named}

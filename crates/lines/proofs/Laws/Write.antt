@@ -1,7 +1,8 @@
 -- What the writer of one frame's line answers.
 -- Assumes nothing.
-use mathlib.Core.Path.{◌≡◌, refl, sym, ap, ◌∙◌, subst}
-use mathlib.Core.Bool.{Bool, true, false, ◌||◌, true≢false}
+use Rattle.std.specs.Prelude.{Err, Ok}
+use mathlib.Core.Path.{◌≡◌, refl, sym, ap, ◌∙◌}
+use mathlib.Core.Bool.{Bool, false, ◌||◌, true≢false}
 use mathlib.Core.List.{List, ◌∷◌}
 use mathlib.Core.Option.{Option}
 use Prim.Native.Nat.{ℕ, ◌≤◌, ◌<◌}
@@ -19,15 +20,13 @@ use Rattle.messages.specs.Paper.Answers as decoding
 use Rattle.messages.specs.Paper.Content.{Content, kind_of, made, laid, payload_from, payload_to}
 use Rattle.messages.specs.Paper.Table.{content_of}
 use Rattle.messages.specs.declared.Decoded.{Decoded}
-use Rattle.messages.specs.declared.Decoded.TheVariants.{Is, Refused}
 use Rattle.messages.specs.declared.Message.{Message as Coded}
 use Rattle.messages.proofs.Laws.Cases.{said_in}
 use Rattle.messages.proofs.Laws.Decode.{is-frame}
 use Rattle.messages.proofs.Theorems.{has-message, stands-bytes}
 use Rattle.puts.specs.Paper.Put.{largest_place}
 use Rattle.puts.specs.Paper.Right as right
-use Rattle.puts.specs.declared.Written.{Written}
-use Rattle.puts.specs.declared.Written.TheVariants.{Refused as Unwritten}
+use Rattle.puts.specs.Paper.Wrote.{Written}
 use Rattle.puts.proofs.Laws.Right.{fronted-right}
 use Rattle.sheet.specs.Paper.Sheet.{Lookup}
 use Rattle.lines.specs.Paper.Answers.{LineOf, LineCause, no_kind, no-frame, short, WritesLine}
@@ -90,25 +89,25 @@ module _ {sheet : Option Lookup} {k : ℕ} {f : List ℕ} {place room : ℕ} whe
 
 -- ---- the answers
 
-module _ {k : ℕ} {f : List ℕ} (r : Decoded) (a : Decodes k f r) where
-  module _ {e : Coded} {from to : ℕ} (q : r ≡ Is e from to) where
-    decoded : Decodes k f (Is e from to)
-    decoded = subst (Decodes k f) q a
-
-    pub inside-frame : (from ≤ to) × (to ≤ length f)
+module _ {k : ℕ} {f : List ℕ} where
+  module _ {d : Decoded} (decoded : Decodes k f (Ok d)) where
+    pub inside-frame : (d.from ≤ d.to) × (d.to ≤ length f)
     inside-frame = said-inside (said_in decoded)
 
-    the-line : {sheet : Option Lookup} (place : ℕ) → LineOf sheet k f place (put sheet e (part from to f) place (length f))
-    the-line place = line-of-said place (part from to f) (said_in decoded) refl
+    -- the line that the code puts of what is decoded
+    abbrev pub put-of : Option Lookup → (place : ℕ) → List ℕ
+    put-of sheet place = put sheet d.message (part d.from d.to f) place (length f)
 
-    pub put-bounded : {sheet : Option Lookup} → InTypes sheet → (place : ℕ) → place ≤ largest_place → length f ≤ largest_place → Bounded sheet (put sheet e (part from to f) place (length f)) (length (part from to f))
-    put-bounded types place h k = said-bounded types (part from to f) (said_in decoded) refl h k
+    the-line : {sheet : Option Lookup} (place : ℕ) → LineOf sheet k f place (put-of sheet place)
+    the-line place = line-of-said place (part d.from d.to f) (said_in decoded) refl
 
-    pub written : {sheet : Option Lookup} (place : ℕ) (room later : List ℕ) (w : Written)
-        → AllOrNone (put sheet e (part from to f) place (length f)) room 0 w later → WritesLine sheet k f place room w later
+    pub put-bounded : {sheet : Option Lookup} → InTypes sheet → (place : ℕ) → place ≤ largest_place → length f ≤ largest_place → Bounded sheet (put-of sheet place) (length (part d.from d.to f))
+    put-bounded types place h k = said-bounded types (part d.from d.to f) (said_in decoded) refl h k
+
+    pub written : {sheet : Option Lookup} (place : ℕ) (room later : List ℕ) (w : Written) → AllOrNone (put-of sheet place) room 0 w later → WritesLine sheet k f place room w later
     written place room later w p = fronted-right w (the-line place) (enough (the-line place)) (too_few (the-line place)) (at_front p)
 
-  pub not_written : {sheet : Option Lookup} {why : Refusal} (place : ℕ) (room : List ℕ) → r ≡ Refused why → WritesLine sheet k f place room (Unwritten why) room
-  not_written {why = why} place room q =
-      let c = cause-of (subst (Decodes k f) q a) in
+  pub not_written : {sheet : Option Lookup} (why : Refusal) (place : ℕ) (room : List ℕ) → Decodes k f (Err why) → WritesLine sheet k f place room (Err why) room
+  not_written why place room a =
+      let c = cause-of a in
       right.refused (some_number why) (refusing c (cause-at c (some_number why)))

@@ -8,11 +8,11 @@ use Rattle.lines.proofs.of.Goals as goal
 
 pub placed-requires : goal.placed-requires
 placed-requires c =
-    line-bounded no-types c.args.message c.args.content.now (omega (arith, c.well_formed)) (omega (arith, c.well_formed)) (allowed-line c.args.message c.args.content.now c.allowed.result c.allowed.ensures c.in-Good.is)
+    line-bounded no-types c.args.message c.args.content.now (omega (arith, c.well_formed)) (omega (arith, c.well_formed)) (allowed-line c.args.message c.args.content.now c.in-Ok.ensures)
 
-pub returns-in-Good : goal.returns-in-Good
-returns-in-Good c =
-    said-placed (one-says c.args.message c.args.content.now) (allowed-line c.args.message c.args.content.now c.allowed.result c.allowed.ensures c.in-Good.is) c.placed.ensures
+pub returns-in-Ok : goal.returns-in-Ok
+returns-in-Ok c =
+    said-placed (one-says c.args.message c.args.content.now) (allowed-line c.args.message c.args.content.now c.in-Ok.ensures) c.placed.ensures
 
-pub returns-in-Refused : goal.returns-in-Refused
-returns-in-Refused c = not-allowed c.args.message c.args.content.now c.allowed.result c.allowed.ensures c.in-Refused.is
+pub returns-in-Err : goal.returns-in-Err
+returns-in-Err c = not-allowed c.args.message c.args.content.now _ c.in-Err.ensures

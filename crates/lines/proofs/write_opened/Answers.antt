@@ -1,41 +1,41 @@
 -- `lines::write_opened` meets its contract: the line by a sheet's map is the line by the sheet.
 -- Assumes nothing.
-use mathlib.Core.Path.{sym, ap, ◌∙◌}
+use mathlib.Core.Path.{ap}
 use native.Mathlib.Omega.{arith}
 use Rattle.lines.proofs.Laws.Write.{inside-frame, put-bounded, written}
+use Rattle.std.proofs.lemmas.Result.{err_from_is_err_and}
 use Rattle.lines.proofs.Laws.Types.{in-types}
 use Rattle.lines.proofs.Laws.ByText.{by_map, some-map, bad-text, not-decoded}
 use Rattle.sheet.proofs.Laws.ByMap as maps
-use mathlib.Core.Path.{subst}
-use Prim.Native.Nat.{◌<◌}
 use Rattle.digits.proofs.Laws.Refusals.{some_number}
 use Rattle.puts.specs.Paper.Wrote.{written_refusal}
-use Rattle.puts.specs.declared.Written.{Written}
 use Rattle.lines.proofs.write_opened.Goals as goal
 
 pub slice_bounds-placed-count : goal.slice_bounds-placed-count
-slice_bounds-placed-count c = (inside-frame c.decode.result c.decode.ensures c.in-Is.is).0
+slice_bounds-placed-count c = (inside-frame c.in_ok-message.ensures).0
 
 pub slice_bounds-placed-start : goal.slice_bounds-placed-start
-slice_bounds-placed-start c = (inside-frame c.decode.result c.decode.ensures c.in-Is.is).0
+slice_bounds-placed-start c = (inside-frame c.in_ok-message.ensures).0
 
 pub slice_bounds-placed-end : goal.slice_bounds-placed-end
-slice_bounds-placed-end c = (inside-frame c.decode.result c.decode.ensures c.in-Is.is).1
+slice_bounds-placed-end c = (inside-frame c.in_ok-message.ensures).1
 
 pub placed-requires : goal.placed-requires
 placed-requires c =
-    put-bounded c.decode.result c.decode.ensures c.in-Is.is (in-types c.map.new.map) c.args.at (omega (arith, c.well_formed)) (omega (arith, c.well_formed))
+    put-bounded c.in_ok-message.ensures (in-types c.map.new.map) c.args.at (omega (arith, c.well_formed)) (omega (arith, c.well_formed))
 
-pub returns-in-Bytes : goal.returns-in-Bytes
-returns-in-Bytes c =
-    let e = ap written_refusal c.in-Bytes.is in
+pub returns : goal.returns
+returns c =
+    let e = ap written_refusal c.in_ok-_size.was in
     by_map c.placed.result (maps.by_map c.args.opened.now (omega (arith, c.well_formed)) c.map.ensures e) (some-map c.map.ensures e)
-    (written c.decode.result c.decode.ensures c.in-Is.is c.args.at c.args.room.now _ c.placed.result c.placed.ensures)
+    (written c.in_ok-message.ensures c.args.at c.args.room.now _ c.placed.result c.placed.ensures)
 
-pub returns-in-Refused-map : goal.returns-in-Refused-map
-returns-in-Refused-map c =
-    let x = maps.no-map c.args.opened.now (omega (arith, c.well_formed)) c.map.ensures (subst (λ (r : Written). 0 < written_refusal r) (sym c.in-Refused-map.is) (some_number c.in-Refused-map.why)) in
-    bad-text c.decode.result c.decode.ensures c.in-Is.is c.in-Refused-map.why (sym (ap written_refusal c.in-Refused-map.is) ∙ x.0) x.1
+pub returns-in_err-_size : goal.returns-in_err-_size
+returns-in_err-_size c =
+    let p = err_from_is_err_and c.from_residual-in_err-_size.result c.from_residual-in_err-_size.ensures.1 in
+    let x = maps.no-map c.args.opened.now (omega (arith, c.well_formed)) c.in_err-_size.ensures (some_number c.in_err-_size.field-0.0) in
+    rw (p.1, p.2) (bad-text c.in_ok-message.ensures c.in_err-_size.field-0.0 x.0 x.1)
 
-pub returns-in-Refused : goal.returns-in-Refused
-returns-in-Refused c = not-decoded c.decode.result c.decode.ensures c.in-Refused.is
+pub returns-in_err-message : goal.returns-in_err-message
+returns-in_err-message c =
+    let p = err_from_is_err_and c.from_residual.result c.from_residual.ensures.1 in rw (p.1, p.2) (not-decoded _ c.in_err-message.ensures)

@@ -1,15 +1,15 @@
 -- The promises: the line of a frame, the line of a message or of a content, the next line of a capture, and its size.
 -- Each goes by a sheet, if there is one: at `none` the line is 01's.
 -- Assumes nothing.
-use Rattle.std.specs.Prelude.{false, List, ◌≡◌, ℕ, ◌+◌, ◌-◌, ◌<◌, length}
+use Rattle.std.specs.Prelude.{false, Result, Ok, Err, List, ◌≡◌, ℕ, ◌+◌, ◌-◌, ◌<◌, length}
 use Rattle.std.proofs.Math.Option.{Option, some}
 use Rattle.std.proofs.lemmas.List.Edits.{sets}
 use Rattle.digits.specs.Paper.Bytes.{part}
 use Rattle.digits.specs.Paper.Refusals.{refusal_number, Answers}
+use Rattle.digits.specs.declared.refusal.Refusal.{Refusal}
 use Rattle.puts.specs.Paper.Put.{Put}
 use Rattle.puts.specs.Paper.Right.{WritesRight, AnswersInto}
-use Rattle.puts.specs.Paper.Wrote.{written_refusal, written_count}
-use Rattle.puts.specs.declared.Written.{Written}
+use Rattle.puts.specs.Paper.Wrote.{written_refusal, written_count, Written}
 use Rattle.frames.specs.Paper.Kinds.{known, Frame}
 use Rattle.frames.specs.Paper.Search.{Hit, Leftmost, SearchCause, frame_part}
 use Rattle.messages.specs.Paper.Message.{Message}
@@ -19,12 +19,8 @@ use Rattle.messages.specs.Paper.Table.{content_of, Good}
 use Rattle.messages.specs.declared.Tag.{Tag}
 use Rattle.sheet.specs.Paper.Sheet.{Row, Sheet, Lookup, find}
 use Rattle.lines.specs.Paper.WithSheet.{line_with}
-use Rattle.lines.specs.declared.Ended.{Ended}
-use Rattle.lines.specs.declared.Ended.TheVariants.{At as EndedAt, Refused as Unended}
 use Rattle.lines.specs.declared.Listed.{Listed}
-use Rattle.lines.specs.declared.Listed.TheVariants.{At, Refused}
 use Rattle.lines.specs.declared.Measured.{Measured}
-use Rattle.lines.specs.declared.Measured.TheVariants.{At as SizedAt, Refused as Unmeasured}
 
 -- ---- write
 
@@ -102,13 +98,13 @@ abbrev pub HasContent : Tag → List ℕ → Message → Type 0
 HasContent tag p m = ContentWith tag p (content_of m)
 
 -- the refusal number and the value of an answer: the place behind the line
-abbrev pub ended_refusal : Ended → ℕ
-ended_refusal (EndedAt behind) = 0
-ended_refusal (Unended why) = refusal_number why
+abbrev pub ended_refusal : Result ℕ Refusal → ℕ
+ended_refusal (Ok behind) = 0
+ended_refusal (Err why) = refusal_number why
 
-abbrev pub ended_place : Ended → ℕ
-ended_place (EndedAt behind) = behind
-ended_place (Unended why) = 0
+abbrev pub ended_place : Result ℕ Refusal → ℕ
+ended_place (Ok behind) = behind
+ended_place (Err why) = 0
 
 -- the right place behind the line, and the right room afterwards: the line is put as far as the room goes
 pub record PutContent (sheet : Option Lookup) (tag : Tag) (p : List ℕ) (at len : ℕ) (room : List ℕ) (to behind : ℕ)
@@ -118,7 +114,7 @@ pub record PutContent (sheet : Option Lookup) (tag : Tag) (p : List ℕ) (at len
   pub put : Put room later to behind text
 
 -- r is the right answer, and `later` the right room afterwards; refused as `messages::of` is, with 5
-abbrev pub PutsContent : Option Lookup → Tag → List ℕ → ℕ → ℕ → List ℕ → ℕ → Ended → List ℕ → Type 0
+abbrev pub PutsContent : Option Lookup → Tag → List ℕ → ℕ → ℕ → List ℕ → ℕ → Result ℕ Refusal → List ℕ → Type 0
 PutsContent sheet tag p at len room to r later =
     AnswersInto 0 room (MeantCause (ContentWith tag p)) (PutContent sheet tag p at len room to) (ended_refusal r)
     (ended_place r) later
@@ -126,21 +122,19 @@ PutsContent sheet tag p at len room to r later =
 -- ---- next
 
 -- the refusal number and the values of an answer: the start and the length of the frame, and the place behind its line
-pub record Placed : Type 0 where
-  pub start : ℕ
-  pub len : ℕ
-  pub behind : ℕ
+abbrev pub Placed : Type 0
+Placed = Listed
 
-abbrev pub listed_refusal : Listed → ℕ
-listed_refusal (At start len behind) = 0
-listed_refusal (Refused why) = refusal_number why
+abbrev pub listed_refusal : Result Listed Refusal → ℕ
+listed_refusal (Ok v) = 0
+listed_refusal (Err why) = refusal_number why
 
 abbrev pub zero_placed : Placed
 zero_placed = record { start = 0; len = 0; behind = 0 }
 
-abbrev pub listed_placed : Listed → Placed
-listed_placed (At start len behind) = record { start = start; len = len; behind = behind }
-listed_placed (Refused why) = zero_placed
+abbrev pub listed_placed : Result Listed Refusal → Placed
+listed_placed (Ok v) = v
+listed_placed (Err why) = zero_placed
 
 -- the search's refusals, and 4 "lent room too short for the answer": what is left of the room is shorter than the
 -- line of the frame that is found
@@ -162,7 +156,7 @@ pub record NextLine (sheet : Option Lookup) (k : ℕ) (s : List ℕ) (place : �
   pub room-is : later ≡ sets room to text
 
 -- r is the right answer, and `later` the right room afterwards; of a place beyond the room nothing is left
-abbrev pub PutsNext : Option Lookup → ℕ → List ℕ → ℕ → List ℕ → ℕ → Listed → List ℕ → Type 0
+abbrev pub PutsNext : Option Lookup → ℕ → List ℕ → ℕ → List ℕ → ℕ → Result Listed Refusal → List ℕ → Type 0
 PutsNext sheet k s place room to r later =
     AnswersInto zero_placed room (NextCause sheet k s place (length room - to)) (NextLine sheet k s place room to)
     (listed_refusal r) (listed_placed r) later
@@ -170,21 +164,19 @@ PutsNext sheet k s place room to r later =
 -- ---- measure
 
 -- the refusal number and the values of an answer: the start and the length of the frame, and the size of its line
-pub record Size : Type 0 where
-  pub start : ℕ
-  pub len : ℕ
-  pub size : ℕ
+abbrev pub Size : Type 0
+Size = Measured
 
-abbrev pub measured_refusal : Measured → ℕ
-measured_refusal (SizedAt start len size) = 0
-measured_refusal (Unmeasured why) = refusal_number why
+abbrev pub measured_refusal : Result Measured Refusal → ℕ
+measured_refusal (Ok v) = 0
+measured_refusal (Err why) = refusal_number why
 
 abbrev pub zero_size : Size
 zero_size = record { start = 0; len = 0; size = 0 }
 
-abbrev pub measured_size : Measured → Size
-measured_size (SizedAt start len size) = record { start = start; len = len; size = size }
-measured_size (Unmeasured why) = zero_size
+abbrev pub measured_size : Result Measured Refusal → Size
+measured_size (Ok v) = v
+measured_size (Err why) = zero_size
 
 -- The right values. The search finds this frame in the capture s, from the place on, and its line has `size` bytes.
 pub record NextSize (sheet : Option Lookup) (k : ℕ) (s : List ℕ) (place : ℕ) (v : Size) : Type 0 where
@@ -196,6 +188,6 @@ pub record NextSize (sheet : Option Lookup) (k : ℕ) (s : List ℕ) (place : �
   pub size_is : v.size ≡ length text
 
 -- r is the right answer; refused as the search is
-abbrev pub Measures : Option Lookup → ℕ → List ℕ → ℕ → Measured → Type 0
+abbrev pub Measures : Option Lookup → ℕ → List ℕ → ℕ → Result Measured Refusal → Type 0
 Measures sheet k s place r =
     Answers zero_size (SearchCause k s place) (NextSize sheet k s place) (measured_refusal r) (measured_size r)

@@ -1,9 +1,10 @@
 -- What the writers of a line put, from the code's message and what stands beside it.
 -- Assumes nothing.
-use Rattle.std.specs.Prelude.{cond, List, [], ◌∷◌, ◌++◌, ℕ, ◌+◌, ◌-◌, ◌*◌, ◌≤◌, ◌<◌, ltb, pos, length}
+use Rattle.std.specs.Prelude.{cond, List, [], ◌∷◌, ◌++◌, ℕ, ◌+◌, ◌-◌, ◌*◌, ◌≤◌, ◌<◌, ltb, pos, length, Ok, Err, Result}
 use Rattle.std.proofs.Math.Option.{Option, none as without, some}
 use Rattle.std.proofs.lemmas.List.Edits.{sets}
 use Rattle.digits.specs.Paper.Ascii.{ascii}
+use Rattle.digits.specs.declared.refusal.Refusal.{Refusal}
 use Rattle.digits.specs.declared.refusal.Refusal.TheVariants.{NoRoom}
 use Rattle.json_values.specs.Paper.Json.{Member, ◌∶◌, member, number, hex, chars, quoted, reading}
 use Rattle.messages.specs.Paper.Homiq.{field_at}
@@ -19,12 +20,10 @@ use Rattle.messages.specs.declared.nest.Response.{Response}
 use Rattle.messages.specs.declared.nest.Response.TheVariants.{Climate, State, Break, End, Text}
 use Rattle.messages.specs.declared.nest.Response.TheVariants as response_cases
 use Rattle.messages.specs.declared.nest.Volts.{Volts}
-use Rattle.messages.specs.declared.nest.Volts.TheVariants.{Are, Refused as NoVolts}
 use Rattle.messages.specs.declared.nikobus.Nikobus.{Nikobus}
 use Rattle.messages.specs.declared.nikobus.Nikobus.TheVariants.{Read, Set, Answer, Press, Tail, Link}
 use Rattle.puts.specs.Paper.Put.{largest_place}
-use Rattle.puts.specs.declared.Written.{Written}
-use Rattle.puts.specs.declared.Written.TheVariants.{Bytes, Refused}
+use Rattle.puts.specs.Paper.Wrote.{Written}
 use Rattle.sheet.specs.Paper.Sheet.{Lookup}
 use Rattle.lines.specs.Paper.Line.{members}
 use Rattle.lines.specs.Paper.WithSheet.{members_with, further_members}
@@ -52,15 +51,15 @@ nikobus_name_and_members Tail s = named (of_nikobus Tail [])
 nikobus_name_and_members Link s = ascii "link\",\"data\":" ++ quoted s
 
 -- the members of a state with these voltages; a payload that is too short has none
-unfoldable pub volts_members : List ℕ → Volts → List ℕ
-volts_members s (Are x y z) =
+unfoldable pub volts_members : List ℕ → Result Volts Refusal → List ℕ
+volts_members s (Ok v) =
     commaed
-    (ascii "vin" ∶ reading (pos x) 2
-    ∷ ascii "vop" ∶ reading (pos y) 3
-    ∷ ascii "vbat" ∶ reading (pos z) 3
+    (ascii "vin" ∶ reading (pos v.vin) 2
+    ∷ ascii "vop" ∶ reading (pos v.vop) 3
+    ∷ ascii "vbat" ∶ reading (pos v.vbat) 3
     ∷ ascii "data" ∶ hex s
     ∷ [])
-volts_members s (NoVolts why) = []
+volts_members s (Err why) = []
 
 unfoldable pub state_members : List ℕ → List ℕ
 state_members s = cond (ltb (length s) 16) [] (commaed (members (state s)))
@@ -121,5 +120,5 @@ pub record Bounded (sheet : Option Lookup) (t : List ℕ) (beside : ℕ) : Type 
 -- r is the right answer, and `later` the right room afterwards: all of bs is put at a place, or nothing if too little
 -- is left behind it
 pub data AllOrNone (bs room : List ℕ) (to : ℕ) : Written → List ℕ → Type 0 where
-  all : length bs ≤ length room - to → AllOrNone bs room to (Bytes (length bs)) (sets room to bs)
-  none : length room - to < length bs → AllOrNone bs room to (Refused NoRoom) room
+  all : length bs ≤ length room - to → AllOrNone bs room to (Ok (length bs)) (sets room to bs)
+  none : length room - to < length bs → AllOrNone bs room to (Err NoRoom) room

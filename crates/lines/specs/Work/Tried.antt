@@ -1,16 +1,16 @@
 -- What comes of trying to put the next line.
 -- Assumes nothing.
-use Rattle.std.specs.Prelude.{Bool, true, false, List, ◌≡◌, ℕ, ◌+◌, ◌-◌, ◌≤◌, length}
+use Rattle.std.specs.Prelude.{Bool, true, false, Result, Ok, Err, List, ◌≡◌, ℕ, ◌+◌, ◌-◌, ◌≤◌, length}
 use Rattle.std.proofs.Math.Option.{Option}
 use Rattle.digits.specs.Paper.Bytes.{part}
+use Rattle.digits.specs.declared.refusal.Refusal.{Refusal}
 use Rattle.puts.specs.Paper.Put.{Put}
 use Rattle.frames.specs.Paper.Search.{Hit, Leftmost, Searches}
-use Rattle.frames.specs.declared.Found.TheVariants.{Refused as NoHit}
 use Rattle.sheet.specs.Paper.Sheet.{Lookup}
 use Rattle.lines.specs.Paper.Answers.{LineOf, Placed}
 use Rattle.lines.specs.Work.Put.{most_beside}
 use Rattle.lines.specs.declared.Tried.{Tried}
-use Rattle.lines.specs.declared.Tried.TheVariants.{At, Unsure, Refused}
+use Rattle.lines.specs.declared.Tried.TheVariants.{At, Unsure}
 
 -- r is whether a line is put: it is put in any case, or no line with `beside` bytes beside its message is longer than
 -- `bytes`
@@ -32,14 +32,14 @@ pub record Clipped (sheet : Option Lookup) (k : ℕ) (s : List ℕ) (place : ℕ
   pub put : Put room later to v.behind text
   pub fits : sure ≡ false → length text ≤ length room - to
 
-abbrev pub Comes : Option Lookup → ℕ → List ℕ → ℕ → Bool → List ℕ → ℕ → Tried → List ℕ → Type 0
-Comes sheet k s place sure room to (At start len behind) later =
-    Clipped sheet k s place sure room to (record { start = start; len = len; behind = behind }) later
-Comes sheet k s place sure room to (Unsure start) later =
+abbrev pub Comes : Option Lookup → ℕ → List ℕ → ℕ → Bool → List ℕ → ℕ → Result Tried Refusal → List ℕ → Type 0
+Comes sheet k s place sure room to (Ok (At v)) later =
+    Clipped sheet k s place sure room to v later
+Comes sheet k s place sure room to (Ok (Unsure start)) later =
     (sure ≡ false) × (later ≡ room) × ((v : Hit) × (Leftmost k s place v) × (v.start ≡ start))
-Comes sheet k s place sure room to (Refused why) later = (Searches k s place (NoHit why)) × (later ≡ room)
+Comes sheet k s place sure room to (Err why) later = (Searches k s place (Err why)) × (later ≡ room)
 
 -- r is right, and `later` the room afterwards
 pub record Tries (sheet : Option Lookup) (k : ℕ) (s : List ℕ) (place : ℕ) (sure : Bool) (room : List ℕ) (to : ℕ)
-    (r : Tried) (later : List ℕ) : Type 0 where
+    (r : Result Tried Refusal) (later : List ℕ) : Type 0 where
   pub comes : Comes sheet k s place sure room to r later

@@ -15,7 +15,7 @@ use Rattle.digits.proofs.Laws.Refusals.{one-refusal, some_number, cause-of, caus
 use Rattle.frames.specs.Paper.Kinds.{known}
 use Rattle.frames.specs.Paper.Runs.{ends, finds}
 use Rattle.frames.specs.Paper.Search.{Hit, SearchCause, no-frame, no_kind, no_place, Searches}
-use Rattle.frames.specs.declared.Found.TheVariants.{At, Refused}
+use Rattle.std.specs.Prelude.{Ok, Err}
 use Rattle.lines.specs.Paper.Answers.{LineOf}
 use Rattle.sheet.specs.Paper.Sheet.{Lookup}
 use Rattle.list.specs.Paper.Listing.{none, line, inside, last_line, Lists}
@@ -32,7 +32,7 @@ from_start {s = s} {t = t} r =
 
 module _ {sheet : Option Lookup} {k : ℕ} {s : List ℕ} {place : ℕ} where
   -- a found frame's line, and what is left behind it
-  pub found-line : {start len from to count within : ℕ} {u t : List ℕ} → Searches k s place (At start len from to) → LineOf sheet k (part start (start + len) s) start u
+  pub found-line : {start len from to count within : ℕ} {u t : List ℕ} → Searches k s place (Ok (record { start = start; len = len; from = from; to = to })) → LineOf sheet k (part start (start + len) s) start u
       → Remaining sheet k s (start + len) (count + 1) (within + len) t → Remaining sheet k s place count within (u ++ t)
   unfolding inside
   found-line {start} {len} {from} {to} {count} {within} {u} {t} a l r =
@@ -50,7 +50,7 @@ module _ {sheet : Option Lookup} {k : ℕ} {s : List ℕ} {place : ℕ} where
       }
 
   -- no frame is left
-  pub last-left : {count within : ℕ} → Searches k s place (Refused NoFrame) → Remaining sheet k s place count within (last_line count (length s - within))
+  pub last-left : {count within : ℕ} → Searches k s place (Err NoFrame) → Remaining sheet k s place count within (last_line count (length s - within))
   unfolding inside
   last-left {count} {within} a =
       let n : count ≡ count + length {A = Hit} [] = omega arith in
@@ -59,10 +59,10 @@ module _ {sheet : Option Lookup} {k : ℕ} {s : List ℕ} {place : ℕ} where
 
 -- ---- a search of a known kind from a place in the capture is refused only where no frame is left
 
-pub refused_none : {k : ℕ} {s : List ℕ} {place : ℕ} (why : Refusal) → known k ≡ true → place ≤ length s → Searches k s place (Refused why) → Searches k s place (Refused NoFrame)
+pub refused_none : {k : ℕ} {s : List ℕ} {place : ℕ} (why : Refusal) → known k ≡ true → place ≤ length s → Searches k s place (Err why) → Searches k s place (Err NoFrame)
 refused_none {k} {s} {place} why kn h a =
     let c = cause-at (cause-of a) (some_number why) in
-    subst (λ (r : Refusal). Searches k s place (Refused r)) (one-refusal why NoFrame (of (refusal_number why) c)) a
+    subst (λ (r : Refusal). Searches k s place (Err r)) (one-refusal why NoFrame (of (refusal_number why) c)) a
   where
     of : (n : ℕ) → SearchCause k s place n → n ≡ 1
     of n (no-frame f) = refl

@@ -8,11 +8,6 @@ use native.Mathlib.Omega.{arith}
 use lib.ListN.{length, length-append}
 use Rattle.digits.specs.Paper.Ascii.{ascii}
 use Rattle.digits.proofs.Laws.Decimal.{length-decimal}
-use Rattle.layouts.specs.Paper.Layout as layout
-use Rattle.layouts.specs.Paper.Nikobus as nikobuses
-use Rattle.layouts.specs.Paper.Nest as nests
-use Rattle.layouts.specs.Paper.Nibe as nibes
-use Rattle.layouts.specs.Paper.Homiq as homiqs
 use Rattle.frames.specs.Paper.Runs.{Run, InOrder, nothing, next}
 use Rattle.frames.specs.Paper.Search.{Hit, frame_part}
 use Rattle.frames.proofs.Laws.Places.{size-at}

@@ -13,7 +13,8 @@ use Rattle.frames.specs.Paper.Runs.{Run, ends, finds, InOrder, nothing, next}
 use Rattle.frames.specs.Paper.Search.{Hit, frame_part, Searches}
 use Rattle.frames.specs.Work.Seek.{searched}
 use Rattle.frames.specs.declared.Found.{Found}
-use Rattle.frames.specs.declared.Found.TheVariants.{At, Refused}
+use Rattle.digits.specs.declared.refusal.Refusal.{Refusal}
+use Rattle.std.specs.Prelude.{Result, Ok, Err}
 use Rattle.frames.proofs.Laws.Places.{positive}
 use Rattle.frames.proofs.Laws.Runs.{leftmost}
 use Rattle.frames.proofs.Theorems.{an-answer, in_order}
@@ -30,13 +31,13 @@ a-run : (most k : ℕ) (s : List ℕ) (place : ℕ) → known k ≡ true → pla
 a-run zero k s place kn h m = absurd (omega arith)
 a-run (suc most) k s place kn h m = go (searched k s place) (an-answer k s place) (λ p l n. a-run most k s p kn l n)
   where
-    go : (r : Found) → Searches k s place r → ((p : ℕ) → p ≤ length s → length s < p + most → (hits : List Hit) × Run k s p hits) → (hits : List Hit) × Run k s place hits
-    go (At start len from to) a rest =
+    go : (r : Result Found Refusal) → Searches k s place r → ((p : ℕ) → p ≤ length s → length s < p + most → (hits : List Hit) × Run k s p hits) → (hits : List Hit) × Run k s place hits
+    go (Ok v) a rest =
         let q = leftmost a in
         let l = positive q.stands in
-        let r = rest (start + len) q.stands.inside (omega (arith, q.behind)) in
-        (record { start = start; len = len; from = from; to = to } ∷ r.0, finds a r.1)
-    go (Refused why) a rest = ([], ends (refused_none why kn h a))
+        let r = rest (v.start + v.len) q.stands.inside (omega (arith, q.behind)) in
+        (v ∷ r.0, finds a r.1)
+    go (Err why) a rest = ([], ends (refused_none why kn h a))
 
 some-lines : {sheet : Option Lookup} {k : ℕ} {s : List ℕ} {place : ℕ} {hits : List Hit} → InOrder k s place hits → (t : List ℕ) × Lines sheet k s hits t
 some-lines nothing = ([], none)

@@ -14,13 +14,11 @@ use Rattle.puts.specs.Paper.Put.{Put, largest_place}
 use Rattle.puts.proofs.Laws.Puts.{◌then◌, put-length}
 use Rattle.frames.specs.Paper.Kinds.{known}
 use Rattle.frames.specs.Paper.Search.{Hit, Leftmost, Searches, frame_part}
-use Rattle.frames.specs.declared.Found.TheVariants.{Refused as NoHit}
 use Rattle.frames.proofs.Laws.Places.{positive}
 use Rattle.lines.specs.Paper.Answers.{LineOf, PutsNext, NextSize, Measures}
 use Rattle.lines.specs.declared.Listed.{Listed}
-use Rattle.lines.specs.declared.Listed.TheVariants.{At as Line, Refused as NoLine}
 use Rattle.lines.specs.declared.Measured.{Measured}
-use Rattle.lines.specs.declared.Measured.TheVariants.{At as Size, Refused as NoSize}
+use Rattle.std.specs.Prelude.{Ok, Err}
 use Rattle.lines.proofs.Laws.Next.{hit-found, refused-by-search, line-next, room-kept}
 use Rattle.sheet.specs.Paper.Sheet.{Lookup}
 use Rattle.lines.proofs.Laws.Types.{InTypes}
@@ -61,36 +59,36 @@ none_passed = record { place_in = omega arith; few = omega arith; within-place =
 pub sums-start : {sheet : Option Lookup} {k : ℕ} {s : List ℕ} → Sums sheet k s 0 0 0 0
 sums-start = record { passed = none_passed; completes = λ t r. record { text = t; right = from_start r; size = omega arith } }
 
-module _ {sheet : Option Lookup} {k : ℕ} {s : List ℕ} {place : ℕ} (r : Measured) (m : Measures sheet k s place r) where
-  module _ {start len size : ℕ} (e : r ≡ Size start len size) where
-    size-next : NextSize sheet k s place (record { start = start; len = len; size = size })
-    size-next = answered (subst (Measures sheet k s place) e m) refl
+module _ {sheet : Option Lookup} {k : ℕ} {s : List ℕ} {place : ℕ} where
+  module _ {v : Measured} (m : Measures sheet k s place (Ok v)) where
+    size-next : NextSize sheet k s place (record { start = v.start; len = v.len; size = v.size })
+    size-next = answered m refl
 
-    pub measured-ahead : Ahead s place start len
+    pub measured-ahead : Ahead s place v.start v.len
     measured-ahead = ahead size-next.found
 
     module _ {sum count within : ℕ} (c : Sums sheet k s sum place count within) where
       -- a line more
-      added : (t : List ℕ) → Remaining sheet k s (start + len) (count + 1) (within + len) t → SizedListing sheet k s (sum + size + length t)
+      added : (t : List ℕ) → Remaining sheet k s (v.start + v.len) (count + 1) (within + v.len) t → SizedListing sheet k s (sum + v.size + length t)
       added t x =
           let z = c.completes (size-next.text ++ t) (line-left _ size-next.found size-next.line x) in
           record { text = z.text; right = z.right; size = omega (arith, z.size, length-append size-next.text t, size-next.size_is) }
 
-      pub summed : Sums sheet k s (sum + size) (start + len) (count + 1) (within + len)
+      pub summed : Sums sheet k s (sum + v.size) (v.start + v.len) (count + 1) (within + v.len)
       summed = record { passed = passed_on c.passed measured-ahead; completes = added }
 
       -- the sum stays small
-      pub sum-most : InTypes sheet → Listable k s → sum + size ≤ largest_place
+      pub sum-most : InTypes sheet → Listable k s → sum + v.size ≤ largest_place
       sum-most types l =
           let x = some_left sheet l.is-kind _ count within size-next.found in
           let z = added x.0 x.1 in
           omega (arith, z.size, lists-most types l.short z.right, l.short)
 
   -- where none is left the last line completes the listing
-  pub sums-end : InTypes sheet → {why : Refusal} {sum count within n : ℕ} → r ≡ NoSize why → Listable k s → Sums sheet k s sum place count within
+  pub sums-end : InTypes sheet → (why : Refusal) {sum count within n : ℕ} → Measures sheet k s place (Err why) → Listable k s → Sums sheet k s sum place count within
       → n ≡ min (sum + length (last_line count (length s - within))) largest_place → SizedListing sheet k s n
-  sums-end types {why} e l c b =
-      let f : Searches k s place (NoHit why) = refuses (some_number why) (cause-of (subst (Measures sheet k s place) e m)) in
+  sums-end types why m l c b =
+      let f : Searches k s place (Err why) = refuses (some_number why) (cause-of m) in
       let z = c.completes _ (last-left (refused_none why l.is-kind c.passed.place_in f)) in
       record { text = z.text; right = z.right; size = omega (arith, b, z.size, lists-most types l.short z.right, l.short) }
 
@@ -106,12 +104,9 @@ started h e =
       completes = λ later behind t r p. record { text = t; lists = from_start r; put = p };
     }
 
-module _ {sheet : Option Lookup} {k : ℕ} {s : List ℕ} {place : ℕ} {room₀ : List ℕ} {next : ℕ} (r : Listed) {later : List ℕ} (n : PutsNext sheet k s place room₀ next r later) where
-  known_next : {q : Listed} → r ≡ q → PutsNext sheet k s place room₀ next q later
-  known_next e = subst (λ (q : Listed). PutsNext sheet k s place room₀ next q later) e n
-
-  pub next-ahead : {start len behind : ℕ} → r ≡ Line start len behind → Ahead s place start len
-  next-ahead e = ahead (line-next (known_next e)).found
+module _ {sheet : Option Lookup} {k : ℕ} {s : List ℕ} {place : ℕ} {room₀ : List ℕ} {next : ℕ} where
+  pub next-ahead : {v : Listed} {later : List ℕ} → PutsNext sheet k s place room₀ next (Ok v) later → Ahead s place v.start v.len
+  next-ahead n = ahead (line-next n).found
 
   module _ {room : List ℕ} {count within : ℕ} (l : Listable k s) (c : Completes sheet k s room room₀ next place count within) where
     -- what is left of the room is enough for the line of what is found, and for whatever is left behind it
@@ -121,18 +116,19 @@ module _ {sheet : Option Lookup} {k : ℕ} {s : List ℕ} {place : ℕ} {room₀
         omega (arith, c.enough (t ++ x.0) (line-left v m o x.1), length-append t x.0, c.same)
 
     -- a line more
-    pub turned : {start len behind : ℕ} → r ≡ Line start len behind → Completes sheet k s room later behind (start + len) (count + 1) (within + len)
-    turned {start} {len} {behind} e =
-        let a = line-next (known_next e) in
+    pub turned : {v : Listed} {later : List ℕ} → PutsNext sheet k s place room₀ next (Ok v) later
+        → Completes sheet k s room later v.behind (v.start + v.len) (count + 1) (within + v.len)
+    turned {v} {later} n =
+        let a = line-next n in
         let u = a.text in
-        let p : Put room₀ later next behind u =
+        let p : Put room₀ later next v.behind u =
         record {
           slice = omega (arith, c.same, c.slice);
           room-is = a.room-is;
           behind = omega (arith, a.behind-is, roomy _ u a.found a.line, c.same, c.slice);
         } in
         record {
-          passed = passed_on c.passed (next-ahead e);
+          passed = passed_on c.passed (next-ahead n);
           slice = c.slice;
           same = put-length p ∙ c.same;
           enough = λ t x. omega (arith, c.enough (u ++ t) (line-left _ a.found a.line x), length-append u t, a.behind-is);
@@ -140,11 +136,10 @@ module _ {sheet : Option Lookup} {k : ℕ} {s : List ℕ} {place : ℕ} {room₀
         }
 
     -- where none is left the room is as it was, and the last line completes the listing
-    pub ended : {why : Refusal} {end : List ℕ} {behind : ℕ} → r ≡ NoLine why → Put later end next behind (last_line count (length s - within))
-        → PutsLists sheet k s room end behind
-    ended {why} {end} {behind} e p =
-        let a = known_next e in
-        let f : Searches k s place (NoHit why) =
+    pub ended : (why : Refusal) {later end : List ℕ} {behind : ℕ} → PutsNext sheet k s place room₀ next (Err why) later
+        → Put later end next behind (last_line count (length s - within)) → PutsLists sheet k s room end behind
+    ended why {later} {end} {behind} a p =
+        let f : Searches k s place (Err why) =
         refuses (some_number why) (refused-by-search (λ v t m o. let h = roomy v t m o in omega arith) (cause-of a)) in
         c.completes end behind _ (last-left (refused_none why l.is-kind c.passed.place_in f))
         (subst (λ (x : List ℕ). Put x end next behind (last_line count (length s - within))) (room-kept why a) p)

@@ -14,9 +14,8 @@ use Rattle.digits.specs.Paper.Decimal.{decimal, decimal_in, enough}
 use Rattle.digits.specs.declared.refusal.Refusal.TheVariants.{NoRoom}
 use Rattle.digits.proofs.Laws.Parts.{part-rest}
 use Rattle.json_values.specs.Paper.Json.{number, further, object}
-use Rattle.puts.specs.Paper.Wrote.{refused, RoomCause, Writes}
-use Rattle.puts.specs.declared.Written.{Written}
-use Rattle.puts.specs.declared.Written.TheVariants.{Bytes, Refused}
+use Rattle.puts.specs.Paper.Wrote.{refused, RoomCause, Writes, Written}
+use Rattle.std.specs.Prelude.{Ok, Err}
 use Rattle.puts.proofs.Laws.Sizes.{too_small, large-enough}
 use Rattle.puts.proofs.Laws.Sizes as sizes
 use Rattle.puts.proofs.Laws.Wrote.{wrote_by, too_short, room_for}
@@ -52,10 +51,10 @@ module _ {sheet : Option Lookup} {k : ℕ} {s : List ℕ} where
   pub roomy : {n : ℕ} → Fits sheet k s n true → Roomy sheet k s n
   roomy f = record { each = λ t l. large-enough (λ a b. lists-one) f l }
 
-  pub refused-4 : {room : List ℕ} → Fits sheet k s (length room) false → WritesLists sheet k s room (Refused NoRoom) room
+  pub refused-4 : {room : List ℕ} → Fits sheet k s (length room) false → WritesLists sheet k s room (Err NoRoom) room
   refused-4 f = record { text = f.text; lists = f.right; written = refused (lit< tt) (too_short (too_small f)) }
 
-  pub all-written : {room later : List ℕ} {n : ℕ} → Fits sheet k s (length room) true → PutsLists sheet k s room later n → WritesLists sheet k s room (Bytes n) later
+  pub all-written : {room later : List ℕ} {n : ℕ} → Fits sheet k s (length room) true → PutsLists sheet k s room later n → WritesLists sheet k s room (Ok n) later
   all-written f p =
       let l = (roomy f).each p.text p.lists in
       record { text = p.text; lists = p.lists; written = wrote_by (room_for l) p.put l }

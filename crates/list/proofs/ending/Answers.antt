@@ -1,6 +1,6 @@
 -- `list::ending` meets its contract: one piece after the other.
 -- Assumes nothing.
-use Rattle.puts.proofs.Laws.Puts.{◌then◌, puts-as, put-length}
+use Rattle.puts.proofs.Laws.Puts.{◌then◌, puts-as}
 use Rattle.list.proofs.Laws.Written.{last_line_lem}
 use Rattle.list.proofs.ending.Goals as goal
 

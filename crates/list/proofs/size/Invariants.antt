@@ -6,9 +6,9 @@ use Rattle.sheet.specs.Paper.Map.{sheet_in}
 use Rattle.list.specs.Work.Remaining.{Sums}
 use Rattle.list.proofs.size.Given as goal
 
-abbrev pub invariant-loop-start : goal.invariant-loop-start
-invariant-loop-start l = Sums (sheet_in l.map) l.kind l.s l.sum l.place l.frames l.inside
+abbrev pub invariant-loop-line : goal.invariant-loop-line
+invariant-loop-line l = Sums (sheet_in l.map) l.kind l.s l.sum l.place l.frames l.inside
 
 -- each search begins behind the frame before
-abbrev pub decreases-loop-start : goal.decreases-loop-start
-decreases-loop-start l = length l.s - l.place
+abbrev pub decreases-loop-line : goal.decreases-loop-line
+decreases-loop-line l = length l.s - l.place

@@ -2,8 +2,7 @@
 -- Assumes nothing.
 use Rattle.std.specs.Prelude.{List, ℕ, length}
 use Rattle.std.proofs.Math.Option.{Option}
-use Rattle.puts.specs.Paper.Wrote.{Wrote, RoomCause, written_refusal, written_count}
-use Rattle.puts.specs.declared.Written.{Written}
+use Rattle.puts.specs.Paper.Wrote.{Wrote, RoomCause, written_refusal, written_count, Written}
 use Rattle.sheet.specs.Paper.Sheet.{Lookup}
 use Rattle.list.specs.Paper.Listing.{Listing}
 

@@ -6,9 +6,8 @@ use Rattle.frames.specs.Paper.Kinds.{known}
 use Rattle.frames.specs.Paper.Runs.{Run}
 use Rattle.frames.specs.Paper.Search.{Hit}
 use Rattle.puts.specs.Paper.Put.{Put, largest_place}
-use Rattle.puts.specs.Paper.Wrote.{RoomCause, Writes}
+use Rattle.puts.specs.Paper.Wrote.{RoomCause, Writes, Written}
 use Rattle.puts.specs.Work.Right.{SizedRight, FitsRight}
-use Rattle.puts.specs.declared.Written.{Written}
 use Rattle.sheet.specs.Paper.Sheet.{Row, Sheet, Lookup}
 use Rattle.list.specs.Paper.Listing.{Lines, inside, last_line, Lists, most_input}
 

@@ -19,7 +19,7 @@ use Rattle.frames.specs.Paper.Kinds.{layout_of, Frame}
 use Rattle.frames.specs.Paper.OneFrame as whole
 use Rattle.frames.specs.Paper.OneFrame.{OneFrameCause, TestsOneFrame}
 use Rattle.frames.specs.declared.FramePayload.{FramePayload}
-use Rattle.frames.specs.declared.FramePayload.TheVariants.{Is as WholeIs, Refused as WholeRefused}
+use Rattle.std.specs.Prelude.{Result, Ok, Err}
 use Rattle.frames.proofs.Laws.Kinds.{payload-inside}
 use Rattle.messages.specs.Paper.Answers.{Stands, DecodeCause, no_kind, no-message, Said, Contents}
 use Rattle.messages.specs.Paper.Content.{Content, content_at, kind_of, made, laid, payload_in, payload_from, payload_to}
@@ -130,16 +130,16 @@ module _ {k : ℕ} {s r : Bor (List ℕ)} where
   contents-nothing why c = hands_none why (first-decode c)
 
 -- what is tested of the whole, case by case
-module _ {k : ℕ} {f : List ℕ} {r : FramePayload} (a : TestsOneFrame k f r) where
-  module _ {from to : ℕ} (e : r ≡ WholeIs from to) where
-    tested : TestsOneFrame k f (WholeIs from to)
+module _ {k : ℕ} {f : List ℕ} {r : Result FramePayload Refusal} (a : TestsOneFrame k f r) where
+  module _ {v : FramePayload} (e : r ≡ Ok v) where
+    tested : TestsOneFrame k f (Ok v)
     tested = subst (TestsOneFrame k f) e a
 
-    pub one-frame : Payloaded k f from to
+    pub one-frame : Payloaded k f v.from v.to
     one-frame = answered tested refl
 
     pub no-first : First (OneFrameCause k f) refusal_order 0
     no-first = cause-of tested
 
-  pub first_of : {why : Refusal} → r ≡ WholeRefused why → First (OneFrameCause k f) refusal_order (refusal_number why)
+  pub first_of : {why : Refusal} → r ≡ Err why → First (OneFrameCause k f) refusal_order (refusal_number why)
   first_of e = cause-of (subst (TestsOneFrame k f) e a)

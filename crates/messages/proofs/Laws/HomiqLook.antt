@@ -1,47 +1,81 @@
 -- What the reader of Homiq's messages answers: fields found in a payload, commands and values tested.
 -- Assumes nothing.
-use mathlib.Core.Bool.{Bool, true, false, cond, ◌&&◌}
+use mathlib.Core.Bool.{Bool, true, false, cond, ◌&&◌, ◌||◌}
 use mathlib.Core.List.{List, [], ◌∷◌, ◌++◌}
-use mathlib.Core.Path.{◌≡◌, refl, sym, ◌∙◌, ap, subst}
-use Prim.Native.Nat.{ℕ, zero, suc, ◌+◌, ◌-◌, ◌≤◌, ◌<◌}
+use mathlib.Core.Path.{◌≡◌, refl, sym, ◌∙◌, ap, ap₂, subst}
+use Prim.Native.Nat.{ℕ, zero, suc, ◌+◌, ◌-◌, ◌≤◌}
 use native.Mathlib.Decide.{dec_le}
 use native.Mathlib.Omega.{arith}
 use borrow.Author.Tests.{eq-eqb, ne_eqb}
-use lib.Dec.{eqb}
+use Rattle.std.specs.Prelude.{Option, Some, None, nat_eq, position}
+use Rattle.std.specs.List.{position_or_len, list_any}
+use Rattle.std.proofs.lemmas.List.Recursion.{is_position_or_len}
+use Rattle.std.proofs.lemmas.List.Quantifiers.{position-Some}
+use Rattle.std.proofs.lemmas.Bool.{eqb-true, eqb-false, ltb-false, leb-true, le-leb}
+use lib.Dec.{eqb, leb}
 use denote.Ref.{Bor}
-use lib.ListN.{length, get_or, take, drop, drop_of_length-le, length-append, length-drop, take-append-drop}
-use lib.Seq.{take-append_seam, drop-append_seam, drop-drop}
+use lib.ListN.{length, get_or, take, drop, drop_of_length-le, length-drop}
+use lib.Seq.{drop-append_seam, drop-drop}
 use Rattle.digits.proofs.Laws.Decimal.{decimal-inj}
 use Rattle.digits.proofs.Laws.Handed.{same_ends}
-use Rattle.digits.proofs.Laws.Parts.{part-front, part-rest, next}
+use Rattle.digits.proofs.Laws.Parts.{part-rest}
 use Rattle.digits.proofs.Unique.{test}
 use Rattle.digits.specs.Paper.Ascii.{ascii}
 use Rattle.digits.specs.Paper.Bytes.{part}
 use Rattle.digits.specs.Paper.Decimal.{decimal}
 use Rattle.digits.specs.Paper.Part.{Ends, IsPart}
-use Rattle.digits.specs.Paper.Read.{Decides, holds, fails}
+use Rattle.digits.specs.Paper.Read.{Decides}
 use Rattle.layouts.specs.Paper.Chars.{one_of}
 use Rattle.messages.specs.Paper.Homiq.{up_to, past, field_at, fields_from, field_ends}
 use Rattle.messages.specs.Paper.Table.{MarkedNumber, Letter}
 use Rattle.messages.specs.Work.Homiq.{same, is_marked_number, is_letter, which_of}
 use Rattle.messages.specs.declared.homiq.Homiq.TheVariants.{Output, Input, Shutter, Beat, Other}
 use Rattle.messages.proofs.Laws.HomiqTests.{same-tells, numbered-tells, letter-tells}
-use Rattle.messages.proofs.Laws.Telling.{both-tell}
+use Rattle.messages.proofs.Laws.Telling.{both-tell, unequal, tells}
 
 -- ---- where a field ends
 
-module _ (s : List ℕ) (i : ℕ) where
-  pub end-stop : i < length s → get_or s i 0 ≡ 59 → i ≡ i + length (up_to (drop i s))
-  unfolding up_to
-  end-stop h e = rw (next s i, eq-eqb _ _ e) (omega arith)
+-- as many characters as stand before the first `;`
+field-place : (s : List ℕ) → length (up_to s) ≡ position_or_len (λ x. nat_eq x 59) s
+unfolding up_to
+field-place = is_position_or_len (λ s. length (up_to s)) (λ x. nat_eq x 59) refl step
+  where
+    step : (x : ℕ) (s : List ℕ) → length (up_to (x ∷ s)) ≡ cond (nat_eq x 59) 0 (1 + length (up_to s))
+    step x s = go (nat_eq x 59)
+      where
+        go : (b : Bool) → length (cond b [] (x ∷ up_to s)) ≡ cond b 0 (1 + length (up_to s))
+        go true = refl
+        go false = omega arith
 
-  pub end_step : i < length s → (get_or s i 0 ≡ 59 → ⊥) → i + 1 + length (up_to (drop (i + 1) s)) ≡ i + length (up_to (drop i s))
-  unfolding up_to
-  end_step h e = rw (next s i, ne_eqb _ _ e) (omega arith)
+up_to-short : (s : List ℕ) → length (up_to s) ≤ length s
+unfolding up_to
+up_to-short [] = omega arith
+up_to-short (x ∷ s) = go (eqb x 59) (up_to-short s)
+  where
+    go : (b : Bool) → length (up_to s) ≤ length s → length (cond b [] (x ∷ up_to s)) ≤ suc (length s)
+    go true h = omega arith
+    go false h = omega arith
 
-  pub end-last : length s ≤ i → i ≡ i + length (up_to (drop i s))
-  unfolding up_to
-  end-last h = rw (drop_of_length-le s h) (omega arith)
+found-some : {k n : ℕ} (b : Bool) → cond b (Some k) None ≡ Some n → k ≡ n
+found-some true e = cc
+found-some false e = cc
+
+found-none : (k : ℕ) (b : Bool) → cond b (Some k) None ≡ None → b ≡ false
+found-none k true e = cc
+found-none k false e = refl
+
+module _ (s : List ℕ) (from : ℕ) (h : from ≤ length s) {r : Option ℕ} (search_is : r ≡ position (λ x. nat_eq x 59) (drop from s)) where
+  pub end-found : {n : ℕ} → r ≡ Some n → (from + n ≡ from + length (up_to (drop from s))) × (from + n ≤ length s)
+  end-found {n} e =
+      let p = sym search_is ∙ e in
+      let k : length (up_to (drop from s)) ≡ n = field-place (drop from s) ∙ found-some _ p in
+      (omega arith, omega (arith, (position-Some (λ x. nat_eq x 59) (drop from s) n 0 p).0, length-drop from s))
+
+  pub end-none : r ≡ None → (length s ≡ from + length (up_to (drop from s))) × (length s ≤ length s)
+  end-none e =
+      let t = drop from s in
+      let k : length t ≤ length (up_to t) = rw (field-place t) (ltb-false _ _ (found-none _ _ (sym search_is ∙ e))) in
+      (omega (arith, k, up_to-short t, length-drop from s), omega arith)
 
 -- ---- a field, and what is behind it
 
@@ -112,26 +146,21 @@ field-bytes n {s} i = i.bytes ∙ between n s.now
 
 -- the loop over the fields: one begins at a place and ends at another, and so many are to be passed
 module _ (s : List ℕ) (from end left : ℕ) (is : end ≡ from + length (up_to (drop from s))) where
-  pub field_next : 0 < left → fields_from (left - 1) (drop (end + 1) s) ≡ fields_from left (drop from s)
+  pub field_next : {n : ℕ} → left ≡ suc n → fields_from n (drop (end + 1) s) ≡ fields_from left (drop from s)
   unfolding fields_from
-  field_next h = go left h
-    where
-      go : (n : ℕ) → 0 < n → fields_from (n - 1) (drop (end + 1) s) ≡ fields_from n (drop from s)
-      go zero h = absurd (omega arith)
-      go (suc n) h =
-          let k : suc n - 1 ≡ n = omega arith in
-          let e : end + 1 ≡ from + suc (length (up_to (drop from s))) = omega arith in
-          rw k
-          (ap (fields_from n)
-          (ap (λ (i : ℕ). drop i s) e ∙ sym (drop-drop (suc (length (up_to (drop from s)))) from s) ∙ sym (past-field (drop from s))))
+  field_next {n} h =
+      let e : end + 1 ≡ from + suc (length (up_to (drop from s))) = omega arith in
+      rw h
+      (ap (fields_from n)
+      (ap (λ (i : ℕ). drop i s) e ∙ sym (drop-drop (suc (length (up_to (drop from s)))) from s) ∙ sym (past-field (drop from s))))
 
   module _ (number : ℕ) (found : fields_from left (drop from s) ≡ fields_from number s) where
     -- it ends where the list does: nothing is left
-    pub field_out : 0 < left → length s ≡ end → ◌≡◌ {A = Ends} (record { from = end; to = end }) (field_ends number s)
+    pub field_out : {n : ℕ} → left ≡ suc n → length s ≡ end → ◌≡◌ {A = Ends} (record { from = end; to = end }) (field_ends number s)
     unfolding up_to
-    field_out h k =
+    field_out {n} h k =
         let l : length s ≤ end + 1 = omega arith in
-        let e : fields_from number s ≡ [] = sym found ∙ sym (field_next h) ∙ ap (fields_from (left - 1)) (drop_of_length-le s l) ∙ rest-none (left - 1) in
+        let e : fields_from number s ≡ [] = sym found ∙ sym (field_next h) ∙ ap (fields_from n) (drop_of_length-le s l) ∙ rest-none n in
         let none : field_at number s ≡ [] = field-first number s ∙ ap up_to e in
         let x : length (fields_from number s) ≡ 0 = ap length e in
         let y : length (field_at number s) ≡ 0 = ap length none in
@@ -149,42 +178,46 @@ module _ (s : List ℕ) (from end left : ℕ) (is : end ≡ from + length (up_to
 
 -- ---- a mark and a number
 
-module _ {mark : List ℕ} {most : ℕ} {cmd : List ℕ} (q : MarkedNumber mark most cmd) where
-  pub numbered-long : length mark ≤ length cmd
-  numbered-long = omega (arith, ap length q.is, length-append mark (decimal q.number))
-
-  pub numbered-mark : mark ≡ part 0 (length mark) cmd
-  numbered-mark = sym (part-front (length mark) cmd ∙ ap (take (length mark)) q.is ∙ take-append_seam mark (decimal q.number))
-
-  pub numbered-digits : decimal q.number ≡ part (length mark) (length cmd) cmd
-  numbered-digits = sym (part-rest (length mark) cmd ∙ ap (drop (length mark)) q.is ∙ drop-append_seam mark (decimal q.number))
+pub numbered-digits : {mark : List ℕ} {most : ℕ} {cmd : List ℕ} (q : MarkedNumber mark most cmd) → decimal q.number ≡ part (length mark) (length cmd) cmd
+numbered-digits {mark} {cmd = cmd} q = sym (part-rest (length mark) cmd ∙ ap (drop (length mark)) q.is ∙ drop-append_seam mark (decimal q.number))
 
 -- a command that begins with the mark, and behind it the digits of n
-pub numbered-by : {mark : List ℕ} {most n : ℕ} {cmd : List ℕ} {b : Bool} → mark ≡ part 0 (length mark) cmd → decimal n ≡ part (length mark) (length cmd) cmd
-    → Decides (n ≤ most) b → Decides (MarkedNumber mark most cmd) b
-numbered-by {mark} {most} {n} {cmd} m d (holds h) =
-    holds
-    (record {
-      number = n;
-      few = h;
-      is =
-          sym (take-append-drop (length mark) cmd)
-          ∙ ap (λ (l : List ℕ). l ++ drop (length mark) cmd) (sym (m ∙ part-front (length mark) cmd))
-          ∙ ap (λ (l : List ℕ). mark ++ l) (sym (d ∙ part-rest (length mark) cmd));
-    })
-numbered-by {mark} {most} {n} {cmd} m d (fails f) =
-    fails (λ q. f (subst (λ (k : ℕ). k ≤ most) (decimal-inj q.number n (numbered-digits q ∙ sym d)) q.few))
+pub numbered-by : {mark : List ℕ} {most : ℕ} (n : ℕ) {cmd : List ℕ} → cmd ≡ mark ++ drop (length mark) cmd → decimal n ≡ part (length mark) (length cmd) cmd
+    → Decides (MarkedNumber mark most cmd) (leb n most)
+numbered-by {mark} {most} n {cmd} m d =
+    tells (leb n most)
+    (λ e. record { number = n; few = leb-true n most e; is = m ∙ ap (λ (l : List ℕ). mark ++ l) (sym (d ∙ part-rest (length mark) cmd)) })
+    (λ q. le-leb n most (subst (λ (k : ℕ). k ≤ most) (decimal-inj q.number n (numbered-digits q ∙ sym d)) q.few))
 
 -- ---- one character
 
 pub letter-one : {letters val : List ℕ} → Letter letters val → length val ≡ 1
 letter-one r = ap length r.is
 
-pub letter-by : (letters val : List ℕ) {b : Bool} → length val ≡ 1 → b ≡ one_of letters (get_or val 0 0) → Decides (Letter letters val) b
+eqb-sym : (x y : ℕ) → eqb x y ≡ eqb y x
+eqb-sym x y = go (eqb x y) refl
+  where
+    go : (b : Bool) → eqb x y ≡ b → b ≡ eqb y x
+    go true e = sym (eq-eqb y x (sym (eqb-true x y e)))
+    go false e = sym (ne_eqb y x (λ h. eqb-false x y e (sym h)))
+
+letters-any : (letters : List ℕ) (x : ℕ) → list_any (λ y. nat_eq y x) letters ≡ one_of letters x
+unfolding one_of
+letters-any [] x = refl
+letters-any (y ∷ l) x = ap₂ (λ (a b : Bool). a || b) (eqb-sym y x) (letters-any l x)
+
+-- no character, or more than one
+pub no-letter : {letters val : List ℕ} → (length val ≡ 1 → ⊥) → Decides (Letter letters val) (nat_eq (length val) 1)
+no-letter {letters} {val} n = unequal (length val) 1 n letter-one
+
+letter-by : (letters val : List ℕ) {b : Bool} → length val ≡ 1 → b ≡ one_of letters (get_or val 0 0) → Decides (Letter letters val) b
 unfolding is_letter
 letter-by letters val {b} l e =
     let t : is_letter letters val ≡ b = rw (eq-eqb (length val) 1 l) (sym e) in
     subst (Decides (Letter letters val)) t (letter-tells letters val)
+
+pub letter-among : (letters val : List ℕ) {b : Bool} → length val ≡ 1 → b ≡ list_any (λ y. nat_eq y (get_or val 0 0)) letters → Decides (Letter letters val) b
+letter-among letters val l e = letter-by letters val l (e ∙ letters-any letters (get_or val 0 0))
 
 -- ---- the message of a command and a value, from the answers of the four tests
 

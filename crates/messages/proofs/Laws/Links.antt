@@ -3,6 +3,7 @@
 -- Assumes nothing.
 use mathlib.Core.Bool.{Bool, true, false, cond, ◌&&◌, ◌||◌, true≢false}
 use mathlib.Core.List.{List, [], ◌∷◌}
+use mathlib.Core.Logic.{◌⊎◌, inl, inr}
 use mathlib.Core.Path.{◌≡◌, refl, sym, ap, ap₂, ◌∙◌, subst}
 use Prim.Native.Nat.{ℕ, ◌+◌, ◌*◌, ◌/◌, ◌≤◌}
 use native.Mathlib.Omega.{arith}
@@ -15,8 +16,7 @@ use Rattle.digits.proofs.Laws.Reads.{answered, refused}
 use Rattle.digits.specs.Paper.Answers.{ReadsByte}
 use Rattle.digits.specs.Paper.Bytes.{Bytes, part}
 use Rattle.digits.specs.Paper.Hex.{hex_byte, hex_bytes}
-use Rattle.digits.specs.declared.hex.Byte.{Byte}
-use Rattle.digits.specs.declared.hex.Byte.TheVariants.{Is, NoDigit}
+use Rattle.std.specs.Prelude.{Option, Some, None, unwrap_or}
 use Rattle.layouts.specs.Paper.Layout.{bytes_of}
 use Rattle.layouts.specs.Paper.Nikobus as nikobuses
 use Rattle.layouts.specs.Paper.Nikobus.{link-limits, press-limits}
@@ -38,17 +38,13 @@ digits_are : (d p : List ℕ) (i : ℕ) → i * 2 + 2 ≤ length d → d ≡ hex
 digits_are d p i inside is =
     digits-at p i (omega (arith, ap length is, length-hex p)) ∙ ap (λ (w : List ℕ). get_or w (i * 2) 0 ∷ get_or w (i * 2 + 1) 0 ∷ []) (sym is)
 
-module _ (d : List ℕ) (i : ℕ) (r : Byte) (inside : i * 2 + 2 ≤ length d) (reads : ReadsByte (get_or d (i * 2) 0) (get_or d (i * 2 + 1) 0) r) where
-  pub byte-there : (b : ℕ) → r ≡ Is b → ByteAt d i b
-  byte-there b e p bytes is =
-      let a = answered (lit< tt) (subst (λ (q : Byte). ReadsByte (get_or d (i * 2) 0) (get_or d (i * 2 + 1) 0) q) e reads) refl in
-      byte-inj b (get_or p i 0) a.0 (bytes.each i) (a.1 ∙ sym (digits_are d p i inside is))
-
-  pub byte-never-none : r ≡ NoDigit → ByteAt d i 0
-  byte-never-none e p bytes is =
-      absurd
-      (refused (lit< tt) (subst (λ (q : Byte). ReadsByte (get_or d (i * 2) 0) (get_or d (i * 2 + 1) 0) q) e reads) refl (get_or p i 0) (bytes.each i)
-      (digits_are d p i inside is))
+pub byte-read : (d : List ℕ) (i : ℕ) (r : Option ℕ) → i * 2 + 2 ≤ length d → ReadsByte (get_or d (i * 2) 0) (get_or d (i * 2 + 1) 0) r
+    → ByteAt d i (unwrap_or r 0)
+byte-read d i (Some b) inside reads p bytes is =
+    let a = answered (lit< tt) reads refl in
+    byte-inj b (get_or p i 0) a.0 (bytes.each i) (a.1 ∙ sym (digits_are d p i inside is))
+byte-read d i None inside reads p bytes is =
+    absurd (refused (lit< tt) reads refl (get_or p i 0) (bytes.each i) (digits_are d p i inside is))
 
 pub six-there : (d : List ℕ) (o : Six) → 18 ≤ length d → ByteAt d 3 o.a → ByteAt d 4 o.b → ByteAt d 5 o.c → ByteAt d 6 o.d
     → ByteAt d 7 o.e → ByteAt d 8 o.f → SixAt d o
@@ -66,6 +62,13 @@ set_in p = set (group_of 0x15 (get_or p 0 0)) (u16_at 1 p) (part 3 9 p)
 
 abbrev one_of_two : ℕ → ℕ → ℕ → Bool
 one_of_two a b x = eqb x a || eqb x b
+
+pub either-of : {a b x : ℕ} → (x ≡ a) ⊎ ((x ≡ a → ⊥) × (x ≡ b)) → one_of_two a b x ≡ true
+either-of {a} {b} {x} (inl e) = rw (eq-eqb x a e) refl
+either-of {a} {b} {x} (inr q) = rw (ne_eqb x a q.0, eq-eqb x b q.1) refl
+
+pub neither-of : {a b x : ℕ} → (x ≡ a → ⊥) × (x ≡ b → ⊥) → one_of_two a b x ≡ false
+neither-of {a} {b} {x} n = rw (ne_eqb x a n.0, ne_eqb x b n.1) refl
 
 module _ (p : List ℕ) where
   look-read : length p ≡ 3 → one_of_two 0x12 0x17 (get_or p 0 0) ≡ true → look_link p ≡ read_in p
@@ -109,21 +112,21 @@ module _ {d : List ℕ} (l : LinkDigits d) where
   pub some-digits : 2 ≤ length d
   some-digits = omega (arith, ap length l.is, length-hex l.payload, l.limits.enough)
 
-  one_of : (a b : ℕ) {x : ℕ} {t : Bool} → ByteAt d 0 x → t ≡ one_of_two a b x → one_of_two a b (get_or l.payload 0 0) ≡ t
-  one_of a b f e = ap (one_of_two a b) (sym (f l.payload l.limits.bytes l.is)) ∙ sym e
+  one_of : (a b : ℕ) {x : ℕ} {t : Bool} → ByteAt d 0 x → one_of_two a b x ≡ t → one_of_two a b (get_or l.payload 0 0) ≡ t
+  one_of a b f e = ap (one_of_two a b) (sym (f l.payload l.limits.bytes l.is)) ∙ e
 
-  pub said_read : {x g a : ℕ} {t : Bool} → length d / 2 ≡ 3 → ByteAt d 0 x → t ≡ one_of_two 0x12 0x17 x → t ≡ true → g ≡ group_of 0x12 x → WordAt d 1 a
+  pub said_read : {x g a : ℕ} → length d / 2 ≡ 3 → ByteAt d 0 x → one_of_two 0x12 0x17 x ≡ true → g ≡ group_of 0x12 x → WordAt d 1 a
       → LinkSaid d (Read g a)
-  said_read n f e u k w =
+  said_read n f e k w =
       let p = l.payload in
       let c = f p l.limits.bytes l.is in
       record {
         link = l;
-        says = ap₂ read (k ∙ ap (group_of 0x12) c) (w p l.limits.bytes l.is) ∙ sym (look-read p (sym half ∙ n) (one_of 0x12 0x17 f e ∙ u));
+        says = ap₂ read (k ∙ ap (group_of 0x12) c) (w p l.limits.bytes l.is) ∙ sym (look-read p (sym half ∙ n) (one_of 0x12 0x17 f e));
       }
 
-  pub said-no-read : {x : ℕ} {t : Bool} → length d / 2 ≡ 3 → ByteAt d 0 x → t ≡ one_of_two 0x12 0x17 x → t ≡ false → LinkSaid d Link
-  said-no-read n f e u = record { link = l; says = sym (look-no-read l.payload (sym half ∙ n) (one_of 0x12 0x17 f e ∙ u)) }
+  pub said-no-read : {x : ℕ} → length d / 2 ≡ 3 → ByteAt d 0 x → one_of_two 0x12 0x17 x ≡ false → LinkSaid d Link
+  said-no-read n f e = record { link = l; says = sym (look-no-read l.payload (sym half ∙ n) (one_of 0x12 0x17 f e)) }
 
   pub said-answer : {a t : ℕ} (o : Six) → length d / 2 ≡ 9 → WordAt d 0 a → ByteAt d 2 t → SixAt d o → LinkSaid d (Answer a t o)
   said-answer o n w f s =
@@ -131,9 +134,9 @@ module _ {d : List ℕ} (l : LinkDigits d) where
       let b = l.limits.bytes in
       record { link = l; says = rw (w p b l.is, f p b l.is, s p b l.is) (sym (look-answer p (sym half ∙ n))) }
 
-  pub said-set : {x y g a : ℕ} {t : Bool} (o : Six) → length d / 2 ≡ 10 → ByteAt d 0 x → t ≡ one_of_two 0x15 0x16 x → t ≡ true → ByteAt d 9 y → y ≡ 0xFF
+  pub said-set : {x y g a : ℕ} (o : Six) → length d / 2 ≡ 10 → ByteAt d 0 x → one_of_two 0x15 0x16 x ≡ true → ByteAt d 9 y → y ≡ 0xFF
       → g ≡ group_of 0x15 x → WordAt d 1 a → SixAt d o → LinkSaid d (Set g a o)
-  said-set o n f e u z v k w s =
+  said-set o n f e z v k w s =
       let p = l.payload in
       let b = l.limits.bytes in
       let c = f p b l.is in
@@ -142,7 +145,7 @@ module _ {d : List ℕ} (l : LinkDigits d) where
         link = l;
         says =
             rw (k ∙ ap (group_of 0x15) c, w p b l.is, s p b l.is)
-            (sym (look-set p (sym half ∙ n) last (one_of 0x15 0x16 f e ∙ u)));
+            (sym (look-set p (sym half ∙ n) last (one_of 0x15 0x16 f e)));
       }
 
   pub said-no-end : {y : ℕ} → length d / 2 ≡ 10 → ByteAt d 9 y → (y ≡ 0xFF → ⊥) → LinkSaid d Link
@@ -151,8 +154,8 @@ module _ {d : List ℕ} (l : LinkDigits d) where
       let last = ne_eqb (get_or p 9 0) 0xFF (λ e. v (z p l.limits.bytes l.is ∙ e)) in
       record { link = l; says = sym (look-no-end p (sym half ∙ n) last) }
 
-  pub said-no-set : {x : ℕ} {t : Bool} → length d / 2 ≡ 10 → ByteAt d 0 x → t ≡ one_of_two 0x15 0x16 x → t ≡ false → LinkSaid d Link
-  said-no-set n f e u = record { link = l; says = sym (look-no-set l.payload (sym half ∙ n) (one_of 0x15 0x16 f e ∙ u)) }
+  pub said-no-set : {x : ℕ} → length d / 2 ≡ 10 → ByteAt d 0 x → one_of_two 0x15 0x16 x ≡ false → LinkSaid d Link
+  said-no-set n f e = record { link = l; says = sym (look-no-set l.payload (sym half ∙ n) (one_of 0x15 0x16 f e)) }
 
   pub said-other : (length d / 2 ≡ 3 → ⊥) → (length d / 2 ≡ 9 → ⊥) → (length d / 2 ≡ 10 → ⊥) → LinkSaid d Link
   said-other a b c = record { link = l; says = sym (look-other l.payload (λ e. a (half ∙ e)) (λ e. b (half ∙ e)) (λ e. c (half ∙ e))) }

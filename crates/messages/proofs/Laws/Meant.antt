@@ -2,16 +2,18 @@
 -- Assumes nothing.
 use mathlib.Core.Bool.{Bool, false, true≢false}
 use mathlib.Core.List.{List}
-use mathlib.Core.Option.{Option, some}
+use mathlib.Core.Option.{some}
 use mathlib.Core.Path.{◌≡◌, refl, sym, ◌∙◌, ap, subst}
 use Prim.Native.Nat.{ℕ, ◌≤◌, ◌<◌}
 use native.Mathlib.Omega.{arith}
 use lib.Dec.{T, eqb, lit<}
 use lib.ListN.{length}
+use Rattle.std.specs.Prelude.{Result, Ok, Err}
 use Rattle.digits.proofs.Laws.Hex.{hex-inj}
 use Rattle.digits.proofs.Laws.Refusals.{answered, cause-of, one-first, one-refusal, pass-over, some_number}
 use Rattle.digits.specs.Paper.Bytes.{Bytes}
 use Rattle.digits.specs.Paper.Refusals.{refusal_order, clear, here, after, answers, refuses}
+use Rattle.digits.specs.declared.refusal.Refusal.{Refusal}
 use Rattle.digits.specs.declared.refusal.Refusal.TheVariants.{OutOfLimits}
 use Rattle.digits.specs.Paper.Hex.{hex_bytes}
 use Rattle.layouts.proofs.Laws.Made.{link-fit, nest-fit, nibe-fit, press-said}
@@ -31,8 +33,6 @@ use Rattle.messages.specs.Work.Content.{Fit}
 use Rattle.messages.specs.Work.Homiq.{which_of}
 use Rattle.messages.specs.Work.Look.{look_response, look_nibe, look_homiq, look}
 use Rattle.messages.specs.Work.Nikobus.{LinkDigits, LinkSaid}
-use Rattle.messages.specs.declared.Meant.{Meant}
-use Rattle.messages.specs.declared.Meant.TheVariants.{Is, Refused}
 use Rattle.messages.specs.declared.Message.{Message as Coded}
 use Rattle.messages.specs.declared.Message.TheVariants.{Nikobus as OnNikobus, Command as OfCommand, Response as OfResponse, Nibe as OnNibe, Homiq as OnHomiq}
 use Rattle.messages.specs.declared.Tag.{Tag}
@@ -62,7 +62,7 @@ module _ {With : Content → Type 0} where
   only k e (no-message f) = true≢false e
 
   -- a content within its limits has the message that is found for it
-  pub is-meant : (c : Content) → Fit c → With c → {e : Coded} → Says e (payload_in c) (look c) → Means With (Is e)
+  pub is-meant : (c : Content) → Fit c → With c → {e : Coded} → Says e (payload_in c) (look c) → Means With (Ok e)
   is-meant c f w {e} s =
       let same : content_of (look c) ≡ c = (reads c f).same in
       let m : MessageWith With e =
@@ -73,25 +73,25 @@ module _ {With : Content → Type 0} where
       never m (no-message g) = g m.message m.good m.content
 
   -- and one outside them has none
-  pub not-meant : ((c : Content) → With c → Fit c → ⊥) → Means With (Refused OutOfLimits)
+  pub not-meant : ((c : Content) → With c → Fit c → ⊥) → Means With (Err OutOfLimits)
   not-meant g = refuses (lit< tt) (pass-over ours only refusal_order (here (no-message (λ m a w. g (content_of m) w (fit m a.limits)))))
 
   -- ---- one only
 
-  pub meant-in : {e : Coded} → Means With (Is e) → MessageWith With e
+  pub meant-in : {e : Coded} → Means With (Ok e) → MessageWith With e
   meant-in a = let v = answered a refl in subst (MessageWith With) (same_some v.is) v.right
 
   pub one-meant : ((m n : Message) → Good m → Good n → With (content_of m) → With (content_of n) → content_of m ≡ content_of n)
-      → (r q : Meant) → Means With r → Means With q → r ≡ q
-  one-meant one (Is d) (Is e) a b =
+      → (r q : Result Coded Refusal) → Means With r → Means With q → r ≡ q
+  one-meant one (Ok d) (Ok e) a b =
       let x = meant-in a in
       let y = meant-in b in
       let m : x.message ≡ y.message = one-message x.message y.message x.good y.good (one x.message y.message x.good y.good x.content y.content) in
       let p = payload_in (content_of x.message) in
-      ap Is (one-case d e p (payload_in (content_of y.message)) y.message (subst (Says d p) m x.says) y.says)
-  one-meant one (Is d) (Refused why) a b = let e = one-first (cause-of a) (cause-of b) in absurd (omega (arith, some_number why))
-  one-meant one (Refused why) (Is d) a b = let e = one-first (cause-of a) (cause-of b) in absurd (omega (arith, some_number why))
-  one-meant one (Refused why) (Refused other) a b = ap Refused (one-refusal why other (one-first (cause-of a) (cause-of b)))
+      ap Ok (one-case d e p (payload_in (content_of y.message)) y.message (subst (Says d p) m x.says) y.says)
+  one-meant one (Ok d) (Err why) a b = let e = one-first (cause-of a) (cause-of b) in absurd (omega (arith, some_number why))
+  one-meant one (Err why) (Ok d) a b = let e = one-first (cause-of a) (cause-of b) in absurd (omega (arith, some_number why))
+  one-meant one (Err why) (Err other) a b = ap Err (one-refusal why other (one-first (cause-of a) (cause-of b)))
 
 -- ---- the same parts are the same content
 
@@ -123,7 +123,7 @@ one-content-with tag.Homiq p = one-homiq
 
 -- ---- each of them
 
-pub tail-meant : Means (λ c. c ≡ content.tail) (Is (OnNikobus Tail))
+pub tail-meant : Means (λ c. c ≡ content.tail) (Ok (OnNikobus Tail))
 unfolding look
 tail-meant = is-meant content.tail nikobuses.tail-limits refl {e = OnNikobus Tail} (another (no-link Tail refl) refl)
 
@@ -134,10 +134,10 @@ module _ {d : List ℕ} where
       go : nikobuses.Limits (link_of x.payload) → LinkDigits d
       go (nikobuses.link-limits a b c e g) = record { payload = x.payload; limits = record { enough = a; short = b; bytes = c }; is = x.digits }
 
-  pub link-not-meant : (LinkDigits d → ⊥) → Means (LinkWith d) (Refused OutOfLimits)
+  pub link-not-meant : (LinkDigits d → ⊥) → Means (LinkWith d) (Err OutOfLimits)
   link-not-meant n = not-meant (λ c x f. n (digits_of x f))
 
-  pub link-meant : {e : Nikobus} → LinkSaid d e → Means (LinkWith d) (Is (OnNikobus e))
+  pub link-meant : {e : Nikobus} → LinkSaid d e → Means (LinkWith d) (Ok (OnNikobus e))
   unfolding look
   link-meant {e} s =
       let l = s.link in
@@ -145,51 +145,51 @@ module _ {d : List ℕ} where
       is-meant (content.link p) (link-fit p l.limits.enough l.limits.short l.limits.bytes) (record { payload = p; is = refl; digits = l.is })
       {e = OnNikobus e} (says_of e p (hex_bytes p) l.limits.bytes refl s.says)
 
-  pub press-not-meant : ((length d ≡ 6) × T (all is_hex d) → ⊥) → Means (PressWith d) (Refused OutOfLimits)
+  pub press-not-meant : ((length d ≡ 6) × T (all is_hex d) → ⊥) → Means (PressWith d) (Err OutOfLimits)
   press-not-meant n = not-meant (λ c x f. n (press-said (subst Fit x f)))
 
-  pub press-meant : (length d ≡ 6) × T (all is_hex d) → (o : Six) → six o ≡ d → Means (PressWith d) (Is (OnNikobus (Press o)))
+  pub press-meant : (length d ≡ 6) × T (all is_hex d) → (o : Six) → six o ≡ d → Means (PressWith d) (Ok (OnNikobus (Press o)))
   unfolding look
   press-meant l o e = is-meant (content.press d) (nikobuses.press-limits l.0 l.1) refl {e = OnNikobus (Press o)} (another (no-link (Press o) refl) (ap press (sym e)))
 
 module _ {i : ℕ} {p : List ℕ} where
-  pub command-not-meant : (length p ≤ 1024 → ⊥) → Means (CommandWith i p) (Refused OutOfLimits)
+  pub command-not-meant : (length p ≤ 1024 → ⊥) → Means (CommandWith i p) (Err OutOfLimits)
   command-not-meant n = not-meant (λ c x f. n (nest-short (subst Fit x f)))
     where
       nest-short : Fit (content.command i p) → length p ≤ 1024
       nest-short f = f.short
 
-  pub response-not-meant : (length p ≤ 1024 → ⊥) → Means (ResponseWith i p) (Refused OutOfLimits)
+  pub response-not-meant : (length p ≤ 1024 → ⊥) → Means (ResponseWith i p) (Err OutOfLimits)
   response-not-meant n = not-meant (λ c x f. n (nest-short (subst Fit x f)))
     where
       nest-short : Fit (content.response i p) → length p ≤ 1024
       nest-short f = f.short
 
   module _ (id : i < 65536) (short : length p ≤ 1024) (bytes : Bytes p) where
-    pub command-meant : Means (CommandWith i p) (Is (OfCommand i))
+    pub command-meant : Means (CommandWith i p) (Ok (OfCommand i))
     unfolding look
     command-meant = is-meant (content.command i p) (nest-fit i p id short bytes) refl {e = OfCommand i} refl
 
-    pub response-meant : {e : Responded} → of_response e p ≡ look_response i p → Means (ResponseWith i p) (Is (OfResponse e))
+    pub response-meant : {e : Responded} → of_response e p ≡ look_response i p → Means (ResponseWith i p) (Ok (OfResponse e))
     unfolding look
     response-meant {e} s = is-meant (content.response i p) (nest-fit i p id short bytes) refl {e = OfResponse e} (sym s)
 
 module _ {k : ℕ} {d : List ℕ} where
-  pub nibe-not-meant : ((T (one_of commands k)) × (length d ≤ 255) → ⊥) → Means (NibeWith k d) (Refused OutOfLimits)
+  pub nibe-not-meant : ((T (one_of commands k)) × (length d ≤ 255) → ⊥) → Means (NibeWith k d) (Err OutOfLimits)
   nibe-not-meant n = not-meant (λ c x f. go (subst Fit x f))
     where
       go : nibes.Limits (nibe_of k d) → ⊥
       go f = n (f.command, f.short)
 
-  pub nibe-meant : T (one_of commands k) → length d ≤ 255 → Bytes d → {e : Nibe} → of_nibe e d ≡ look_nibe k d → Means (NibeWith k d) (Is (OnNibe e))
+  pub nibe-meant : T (one_of commands k) → length d ≤ 255 → Bytes d → {e : Nibe} → of_nibe e d ≡ look_nibe k d → Means (NibeWith k d) (Ok (OnNibe e))
   unfolding look
   nibe-meant o short bytes {e} s = is-meant (content.nibe k d) (nibe-fit k d o short bytes) refl {e = OnNibe e} (sym s)
 
 module _ {p : List ℕ} where
-  pub homiq-not-meant : ((w : Wire) × Payload p w → ⊥) → Means (HomiqWith p) (Refused OutOfLimits)
+  pub homiq-not-meant : ((w : Wire) × Payload p w → ⊥) → Means (HomiqWith p) (Err OutOfLimits)
   homiq-not-meant n = not-meant (λ c x f. n (x.wire, x.payload))
 
-  pub homiq-meant : (w : Wire) × Payload p w → {e : Homiq} → e ≡ which_of (field_at 0 p) (field_at 1 p) → Means (HomiqWith p) (Is (OnHomiq e))
+  pub homiq-meant : (w : Wire) × Payload p w → {e : Homiq} → e ≡ which_of (field_at 0 p) (field_at 1 p) → Means (HomiqWith p) (Ok (OnHomiq e))
   unfolding look
   homiq-meant x {e} g =
       let w = x.0 in
@@ -218,5 +218,5 @@ module _ (p : List ℕ) (e : Coded) (m : Message) (s : Says e (payload_in (conte
   says-with tag.Homiq g x = beside (x.payload.laid ∙ ap payload_in (sym x.is))
 
 -- the arm of a tag
-pub in-arm : (p : List ℕ) (r : Meant) {t it : Tag} → t ≡ it → Means (ContentWith it p) r → Means (ContentWith t p) r
+pub in-arm : (p : List ℕ) (r : Result Coded Refusal) {t it : Tag} → t ≡ it → Means (ContentWith it p) r → Means (ContentWith t p) r
 in-arm p r h = subst (λ (t : Tag). Means (ContentWith t p) r) (sym h)

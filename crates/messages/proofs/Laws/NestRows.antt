@@ -23,7 +23,6 @@ use Rattle.layouts.specs.Paper.Chars.{all, one_of}
 use Rattle.layouts.specs.Paper.Made.{nest_of}
 use Rattle.layouts.specs.Paper.Nest as nests
 use Rattle.layouts.specs.Work.Heads.{starts, is_byte}
-use Rattle.layouts.specs.declared.nest.Direction.TheVariants.{Command, Response}
 use Rattle.numbers.proofs.Laws.Values.{In, lower, upper, size, held_in, in_held, twos-lt}
 use Rattle.numbers.specs.Paper.ByteValues.{twos, value_bytes}
 use Rattle.messages.specs.Paper.Content.{Content}

@@ -4,18 +4,16 @@ use mathlib.Core.List.{List}
 use mathlib.Core.Path.{◌≡◌, refl, sym, ◌∙◌, subst}
 use Prim.Native.Nat.{ℕ}
 use lib.IntN.{ℤ, pos}
+use Rattle.std.specs.Prelude.{Result, Ok, Err}
 use Rattle.digits.proofs.Laws.Refusals.{same_answer, one_answer}
 use Rattle.digits.specs.declared.refusal.Refusal.{Refusal}
 use Rattle.numbers.proofs.Unique as numbers
 use Rattle.numbers.specs.Paper.Panel.{ClimatePair}
 use Rattle.numbers.specs.declared.panel.Climate.{Climate as Counts}
 use Rattle.messages.specs.Paper.Panel.{PairOf, pair_refusal, pair_value, ShowsPair, Voltages, volts_refusal, volts_value, ReadsVolts}
-use Rattle.messages.specs.declared.nest.Pair.{Pair}
-use Rattle.messages.specs.declared.nest.Pair.TheVariants.{Is, Refused}
 use Rattle.messages.specs.declared.nest.Response.{Response}
 use Rattle.messages.specs.declared.nest.Response.TheVariants.{Climate, State, Break, End, Text, Other}
 use Rattle.messages.specs.declared.nest.Volts.{Volts}
-use Rattle.messages.specs.declared.nest.Volts.TheVariants.{Are, Refused as NoVolts}
 
 -- ---- for_panel
 
@@ -44,22 +42,25 @@ pair-in v p =
 pair_one : {e : Response} (u v : Counts) → PairOf e u → PairOf e v → u ≡ v
 pair_one {e} u v a b = numbers.climate (temperature_of e) (pos (humidity_of e)) u v (pair-in u a) (pair-in v b)
 
-pair-cases : (P : Pair → Type 0) → ((v : Counts) → P (Is v)) → ((why : Refusal) → P (Refused why)) → (r : Pair) → P r
-pair-cases P f g (Is v) = f v
-pair-cases P f g (Refused why) = g why
+result-cases : {A : Type 0} (P : Result A Refusal → Type 0) → ((a : A) → P (Ok a)) → ((why : Refusal) → P (Err why)) → (r : Result A Refusal) → P r
+result-cases P f g (Ok a) = f a
+result-cases P f g (Err why) = g why
 
-pub one-pair : (e : Response) (r q : Pair) → ShowsPair e r → ShowsPair e q → r ≡ q
+pub one-pair : (e : Response) (r q : Result Counts Refusal) → ShowsPair e r → ShowsPair e q → r ≡ q
 one-pair e r q a b =
     let s = one_answer pair_one a b in
-    same_answer Is Refused pair_refusal pair_value (λ v. refl) (λ why. refl) (λ v. refl) pair-cases r q s.0 s.1
+    same_answer Ok Err pair_refusal pair_value (λ v. refl) (λ why. refl) (λ v. refl) result-cases r q s.0 s.1
 
 -- ---- voltages
 
-volts-cases : (P : Volts → Type 0) → ((v : Voltages) → P (Are v.v_in v.v_op v.v_bat)) → ((why : Refusal) → P (NoVolts why)) → (r : Volts) → P r
-volts-cases P f g (Are x y z) = f (record { v_in = x; v_op = y; v_bat = z })
-volts-cases P f g (NoVolts why) = g why
+abbrev volts_of : Voltages → Volts
+volts_of v = record { vin = v.v_in; vop = v.v_op; vbat = v.v_bat }
 
-pub one-volts : (p : List ℕ) (r q : Volts) → ReadsVolts p r → ReadsVolts p q → r ≡ q
+volts-cases : (P : Result Volts Refusal → Type 0) → ((v : Voltages) → P (Ok (volts_of v))) → ((why : Refusal) → P (Err why)) → (r : Result Volts Refusal) → P r
+volts-cases P f g (Ok v) = f (record { v_in = v.vin; v_op = v.vop; v_bat = v.vbat })
+volts-cases P f g (Err why) = g why
+
+pub one-volts : (p : List ℕ) (r q : Result Volts Refusal) → ReadsVolts p r → ReadsVolts p q → r ≡ q
 one-volts p r q a b =
     let s = one_answer (λ u v x y. x ∙ sym y) a b in
-    same_answer (λ (v : Voltages). Are v.v_in v.v_op v.v_bat) NoVolts volts_refusal volts_value (λ v. refl) (λ why. refl) (λ v. refl) volts-cases r q s.0 s.1
+    same_answer (λ (v : Voltages). Ok (volts_of v)) Err volts_refusal volts_value (λ v. refl) (λ why. refl) (λ v. refl) volts-cases r q s.0 s.1

@@ -2,15 +2,18 @@
 -- Assumes nothing.
 use mathlib.Core.Bool.{true, false}
 use mathlib.Core.List.{List}
-use mathlib.Core.Path.{◌≡◌, sym, ◌∙◌, ap, subst}
+use mathlib.Core.Path.{◌≡◌, refl, sym, ◌∙◌, ap, subst}
 use Prim.Native.Nat.{ℕ, ◌-◌, ◌≤◌}
 use native.Mathlib.Nat.{le_refl}
 use borrow.Author.Tests.{eqb-true}
-use lib.Dec.{eqb}
+use lib.Dec.{eqb, lit<}
 use lib.ListN.{length, get_or}
-use Rattle.digits.proofs.Laws.LowFirst.{value_low}
+use Rattle.std.specs.Prelude.{Option, Some, None, unwrap_or}
+use Rattle.digits.proofs.Laws.LowFirst.{value_low, never-refused}
+use Rattle.digits.proofs.Laws.Reads.{answered}
+use Rattle.digits.specs.Paper.Answers.{ReadsNumber}
 use Rattle.digits.proofs.Laws.Parts.{length_part}
-use Rattle.digits.specs.Paper.Bytes.{part}
+use Rattle.digits.specs.Paper.Bytes.{Bytes, part}
 use Rattle.digits.specs.Paper.LowFirst.{Width, Held, low_byte_first}
 use Rattle.digits.specs.Paper.LowFirst.{low_value}
 use Rattle.messages.specs.Paper.Message.{ask, reply, put, done, nibe}
@@ -23,8 +26,13 @@ use Rattle.messages.proofs.Laws.NibeRows.{sizes}
 -- ---- numbers
 
 -- bytes of which a number is written are that number's
-pub number-value : {s : List ℕ} {n : ℕ} → Held (length s) n × (low_byte_first (length s) n ≡ s) → n ≡ low_value s
+number-value : {s : List ℕ} {n : ℕ} → Held (length s) n × (low_byte_first (length s) n ≡ s) → n ≡ low_value s
 number-value {s} {n} p = sym (value_low (length s) n p.0.below) ∙ ap low_value p.1
+
+-- and so many bytes always are one
+pub number-read : (s : List ℕ) (r : Option ℕ) → Bytes s → Width (length s) → ReadsNumber s r → unwrap_or r 0 ≡ low_value s
+number-read s (Some n) b w a = number-value (answered (lit< tt) a refl)
+number-read s None b w a = absurd (never-refused s b w a refl)
 
 -- what stands behind a register has the value's width
 pub behind-two : (d : List ℕ) → (2 ≤ length d) × Width (length d - 2) → Width (length (part 2 (length d) d))

@@ -1,17 +1,18 @@
 -- What the code for Nest's responses answers: signed numbers as the machine makes them, tests, and the causes of a refusal.
 -- Assumes nothing.
-use mathlib.Core.Bool.{Bool, true, false, ◌&&◌, true≢false}
+use mathlib.Core.Bool.{Bool, true, false, cond, ◌&&◌, true≢false}
 use mathlib.Core.List.{List, [], append-nil}
 use mathlib.Core.Path.{◌≡◌, refl, sym, ap, ◌∙◌, subst}
 use Prim.Native.Nat.{ℕ, suc, ◌-◌, ◌≤◌, ◌<◌}
 use native.Mathlib.Omega.{arith}
-use lib.Dec.{eqb, lit<}
-use lib.IntN.{ℤ, pos, negsuc, ◌-ℤ◌}
+use lib.Dec.{eqb, ltb, lit<}
+use Rattle.std.proofs.lemmas.Int.{of_z-to_z}
+use lib.IntN.{ℤ, pos, negsuc}
 use lib.ListN.{length}
-use borrow.Author.Tests.{eqb-true, eq-eqb, lt-ltb, le-ltb}
-use mir.Syntax.{w16, w32}
-use mir.Val.{SFits, to_z, of_z}
-use mir.ValLaws.{to_z-of_z, to_z_pos}
+use borrow.Author.Tests.{eqb-true, eq-eqb}
+use mir.Syntax.{w16}
+use mir.Val.{SFits, sel, to_z, of_z}
+use mir.ValLaws.{to_z-of_z}
 use Rattle.digits.specs.Paper.Bytes.{Bytes}
 use Rattle.digits.specs.Paper.Read.{Decides, holds, fails}
 use Rattle.digits.specs.Paper.Refusals.{answers, refuses}
@@ -19,15 +20,14 @@ use Rattle.digits.specs.declared.refusal.Refusal.TheVariants.{OutOfLimits}
 use Rattle.layouts.proofs.Laws.Heads.{starts-append}
 use Rattle.layouts.specs.Work.Heads.{starts}
 use Rattle.numbers.proofs.Laws.Values.{In, lower, upper}
+use Rattle.std.specs.Prelude.{Ok, Err}
 use Rattle.numbers.specs.Paper.Panel.{ClimatePair}
 use Rattle.numbers.specs.declared.panel.Climate.{Climate as Counts}
 use Rattle.messages.specs.Paper.Panel.{PairCause, other, ShowsPair, VoltsCause, short, ReadsVolts}
 use Rattle.messages.specs.Paper.Table.{u16_at, v_in, v_op, v_bat}
 use Rattle.messages.specs.Work.Look.{of_twos, signed_at, is_climate}
-use Rattle.messages.specs.declared.nest.Pair.TheVariants.{Is, Refused}
 use Rattle.messages.specs.declared.nest.Response.{Response}
-use Rattle.messages.specs.declared.nest.Response.TheVariants.{Climate, State, Break, End, Text, Other}
-use Rattle.messages.specs.declared.nest.Volts.TheVariants.{Are, Refused as NoVolts}
+use Rattle.messages.specs.declared.nest.Response.TheVariants.{Climate}
 use Rattle.messages.proofs.Laws.Choices.{both_true}
 use Rattle.messages.proofs.Laws.Fives.{five, none}
 use Rattle.messages.proofs.Laws.NestRows.{of-twos, is_word}
@@ -43,33 +43,13 @@ in-fits (upper h) = record { sfits = omega arith }
 pub signed_back : (i : ℕ) (p : List ℕ) → Bytes p → to_z w16 (of_z w16 (signed_at i p)) ≡ signed_at i p
 signed_back i p b = to_z-of_z w16 (signed_at i p) (in-fits (of-twos (u16_at i p) (word_lt i p b)).0)
 
-pub low_signed : (n : ℕ) → n < 32768 → to_z w16 n ≡ of_twos n
-low_signed n h = to_z_pos w16 n h ∙ simp (lt-ltb n 32768 h)
-
-module _ (n : ℕ) (h : 32768 ≤ n) (k : n < 65536) where
-  turned : to_z w32 n -ℤ pos 65536 ≡ negsuc (65535 - n)
-  turned =
-      let e : 65536 - suc n ≡ 65535 - n = omega arith in
-      ap (λ (z : ℤ). z -ℤ pos 65536) (to_z_pos w32 n (omega arith)) ∙ simp (lt-ltb n 65536 k) (ap negsuc e)
-
-  small : SFits w32 (negsuc (65535 - n))
-  small = record { sfits = omega arith }
-
-  short-enough : SFits w16 (negsuc (65535 - n))
-  short-enough = record { sfits = omega arith }
-
-  pub turned-fits : SFits w32 (to_z w32 n -ℤ pos 65536)
-  turned-fits = subst (SFits w32) (sym turned) small
-
-  kept : to_z w32 (of_z w32 (to_z w32 n -ℤ pos 65536)) ≡ negsuc (65535 - n)
-  kept = ap (λ (z : ℤ). to_z w32 (of_z w32 z)) turned ∙ to_z-of_z w32 (negsuc (65535 - n)) small
-
-  pub turned-short : SFits w16 (to_z w32 (of_z w32 (to_z w32 n -ℤ pos 65536)))
-  turned-short = subst (SFits w16) (sym kept) short-enough
-
-  pub high-signed : to_z w16 (of_z w16 (to_z w32 (of_z w32 (to_z w32 n -ℤ pos 65536)))) ≡ of_twos n
-  high-signed =
-      ap (λ (z : ℤ). to_z w16 (of_z w16 z)) kept ∙ to_z-of_z w16 (negsuc (65535 - n)) short-enough ∙ simp (le-ltb n 32768 h)
+-- the bits of a number, read as signed and kept
+pub signed-is : (n : ℕ) → n < 65536 → to_z w16 (of_z w16 (to_z w16 n)) ≡ of_twos n
+signed-is n h = ap (to_z w16) (of_z-to_z w16 n h) ∙ go (ltb n 32768)
+  where
+    go : (b : Bool) → sel b (pos n) (negsuc (65536 - suc n)) ≡ cond b (pos n) (negsuc (65535 - n))
+    go true = refl
+    go false = let e : 65536 - suc n ≡ 65535 - n = omega arith in ap negsuc e
 
 -- ---- tests
 
@@ -99,7 +79,7 @@ volts-only k f (short h) = true≢false f
 
 -- the machine kept the temperature that is shown
 pub pair-shown : {e : Response} (v : Counts) (t : ℤ) (h : ℕ) → e ≡ Climate t h → SFits w16 t
-    → ClimatePair (to_z w16 (of_z w16 t)) (pos h) v.temperature v.humidity → ShowsPair e (Is v)
+    → ClimatePair (to_z w16 (of_z w16 t)) (pos h) v.temperature v.humidity → ShowsPair e (Ok v)
 pair-shown v t h is f p =
     answers (none pair-only (climate-right is))
     (record {
@@ -112,22 +92,14 @@ pair-shown v t h is f p =
     climate-right : {e : Response} → e ≡ Climate t h → PairCause e 5 → ⊥
     climate-right is (other f) = f t h is
 
-abbrev pub is_counts : Response → Bool
-is_counts (Climate t h) = true
-is_counts State = false
-is_counts Break = false
-is_counts End = false
-is_counts (Text i) = false
-is_counts (Other i) = false
-
 -- any other message is refused
-pub pair-refused : {e : Response} (m : Response) → e ≡ m → is_counts m ≡ false → ShowsPair e (Refused OutOfLimits)
-pair-refused m is f = refuses (lit< tt) (five pair-only (other (λ t h e. true≢false (sym (ap is_counts (sym is ∙ e)) ∙ f))))
+pub pair-refused : {e : Response} → ((t : ℤ) (h : ℕ) → e ≡ Climate t h → ⊥) → ShowsPair e (Err OutOfLimits)
+pair-refused n = refuses (lit< tt) (five pair-only (other n))
 
-pub volts-refused : {p : List ℕ} → length p < 16 → ReadsVolts p (NoVolts OutOfLimits)
+pub volts-refused : {p : List ℕ} → length p < 16 → ReadsVolts p (Err OutOfLimits)
 volts-refused h = refuses (lit< tt) (five volts-only (short h))
 
-pub volts-read : {p : List ℕ} {x y z : ℕ} → 16 ≤ length p → x ≡ v_in p → y ≡ v_op p → z ≡ v_bat p → ReadsVolts p (Are x y z)
+pub volts-read : {p : List ℕ} {x y z : ℕ} → 16 ≤ length p → x ≡ v_in p → y ≡ v_op p → z ≡ v_bat p → ReadsVolts p (Ok (record { vin = x; vop = y; vbat = z }))
 volts-read {p} {x} {y} {z} h e f g = answers {v = record { v_in = x; v_op = y; v_bat = z }} (none volts-only (long h)) (rw (e, f, g))
   where
     long : {p : List ℕ} → 16 ≤ length p → VoltsCause p 5 → ⊥

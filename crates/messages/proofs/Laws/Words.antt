@@ -5,6 +5,8 @@ use mathlib.Core.Path.{◌≡◌, refl, sym, ap, ap₂, ◌∙◌}
 use Prim.Native.Nat.{ℕ, suc, ◌+◌, ◌-◌, ◌*◌, ◌/◌, ◌%◌, ◌≤◌, ◌<◌}
 use native.Mathlib.Omega.{arith}
 use lib.ListN.{length, get_or, take, drop}
+use mir.Syntax.{w16}
+use Rattle.std.specs.Int.{from_le_bytes}
 use Rattle.digits.proofs.Laws.Parts.{take-ats}
 use Rattle.digits.specs.Paper.Bytes.{Bytes, part}
 use Rattle.digits.specs.Paper.LowFirst.{low_byte_first}
@@ -42,3 +44,7 @@ unfolding low_byte_first
 word_at l s a h =
     let e : a % 256 + 256 * (a / 256 % 256) ≡ a = omega arith in
     word-behind l (low_byte_first 2 a ++ s) ∙ e
+
+-- the library's number of two bytes
+pub two-bytes : (a b : ℕ) → from_le_bytes w16 (a ∷ b ∷ []) ≡ a + 256 * b
+two-bytes a b = omega arith

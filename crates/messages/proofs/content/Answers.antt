@@ -7,19 +7,19 @@ use Rattle.messages.proofs.Laws.Decode.{inside, contents-part, contents-nothing,
 use Rattle.messages.proofs.content.Goals as goal
 
 pub slice_bounds-result-count : goal.slice_bounds-result-count
-slice_bounds-result-count c = (inside (one-frame c.one_frame.ensures c.in-Is.is)).0
+slice_bounds-result-count c = (inside (one-frame c.one_frame.ensures c.in-Ok.is)).0
 
 pub slice_bounds-result-start : goal.slice_bounds-result-start
-slice_bounds-result-start c = (inside (one-frame c.one_frame.ensures c.in-Is.is)).0
+slice_bounds-result-start c = (inside (one-frame c.one_frame.ensures c.in-Ok.is)).0
 
 pub slice_bounds-result-end : goal.slice_bounds-result-end
-slice_bounds-result-end c = (inside (one-frame c.one_frame.ensures c.in-Is.is)).1
+slice_bounds-result-end c = (inside (one-frame c.one_frame.ensures c.in-Ok.is)).1
 
-pub returns-in-Is : goal.returns-in-Is
-returns-in-Is c =
-    contents-part (one-frame c.one_frame.ensures c.in-Is.is) (no-first c.one_frame.ensures c.in-Is.is) (record { bytes = refl; place = refl })
+pub returns-in-Ok : goal.returns-in-Ok
+returns-in-Ok c =
+    contents-part (one-frame c.one_frame.ensures c.in-Ok.is) (no-first c.one_frame.ensures c.in-Ok.is) (record { bytes = refl; place = refl })
 
 -- `sub_self`: a part from any place to itself is empty, so that only its place tells a wrong one
-pub returns-in-Refused : goal.returns-in-Refused
-returns-in-Refused c =
-    contents-nothing c.in-Refused.why (first_of c.one_frame.ensures c.in-Refused.is) (record { bytes = search (rules, sub_self); place = refl })
+pub returns-in-Err : goal.returns-in-Err
+returns-in-Err c =
+    contents-nothing _ (first_of c.one_frame.ensures c.in-Err.is) (record { bytes = search (rules, sub_self); place = refl })

@@ -1,6 +1,6 @@
 -- `messages::of` meets its contract, tag by tag.
 -- Assumes nothing.
-use Rattle.messages.specs.declared.Meant.TheVariants.{Is}
+use Rattle.std.specs.Prelude.{Ok}
 use Rattle.messages.specs.declared.Message.TheVariants.{Nikobus}
 use Rattle.messages.specs.declared.nikobus.Nikobus.TheVariants.{Tail}
 use Rattle.messages.proofs.Laws.Meant.{in-arm, tail-meant}
@@ -13,7 +13,7 @@ pub returns-in-Press : goal.returns-in-Press
 returns-in-Press c = in-arm c.args.payload.now c.of_press.result c.in-Press.is c.of_press.ensures
 
 pub returns-in-Tail : goal.returns-in-Tail
-returns-in-Tail c = in-arm c.args.payload.now (Is (Nikobus Tail)) c.in-Tail.is tail-meant
+returns-in-Tail c = in-arm c.args.payload.now (Ok (Nikobus Tail)) c.in-Tail.is tail-meant
 
 pub returns-in-Command : goal.returns-in-Command
 returns-in-Command c = in-arm c.args.payload.now c.of_command.result c.in-Command.is c.of_command.ensures

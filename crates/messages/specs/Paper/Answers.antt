@@ -1,10 +1,11 @@
 -- The promises: decode, the content beside a message, and find.
 -- Assumes nothing.
-use Rattle.std.specs.Prelude.{false, List, ◌≡◌, ℕ, ◌-◌}
+use Rattle.std.specs.Prelude.{false, List, ◌≡◌, ℕ, ◌-◌, Result, Ok, Err}
 use Rattle.std.proofs.Math.Option.{Option, none, some}
 use Rattle.std.specs.Borrow.{Bor}
 use Rattle.digits.specs.Paper.Part.{Ends, zero_ends, HandsPart}
 use Rattle.digits.specs.Paper.Refusals.{refusal_number, Answers}
+use Rattle.digits.specs.declared.refusal.Refusal.{Refusal}
 use Rattle.frames.specs.Paper.Kinds.{known, Frame}
 use Rattle.frames.specs.Paper.Search.{Hit, zero_hit, Leftmost, SearchCause, frame_part}
 use Rattle.messages.specs.Paper.Content.{content_at, payload_in, payload_from, payload_to}
@@ -13,9 +14,7 @@ use Rattle.messages.specs.Paper.Says.{Says}
 use Rattle.messages.specs.Paper.Table.{content_of, Good}
 use Rattle.messages.specs.declared.Message.{Message as Coded}
 use Rattle.messages.specs.declared.Decoded.{Decoded}
-use Rattle.messages.specs.declared.Decoded.TheVariants.{Is, Refused}
 use Rattle.messages.specs.declared.FoundMessage.{FoundMessage}
-use Rattle.messages.specs.declared.FoundMessage.TheVariants.{At, Refused as NotFound}
 
 -- the message m stands in f: f is a frame of kind k, and what it says is the content of m
 pub record Stands (k : ℕ) (f : List ℕ) (m : Message) : Type 0 where
@@ -47,13 +46,13 @@ pub record DecodedValue : Type 0 where
 abbrev pub zero_decoded : DecodedValue
 zero_decoded = record { message = none; ends = zero_ends }
 
-abbrev pub decoded_refusal : Decoded → ℕ
-decoded_refusal (Is e from to) = 0
-decoded_refusal (Refused why) = refusal_number why
+abbrev pub decoded_refusal : Result Decoded Refusal → ℕ
+decoded_refusal (Ok d) = 0
+decoded_refusal (Err why) = refusal_number why
 
-abbrev pub decoded_value : Decoded → DecodedValue
-decoded_value (Is e from to) = record { message = some e; ends = record { from = from; to = to } }
-decoded_value (Refused why) = zero_decoded
+abbrev pub decoded_value : Result Decoded Refusal → DecodedValue
+decoded_value (Ok d) = record { message = some d.message; ends = record { from = d.from; to = d.to } }
+decoded_value (Err why) = zero_decoded
 
 -- v has the right values
 pub record DecodedTo (k : ℕ) (f : List ℕ) (v : DecodedValue) : Type 0 where
@@ -62,7 +61,7 @@ pub record DecodedTo (k : ℕ) (f : List ℕ) (v : DecodedValue) : Type 0 where
   pub said : Said k f message v.ends.from v.ends.to
 
 -- r is the right answer
-abbrev pub Decodes : ℕ → List ℕ → Decoded → Type 0
+abbrev pub Decodes : ℕ → List ℕ → Result Decoded Refusal → Type 0
 Decodes k f r = Answers zero_decoded (DecodeCause k f) (DecodedTo k f) (decoded_refusal r) (decoded_value r)
 
 -- ---- content: what stands beside the message of a frame, "handed back as that part of the caller's buffer"
@@ -88,14 +87,14 @@ pub record FoundValue : Type 0 where
 abbrev pub zero_found_message : FoundValue
 zero_found_message = record { message = none; hit = zero_hit }
 
-abbrev pub found_message_refusal : FoundMessage → ℕ
-found_message_refusal (At start len from to e) = 0
-found_message_refusal (NotFound why) = refusal_number why
+abbrev pub found_message_refusal : Result FoundMessage Refusal → ℕ
+found_message_refusal (Ok h) = 0
+found_message_refusal (Err why) = refusal_number why
 
-abbrev pub found_message_value : FoundMessage → FoundValue
-found_message_value (At start len from to e) =
-    record { message = some e; hit = record { start = start; len = len; from = from; to = to } }
-found_message_value (NotFound why) = zero_found_message
+abbrev pub found_message_value : Result FoundMessage Refusal → FoundValue
+found_message_value (Ok h) =
+    record { message = some h.message; hit = record { start = h.start; len = h.len; from = h.from; to = h.to } }
+found_message_value (Err why) = zero_found_message
 
 -- v has the right values; its places are those in the buffer, and `Said` speaks of places in the frame
 pub record FoundAs (k : ℕ) (s : List ℕ) (place : ℕ) (v : FoundValue) : Type 0 where
@@ -105,7 +104,7 @@ pub record FoundAs (k : ℕ) (s : List ℕ) (place : ℕ) (v : FoundValue) : Typ
   pub said : Said k (frame_part s v.hit) message (v.hit.from - v.hit.start) (v.hit.to - v.hit.start)
 
 -- r is the right answer; it is refused as the search is
-abbrev pub Finds : ℕ → List ℕ → ℕ → FoundMessage → Type 0
+abbrev pub Finds : ℕ → List ℕ → ℕ → Result FoundMessage Refusal → Type 0
 Finds k s place r =
     Answers zero_found_message (SearchCause k s place) (FoundAs k s place)
     (found_message_refusal r) (found_message_value r)

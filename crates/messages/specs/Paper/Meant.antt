@@ -1,9 +1,10 @@
 -- The promise of `of`: the message of a content, from the content's parts.
 -- Assumes nothing.
-use Rattle.std.specs.Prelude.{List, ◌≡◌, ℕ}
+use Rattle.std.specs.Prelude.{List, ◌≡◌, ℕ, Result, Ok, Err}
 use Rattle.std.proofs.Math.Option.{Option, none, some}
 use Rattle.digits.specs.Paper.Hex.{hex_bytes}
 use Rattle.digits.specs.Paper.Refusals.{refusal_number, Answers}
+use Rattle.digits.specs.declared.refusal.Refusal.{Refusal}
 use Rattle.layouts.specs.Paper.Made.{Wire, Payload}
 use Rattle.messages.specs.Paper.Content.{Content, payload_in}
 use Rattle.messages.specs.Paper.Content as content
@@ -12,8 +13,6 @@ use Rattle.messages.specs.Paper.Says.{Says}
 use Rattle.messages.specs.Paper.Table.{content_of, Good}
 use Rattle.messages.specs.declared.Tag.{Tag}
 use Rattle.messages.specs.declared.Tag.TheVariants.{Link, Press, Tail, Command, Response, Nibe, Homiq}
-use Rattle.messages.specs.declared.Meant.{Meant}
-use Rattle.messages.specs.declared.Meant.TheVariants.{Is, Refused}
 use Rattle.messages.specs.declared.Message.{Message as Coded}
 
 -- ---- the content that parts are
@@ -72,13 +71,13 @@ pub record MessageWith (With : Content → Type 0) (e : Coded) : Type 0 where
 abbrev pub none_meant : Option Coded
 none_meant = none
 
-abbrev pub meant_refusal : Meant → ℕ
-meant_refusal (Is e) = 0
-meant_refusal (Refused why) = refusal_number why
+abbrev pub meant_refusal : Result Coded Refusal → ℕ
+meant_refusal (Ok e) = 0
+meant_refusal (Err why) = refusal_number why
 
-abbrev pub meant_value : Meant → Option Coded
-meant_value (Is e) = some e
-meant_value (Refused why) = none_meant
+abbrev pub meant_value : Result Coded Refusal → Option Coded
+meant_value (Ok e) = some e
+meant_value (Err why) = none_meant
 
 -- v is that message
 pub record MeantAs (With : Content → Type 0) (v : Option Coded) : Type 0 where
@@ -87,5 +86,5 @@ pub record MeantAs (With : Content → Type 0) (v : Option Coded) : Type 0 where
   pub right : MessageWith With coded
 
 -- r is the right answer
-abbrev pub Means : (Content → Type 0) → Meant → Type 0
+abbrev pub Means : (Content → Type 0) → Result Coded Refusal → Type 0
 Means With r = Answers none_meant (MeantCause With) (MeantAs With) (meant_refusal r) (meant_value r)

@@ -29,11 +29,3 @@ which_of cmd val =
     (cond (same (ascii "UD") cmd && is_letter (ascii "uds") val) Shutter
     (cond (same (ascii "HB") cmd && is_letter (ascii "1") val) Beat
     Other)))
-
--- which case a message is
-abbrev pub case_number : Homiq → ℕ
-case_number Output = 0
-case_number Input = 1
-case_number Shutter = 2
-case_number Beat = 3
-case_number Other = 4

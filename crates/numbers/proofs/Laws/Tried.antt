@@ -1,5 +1,6 @@
 -- Whether a text is a number's, as a test that computes: so that a text is shown to be none's by computing.
 -- Assumes nothing.
+use Rattle.std.specs.Prelude.{Result}
 use mathlib.Core.Path.{◌≡◌, refl, sym, ap, ◌∙◌}
 use mathlib.Core.Bool.{Bool, true, false, ◌&&◌, true≢false}
 use mathlib.Core.List.{List, [], ◌∷◌}
@@ -9,6 +10,7 @@ use lib.Dec.{leb, eqb}
 use lib.IntN.{ℤ, nat_abs}
 use borrow.Author.Tests.{eq-eqb, le-leb}
 use Rattle.digits.proofs.Laws.Reads.{no-reading}
+use Rattle.digits.specs.declared.refusal.Refusal.{Refusal}
 use Rattle.numbers.specs.Paper.Raw.{most_decimals}
 use Rattle.numbers.specs.Paper.Text.{below_zero, text}
 use Rattle.numbers.specs.Paper.Answers.{reading_refusal, ReadsText}
@@ -38,6 +40,6 @@ text-is-text z d h =
     ∙ ap (λ (y : ℤ). alike (text y d) (text z d)) (taken-text z d)
     ∙ alike_same (text z d)
 
-pub refused-unless : (t : List ℕ) → is_text t ≡ false → (r : Reading) → ReadsText t r → reading_refusal r ≡ 7
+pub refused-unless : (t : List ℕ) → is_text t ≡ false → (r : Result Reading Refusal) → ReadsText t r → reading_refusal r ≡ 7
 refused-unless t f r a =
     no-reading (omega arith) (λ n l e. true≢false (sym (text-is-text n.raw n.decimals l.few) ∙ ap is_text e ∙ f)) a

@@ -1,5 +1,6 @@
 -- What a call that writes into a lent room answers, way by way.
 -- Assumes nothing.
+use Rattle.std.specs.Prelude.{Err}
 use mathlib.Core.Path.{◌≡◌, ap, ◌∙◌, subst}
 use mathlib.Core.Bool.{Bool}
 use Prim.Native.Nat.{ℕ, ◌≤◌, ◌<◌}
@@ -13,9 +14,7 @@ use Rattle.digits.specs.Paper.Bytes.{part}
 use Rattle.digits.specs.Paper.LowFirst.{Width, low_byte_first}
 use Rattle.digits.proofs.Laws.LowFirst.{width-most, length-low, low-take}
 use Rattle.digits.specs.declared.refusal.Refusal.TheVariants.{OutOfLimits, BadForm}
-use Rattle.puts.specs.Paper.Wrote.{refused, RoomCause, Writes}
-use Rattle.puts.specs.declared.Written.{Written}
-use Rattle.puts.specs.declared.Written.TheVariants.{Refused}
+use Rattle.puts.specs.Paper.Wrote.{refused, RoomCause, Writes, Written}
 use Rattle.puts.proofs.Laws.Wrote.{after-tests}
 use Rattle.numbers.specs.Paper.Raw.{Raw, most_decimals}
 use Rattle.numbers.specs.Paper.Text.{text}
@@ -29,11 +28,11 @@ module _ (z : ℤ) (d : ℕ) (room : List ℕ) where
   abbrev Text : Written → List ℕ → Type 0
   Text = Writes (TextCause z d (length room)) (text z d) room
 
-  pub bad-decimals : most_decimals < d → Text (Refused BadForm) room
+  pub bad-decimals : most_decimals < d → Text (Err BadForm) room
   bad-decimals h = refused (lit< tt) (first-7 text-only (A.decimals h))
 
   module _ (few : d ≤ most_decimals) where
-    pub bad-range : (Raw z → ⊥) → Text (Refused OutOfLimits) room
+    pub bad-range : (Raw z → ⊥) → Text (Err OutOfLimits) room
     bad-range f = refused (lit< tt) (first-5 text-only (decimals-right few) (A.range f))
 
     module _ (raw : Raw z) where
@@ -55,11 +54,11 @@ module _ (w : ℕ) (signed : Bool) (z : ℤ) (room : List ℕ) where
   abbrev Value : Written → List ℕ → Type 0
   Value = Writes (ValueCause w signed z (length room)) (value_bytes w z) room
 
-  pub bad-width : (Width w → ⊥) → Value (Refused BadForm) room
+  pub bad-width : (Width w → ⊥) → Value (Err BadForm) room
   bad-width f = refused (lit< tt) (first-7 value-only (A.width f))
 
   module _ (known : Width w) where
-    pub not-held : (HeldBy w signed z → ⊥) → Value (Refused OutOfLimits) room
+    pub not-held : (HeldBy w signed z → ⊥) → Value (Err OutOfLimits) room
     not-held f = refused (lit< tt) (first-5 value-only (width-right known) (A.held f))
 
     module _ (held : HeldBy w signed z) where

@@ -1,5 +1,7 @@
 -- What the definition of a number's text comes to, for a reader.
 -- Assumes nothing.
+use Rattle.digits.specs.declared.refusal.Refusal.{Refusal}
+use Rattle.std.specs.Prelude.{Ok, Result}
 use mathlib.Core.Path.{◌≡◌, refl, ap}
 use mathlib.Core.List.{List, ◌++◌}
 use Prim.Native.Nat.{ℕ, ◌/◌, ◌^◌, ◌≤◌, ◌<◌}
@@ -10,16 +12,13 @@ use lib.ListN.{length, drop}
 use Rattle.digits.specs.Paper.Ascii.{ascii}
 use Rattle.digits.specs.Paper.Decimal.{decimal_in, enough, decimal}
 use Rattle.digits.proofs.Laws.Reads.{answered, no-reading}
-use Rattle.puts.specs.Paper.Wrote.{wrote, Writes}
-use Rattle.puts.specs.declared.Written.{Written}
-use Rattle.puts.specs.declared.Written.TheVariants.{Bytes}
+use Rattle.puts.specs.Paper.Wrote.{wrote, Writes, Written}
 use Rattle.puts.proofs.Unique.{one_written}
 use Rattle.numbers.specs.Paper.Raw.{Raw, most_decimals}
 use Rattle.numbers.specs.Paper.Text.{below_zero, sign, last_digits, text_of, text}
 use Rattle.numbers.specs.Paper.Exact.{Exact}
 use Rattle.numbers.specs.Paper.Answers.{TextCause, reading_refusal, ReadsText}
 use Rattle.numbers.specs.declared.text.Reading.{Reading}
-use Rattle.numbers.specs.declared.text.Reading.TheVariants.{Is}
 use Rattle.numbers.proofs.Laws.Causes.{text-only, no-cause, decimals-right, range-right, room-enough}
 use Rattle.numbers.proofs.Laws.Signs.{magnitude-lt}
 use Rattle.numbers.proofs.Laws.Text.{length_last, text-short}
@@ -49,7 +48,7 @@ at-most-12 z d r h = text-short (below_zero z) (nat_abs z) d (magnitude-lt z r) 
 -- SO A ROOM OF 12 IS ALWAYS ENOUGH: a raw number at 0 to 3 decimals is never refused there, and its text stands at the room's front
 pub room-of-12 : (z : ℤ) (d : ℕ) (r : Written) (room later : List ℕ) → Raw z → d ≤ most_decimals → 12 ≤ length room
     → Writes (TextCause z d (length room)) (text z d) room r later
-    → (r ≡ Bytes (length (text z d))) × (later ≡ text z d ++ drop (length (text z d)) room)
+    → (r ≡ Ok (length (text z d))) × (later ≡ text z d ++ drop (length (text z d)) room)
 room-of-12 z d r room later raw few h a =
     let enough : length (text z d) ≤ length room = le_trans (at-most-12 z d raw few) h in
     one_written a (wrote (no-cause text-only (decimals-right few) (range-right raw) (room-enough enough)))
@@ -59,17 +58,17 @@ pub one_number : (y z : ℤ) (d e : ℕ) → text y d ≡ text z e → (y ≡ z)
 one_number = reader.text-inj
 
 -- WRITTEN AND READ BACK, A NUMBER AND ITS DECIMALS ARE THE SAME; READ AND WRITTEN, A TEXT IS THE SAME
-pub written-then-read : (z : ℤ) (d : ℕ) (r : Reading) → Raw z → d ≤ most_decimals → ReadsText (text z d) r → r ≡ Is z d
-written-then-read z d r raw few a = text-read (text z d) r (Is z d) a (is_number (text z d) z d raw few refl)
+pub written-then-read : (z : ℤ) (d : ℕ) (r : Result Reading Refusal) → Raw z → d ≤ most_decimals → ReadsText (text z d) r → r ≡ Ok (record { raw = z; decimals = d })
+written-then-read z d r raw few a = text-read (text z d) r (Ok (record { raw = z; decimals = d })) a (is_number (text z d) z d raw few refl)
 
-pub read-then-written : (t : List ℕ) (z : ℤ) (d : ℕ) → ReadsText t (Is z d) → text z d ≡ t
+pub read-then-written : (t : List ℕ) (z : ℤ) (d : ℕ) → ReadsText t (Ok (record { raw = z; decimals = d })) → text z d ≡ t
 read-then-written t z d a = (answered (omega arith) a refl).1
 
 -- ---- texts that are no number's
 
 -- reading t is refused with 7, whatever reads it right
 abbrev pub Refused7 : List ℕ → Type 0
-Refused7 t = (r : Reading) → ReadsText t r → reading_refusal r ≡ 7
+Refused7 t = (r : Result Reading Refusal) → ReadsText t r → reading_refusal r ≡ 7
 
 -- A TEXT OF MORE THAN 12 CHARACTERS IS REFUSED
 pub longer-refused : (t : List ℕ) → 12 < length t → Refused7 t

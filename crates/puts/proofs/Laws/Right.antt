@@ -1,5 +1,6 @@
 -- The outcome of a call that writes, into a lent room, the bytes that are right: there is one, and how it comes about.
 -- Assumes nothing.
+use Rattle.std.specs.Prelude.{Err}
 use mathlib.Core.Path.{◌≡◌, refl, sym, ap, subst}
 use mathlib.Core.Bool.{Bool, false, ◌||◌}
 use mathlib.Core.List.{List, ◌++◌}
@@ -12,9 +13,7 @@ use Rattle.digits.specs.Paper.Refusals.{refusal_order, First, clear, here, after
 use Rattle.digits.specs.declared.refusal.Refusal.TheVariants.{OutOfLimits}
 use Rattle.digits.proofs.Laws.Refusals.{one-first, pass-over}
 use Rattle.puts.specs.Paper.Wrote as puts
-use Rattle.puts.specs.Paper.Wrote.{Wrote, RoomCause, Writes}
-use Rattle.puts.specs.declared.Written.{Written}
-use Rattle.puts.specs.declared.Written.TheVariants.{Refused}
+use Rattle.puts.specs.Paper.Wrote.{Wrote, RoomCause, Writes, Written}
 use Rattle.puts.proofs.Laws.Wrote.{after-tests}
 use Rattle.puts.proofs.Unique.{written-answer}
 use Rattle.puts.specs.Paper.Right.{WroteRight, wrote, refused, WritesRight}
@@ -86,5 +85,5 @@ module _ {Cause : ℕ → Type 0} {Right : List ℕ → Type 0} {room : List ℕ
   fronted-right r x enough less w = as-right x (after-tests enough less w)
 
   -- and one that has not
-  pub refused-5 : First Cause refusal_order 5 → WritesRight Cause Right room (Refused OutOfLimits) room
+  pub refused-5 : First Cause refusal_order 5 → WritesRight Cause Right room (Err OutOfLimits) room
   refused-5 f = refused (lit< tt) f

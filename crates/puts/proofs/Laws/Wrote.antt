@@ -1,5 +1,6 @@
 -- The outcome of a call that writes into a lent room: there is one, and a writer's is right.
 -- Assumes nothing.
+use Rattle.std.specs.Prelude.{Ok, Err}
 use mathlib.Core.Path.{◌≡◌, refl, sym, ap, ◌∙◌, subst}
 use mathlib.Core.Bool.{Bool, true, false, cond, true≢false}
 use mathlib.Core.List.{List, []}
@@ -15,7 +16,6 @@ use Rattle.digits.proofs.Laws.Parts.{part-all}
 use Rattle.digits.proofs.Laws.Refusals.{one-first, pass-over}
 use Rattle.puts.specs.Paper.Put.{Put}
 use Rattle.puts.specs.Paper.Wrote.{Wrote, wrote, refused, RoomCause, short, Writes}
-use Rattle.puts.specs.declared.Written.TheVariants.{Bytes, Refused}
 use Rattle.puts.proofs.Laws.Puts.{puts-as, front-count, front-room}
 
 module _ {Cause : ℕ → Type 0} {bs room : List ℕ} where
@@ -56,7 +56,7 @@ module _ (s room : List ℕ) {n : ℕ} (e : n ≡ cond (leb (length s) (length r
   within-bytes = all-or-none (λ h f. omega arith) (λ h f. omega arith)
 
   module _ {later : List ℕ} {k : ℕ} (p : Put room later 0 k (part 0 n s)) where
-    pub all-written : length s ≤ n → Writes (RoomCause (length room) (length s)) s room (Bytes n) later
+    pub all-written : length s ≤ n → Writes (RoomCause (length room) (length s)) s room (Ok n) later
     all-written h =
         all-or-none
         (λ g f.
@@ -65,7 +65,7 @@ module _ (s room : List ℕ) {n : ℕ} (e : n ≡ cond (leb (length s) (length r
         subst (λ (m : ℕ). Wrote (RoomCause (length room) (length s)) s room 0 m later) (front-count q g ∙ sym f) (wrote_by (room_for g) q g))
         (λ g f. absurd (omega arith))
 
-    pub none_written : n < length s → Writes (RoomCause (length room) (length s)) s room (Refused NoRoom) later
+    pub none_written : n < length s → Writes (RoomCause (length room) (length s)) s room (Err NoRoom) later
     none_written h =
         all-or-none (λ g f. absurd (omega arith))
         (λ g f.

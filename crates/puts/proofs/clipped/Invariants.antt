@@ -1,13 +1,10 @@
 -- `puts::clipped` meets its contract. The loop's invariant: the bytes passed are put.
 -- Assumes nothing.
 use mathlib.Core.Path.{◌≡◌}
-use Prim.Native.Nat.{◌-◌, ◌≤◌}
+use Prim.Native.Nat.{◌≤◌}
 use lib.ListN.{length, take}
 use Rattle.puts.specs.Paper.Put.{Put}
 use Rattle.puts.proofs.clipped.Given as goal
 
-abbrev pub invariant-loop-i : goal.invariant-loop-i
-invariant-loop-i l = (l.i ≤ length l.s) × (length l.room ≡ length l.initial.room) × Put l.initial.room l.room l.at l.next (take l.i l.s)
-
-abbrev pub decreases-loop-i : goal.decreases-loop-i
-decreases-loop-i l = length l.s - l.i
+abbrev pub invariant-loop-b : goal.invariant-loop-b
+invariant-loop-b l = (l.b-index ≤ length l.s) × (length l.room ≡ length l.initial.room) × Put l.initial.room l.room l.at l.next (take l.b-index l.s)

@@ -1,7 +1,6 @@
 -- `puts::hex_clipped` meets its contract. The loop's invariant: the bytes passed are put.
 -- Assumes nothing.
 use mathlib.Core.Path.{refl, ap, ◌∙◌}
-use Prim.Native.Nat.{◌-◌}
 use native.Mathlib.Omega.{arith}
 use lib.Seq.{take_all}
 use Rattle.digits.specs.Paper.Hex.{hex_byte, hex_bytes}
@@ -9,25 +8,16 @@ use Rattle.puts.proofs.Laws.Puts.{none, puts-as}
 use Rattle.puts.proofs.Laws.Spelt.{hex-last, turn}
 use Rattle.puts.proofs.hex_clipped.Goals as goal
 
-pub loop-i-init : goal.loop-i-init
+pub loop-b-init : goal.loop-b-init
 unfolding hex_bytes
-loop-i-init c = (omega arith, refl, none _ _ (omega (arith, c.well_formed)) (omega arith))
+loop-b-init c = (omega arith, refl, none _ _ (omega (arith, c.well_formed)) (omega arith))
 
-pub bounds-s-i : goal.bounds-s-i
-bounds-s-i c = omega arith
-
-pub overflow_add-i : goal.overflow_add-i
-overflow_add-i c = omega arith
-
-pub loop-i-smaller : goal.loop-i-smaller
-loop-i-smaller c = omega arith
-
-pub loop-i-preserved : goal.loop-i-preserved
-loop-i-preserved c =
-    (omega arith, c.bytes-next.auto.room ∙ c.loop-i.invariant.1, turn hex_byte hex_bytes hex-last c.args.s.now c.loop-i.i c.loop-i-test.true c.loop-i.invariant.2 (puts-as c.two_digits-two.ensures c.bytes-next.ensures))
+pub loop-b-preserved : goal.loop-b-preserved
+loop-b-preserved c =
+    (omega arith, c.bytes-next.auto.room ∙ c.loop-b.invariant.1, turn hex_byte hex_bytes hex-last c.args.s.now c.loop-b.b-index c.loop-b-test.true c.loop-b.invariant.2 (puts-as c.two_digits.ensures c.bytes-next.ensures))
 
 pub shape_of-room : goal.shape_of-room
 shape_of-room c = omega arith
 
 pub returns : goal.returns
-returns c = puts-as (ap hex_bytes (take_all c.loop-i.i c.args.s.now c.loop-i-test.false)) c.loop-i.invariant.2
+returns c = puts-as (ap hex_bytes (take_all c.loop-b.b-index c.args.s.now c.loop-b-test.false)) c.loop-b.invariant.2

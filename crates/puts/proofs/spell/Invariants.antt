@@ -1,7 +1,7 @@
 -- `puts::spell` meets its contract. The loop's invariant: what is left, stored from here on, makes the whole.
 -- Assumes nothing.
 use mathlib.Core.Path.{◌≡◌}
-use Prim.Native.Nat.{◌+◌, ◌*◌, ◌-◌, ◌≤◌}
+use Prim.Native.Nat.{◌+◌, ◌*◌, ◌≤◌}
 use lib.ListN.{length, drop}
 use lib.Seq.{sets}
 use Rattle.digits.specs.Paper.Hex.{hex_bytes}
@@ -9,6 +9,3 @@ use Rattle.puts.proofs.spell.Given as goal
 
 abbrev pub invariant-loop-i : goal.invariant-loop-i
 invariant-loop-i l = (l.i ≤ length l.s) × (length l.room ≡ length l.initial.room) × (sets l.room (l.at + 2 * l.i) (hex_bytes (drop l.i l.s)) ≡ sets l.initial.room l.at (hex_bytes l.s))
-
-abbrev pub decreases-loop-i : goal.decreases-loop-i
-decreases-loop-i l = length l.s - l.i

@@ -3,8 +3,7 @@
 -- Assumes nothing.
 use Rattle.std.specs.Prelude.{List, ◌++◌, ℕ, ◌<◌, length, drop}
 use Rattle.digits.specs.Paper.Refusals.{refusal_order, First, Answers}
-use Rattle.puts.specs.Paper.Wrote.{written_refusal, written_count}
-use Rattle.puts.specs.declared.Written.{Written}
+use Rattle.puts.specs.Paper.Wrote.{written_refusal, written_count, Written}
 
 -- As `Wrote`, with bytes of which `Right` holds.
 pub data WroteRight (Cause : ℕ → Type 0) (Right : List ℕ → Type 0) (room : List ℕ)

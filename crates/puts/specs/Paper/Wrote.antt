@@ -1,10 +1,9 @@
 -- 01, "Refusal numbers": "Refusals return zeros and write nothing. An answer writes only its own bytes; the rest of
 -- the room keeps its values."
 -- Assumes nothing.
-use Rattle.std.specs.Prelude.{ℕ, ◌<◌, List, ◌++◌, length, drop}
+use Rattle.std.specs.Prelude.{ℕ, ◌<◌, List, ◌++◌, length, drop, Ok, Err, Result}
 use Rattle.digits.specs.Paper.Refusals.{refusal_number, refusal_order, First}
-use Rattle.puts.specs.declared.Written.{Written}
-use Rattle.puts.specs.declared.Written.TheVariants.{Bytes, Refused}
+use Rattle.digits.specs.declared.refusal.Refusal.{Refusal}
 
 -- The right outcome of a call that writes bs from the front of a lent room: a refusal number, a count of bytes, and
 -- the room afterwards. If no cause applies: 0, the count of bs, and bs with the rest of the room behind it.
@@ -13,14 +12,18 @@ pub data Wrote (Cause : ℕ → Type 0) (bs room : List ℕ) : ℕ → ℕ → L
   wrote : First Cause refusal_order 0 → Wrote Cause bs room 0 (length bs) (bs ++ drop (length bs) room)
   refused : {no : ℕ} → 0 < no → First Cause refusal_order no → Wrote Cause bs room no 0 room
 
--- what a writer answers, as a refusal number and a count
+-- what a writer answers, under the name that the code gives it
+abbrev pub Written : Type 0
+Written = Result ℕ Refusal
+
+-- the same, as a refusal number and a count
 abbrev pub written_refusal : Written → ℕ
-written_refusal (Bytes n) = 0
-written_refusal (Refused why) = refusal_number why
+written_refusal (Ok n) = 0
+written_refusal (Err why) = refusal_number why
 
 abbrev pub written_count : Written → ℕ
-written_count (Bytes n) = n
-written_count (Refused why) = 0
+written_count (Ok n) = n
+written_count (Err why) = 0
 
 -- r is the right answer, and `later` the right room afterwards, of a call that writes bs from the front of a lent room
 abbrev pub Writes : (ℕ → Type 0) → List ℕ → List ℕ → Written → List ℕ → Type 0

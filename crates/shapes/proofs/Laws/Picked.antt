@@ -1,22 +1,21 @@
 -- One of so many names or sorts, by its number; and those of a row's members.
 -- Assumes nothing.
 use mathlib.Core.Bool.{false, true≢false}
-use mathlib.Core.List.{List, ◌∷◌}
-use mathlib.Core.Path.{◌≡◌, sym, ap, ◌∙◌, subst}
-use Prim.Native.Nat.{ℕ, suc, ◌-◌, ◌≤◌, ◌<◌}
+use mathlib.Core.List.{List}
+use mathlib.Core.Path.{◌≡◌, sym, ap, subst}
+use Prim.Native.Nat.{ℕ, ◌≤◌, ◌<◌}
 use native.Mathlib.Omega.{arith}
 use lib.Dec.{lit<}
-use lib.ListN.{length, get_or}
+use lib.ListN.{length}
 use Rattle.digits.specs.Paper.Refusals.{First, clear, here, after}
 use Rattle.puts.proofs.Laws.Right.{ours, first-5, first-4, no-cause}
 use Rattle.puts.proofs.Laws.Wrote.{after-tests}
-use Rattle.puts.specs.Paper.Wrote.{Wrote, wrote, refused, RoomCause}
+use Rattle.puts.specs.Paper.Wrote.{Wrote, refused, RoomCause}
 use Rattle.shapes.specs.Paper.Members.{names, name_in, sorts, NameCause, no_name, short}
 use Rattle.shapes.specs.Paper.Fields.{Named}
 use Rattle.shapes.specs.Paper.Shapes.{Sort, shape_at}
 use Rattle.shapes.specs.Work.Picked.{SortIn}
 use Rattle.shapes.specs.declared.Sort.{Sort as Coded}
-use Rattle.shapes.specs.declared.Sort.TheVariants.{Nothing}
 
 -- ---- the first cause, of causes that are others by name
 
@@ -25,19 +24,7 @@ mapped back to clear = clear
 mapped back to (here x) = here (to x)
 mapped back to (after {no = k} n f) = after (λ y. n (back k y)) (mapped back to f)
 
--- ---- a number that is not 0
-
-before : {i : ℕ} → (i ≡ 0 → ⊥) → suc (i - 1) ≡ i
-before {i} h = omega (arith, h)
-
 -- ---- sorts
-
-module _ {a t : Coded} {ts : List Coded} {i : ℕ} where
-  pub first_of : i ≡ 0 → t ≡ a → SortIn (a ∷ ts) i t
-  first_of e f = record { is = f ∙ ap (λ (j : ℕ). get_or (a ∷ ts) j Nothing) (sym e) }
-
-  pub later_of : (i ≡ 0 → ⊥) → SortIn ts (i - 1) t → SortIn (a ∷ ts) i t
-  later_of n f = record { is = f.is ∙ ap (λ (j : ℕ). get_or (a ∷ ts) j Nothing) (before n) }
 
 -- those of a row, by its members or by its number
 pub sort-as : {ms ns : List (Named Sort)} {i : ℕ} {t : Coded} → ns ≡ ms → SortIn (sorts ms) i t → SortIn (sorts ns) i t
@@ -60,33 +47,18 @@ module _ {ns : List (List ℕ)} {i n : ℕ} where
 abbrev NamesIn : List (List ℕ) → ℕ → List ℕ → (k n : ℕ) → List ℕ → Type 0
 NamesIn ns i room k n later = Wrote (NameCause ns i (length room)) (name_in ns i) room k n later
 
-module _ {a room later : List ℕ} {ns : List (List ℕ)} {i k n : ℕ} where
-  -- the first name
-  pub first-name : i ≡ 0 → Wrote (RoomCause (length room) (length a)) a room k n later → NamesIn (a ∷ ns) i room k n later
-  first-name e w = subst (λ (j : ℕ). NamesIn (a ∷ ns) j room k n later) (sym e) (after-tests (λ h. no-cause only none (not_short h)) (λ h. first-4 only none (short (omega arith) h)) w)
-    where
-      none : NameCause (a ∷ ns) 0 (length room) 5 → ⊥
-      none (no_name h) = omega arith
+-- the name with a number
+pub name-there : {a room later : List ℕ} {ns : List (List ℕ)} {i k n : ℕ} → i < length ns → name_in ns i ≡ a
+    → Wrote (RoomCause (length room) (length a)) a room k n later → NamesIn ns i room k n later
+name-there {room = room} {later} {ns} {i} {k} {n} h e w =
+    after-tests (λ l. no-cause only none (not_short l)) (λ l. first-4 only none (short h l))
+    (subst (λ (a : List ℕ). Wrote (RoomCause (length room) (length a)) a room k n later) (sym e) w)
+  where
+    none : NameCause ns i (length room) 5 → ⊥
+    none (no_name l) = omega arith
 
-      not_short : length a ≤ length room → NameCause (a ∷ ns) 0 (length room) 4 → ⊥
-      not_short h (short l m) = omega arith
-
-  -- one behind it
-  pub later-name : (i ≡ 0 → ⊥) → NamesIn ns (i - 1) room k n later → NamesIn (a ∷ ns) i room k n later
-  later-name e w = subst (λ (j : ℕ). NamesIn (a ∷ ns) j room k n later) (before e) (by w)
-    where
-      to : (j : ℕ) → NameCause ns (i - 1) (length room) j → NameCause (a ∷ ns) (suc (i - 1)) (length room) j
-      to j (no_name h) = no_name (omega arith)
-      to j (short h l) = short (omega arith) l
-
-      from : (j : ℕ) → NameCause (a ∷ ns) (suc (i - 1)) (length room) j → NameCause ns (i - 1) (length room) j
-      from j (no_name h) = no_name (omega arith)
-      from j (short h l) = short (omega arith) l
-
-      by : {k n : ℕ} {later : List ℕ} → Wrote (NameCause ns (i - 1) (length room)) (name_in ns (i - 1)) room k n later
-          → Wrote (NameCause (a ∷ ns) (suc (i - 1)) (length room)) (name_in ns (i - 1)) room k n later
-      by (wrote f) = wrote (mapped from (to 0) f)
-      by (refused {no = j} p f) = refused p (mapped from (to j) f)
+    not_short : length (name_in ns i) ≤ length room → NameCause ns i (length room) 4 → ⊥
+    not_short l (short q m) = omega arith
 
 -- those of a row, by its members or by its number
 abbrev NamedIn : List (Named Sort) → (i m j n : ℕ) → List ℕ → List ℕ → Type 0

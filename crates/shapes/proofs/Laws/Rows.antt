@@ -4,7 +4,6 @@ use mathlib.Core.Bool.{Bool}
 use mathlib.Core.List.{[], ◌∷◌}
 use mathlib.Core.Path.{◌≡◌, refl, ap, subst}
 use Prim.Native.Nat.{ℕ, zero, suc, ◌+◌, ◌-◌, ◌≤◌, ◌<◌}
-use native.Mathlib.Nat.{le_antisymm}
 use native.Mathlib.Omega.{arith}
 use lib.Dec.{T}
 use lib.ListN.{replicate, get_or-eq_default}
@@ -40,6 +39,3 @@ NoneOf low (suc count) n = NoneOf low count n × (n ≡ low + count → ⊥)
 pub past : (low count : ℕ) {n : ℕ} → low ≤ n → NoneOf low count n → low + count ≤ n
 past low zero h x = omega arith
 past low (suc count) h (x, f) = omega (arith, past low count h x, f)
-
-pub last_of : (low count : ℕ) {n : ℕ} → low ≤ n → n ≤ low + count → NoneOf low count n → n ≡ low + count
-last_of low count h l x = le_antisymm l (past low count h x)

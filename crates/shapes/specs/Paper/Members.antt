@@ -2,8 +2,7 @@
 -- for a caller that says in words which of these it is.
 -- Assumes nothing.
 use Rattle.std.specs.Prelude.{List, [], ◌∷◌, ℕ, ◌≤◌, ◌<◌, length, get_or}
-use Rattle.puts.specs.Paper.Wrote.{Writes}
-use Rattle.puts.specs.declared.Written.{Written}
+use Rattle.puts.specs.Paper.Wrote.{Writes, Written}
 use Rattle.shapes.specs.Paper.Fields.{Named}
 use Rattle.shapes.specs.Paper.Shapes.{Sort, number, bytes, digits, content, string, bool, measured, shape_at}
 use Rattle.shapes.specs.declared.Sort.{Sort as Coded}

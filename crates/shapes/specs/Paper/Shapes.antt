@@ -10,7 +10,7 @@ use Rattle.messages.specs.Paper.Message.{Message, read, set, answer, press, tail
 use Rattle.messages.specs.Paper.Message.{break, end, text, response, ask, reply, put, done, nibe, output, input}
 use Rattle.messages.specs.Paper.Message.{shutter, beat, homiq}
 use Rattle.messages.specs.Paper.Table.{v_in, v_op, v_bat}
-use Rattle.shapes.specs.Paper.Fields.{Named, ◌∶◌, Plain, whole, hex, chars, truth, Field, plain, reading}
+use Rattle.shapes.specs.Paper.Fields.{Named, ◌∶◌, whole, hex, chars, truth, Field, plain, reading}
 
 -- ---- sorts
 

@@ -7,6 +7,7 @@ use native.Mathlib.Omega.{arith}
 use native.Mathlib.Nat.{pow-suc, pow-le-pow_right, zero-lt-suc}
 use lib.ListN.{length, get_or, take}
 use lib.Seq.{take-suc, take_all}
+use Rattle.std.specs.Prelude.{Some, None}
 use Rattle.digits.specs.Paper.Decimal.{decimal}
 use Rattle.digits.proofs.Laws.Decimal.{decimal-small, decimal-more, decimal-inj, length_some, length-decimal, chars-digits, no-leading-zero}
 use Rattle.sheet.specs.Work.Lines.{NumberBelow}
@@ -76,30 +77,30 @@ digits-end {s} {n} {i} d h p = d.made (omega arith) ∙ take_all i s h
 -- ---- what reading answers
 
 module _ (s : List ℕ) {most : ℕ} where
-  pub none-empty : length s ≡ 0 → NumberBelow most s most
+  pub none-empty : length s ≡ 0 → NumberBelow most s None
   none-empty h = work.none (λ m l e. omega (arith, length_some m, ap length e))
 
-  pub none-long : most ≤ 65536 → 5 < length s → NumberBelow most s most
+  pub none-long : most ≤ 65536 → 5 < length s → NumberBelow most s None
   none-long k h = work.none (λ m l e. omega (arith, length-decimal 4 m (omega arith), ap length e))
 
-  pub zero-alone : 0 < most → get_or s 0 0 ≡ 48 → length s ≡ 1 → NumberBelow most s 0
+  pub zero-alone : 0 < most → get_or s 0 0 ≡ 48 → length s ≡ 1 → NumberBelow most s (Some 0)
   zero-alone p e h =
       let l : 0 < length s = omega arith in
       work.is p (decimal-small 0 (omega arith) ∙ ap (λ (c : ℕ). c ∷ []) (sym e) ∙ sym (one-taken s l) ∙ take_all 1 s (omega arith))
 
-  pub leading-zero : get_or s 0 0 ≡ 48 → (length s ≡ 1 → ⊥) → NumberBelow most s most
+  pub leading-zero : get_or s 0 0 ≡ 48 → (length s ≡ 1 → ⊥) → NumberBelow most s None
   leading-zero e h = work.none go
     where
       go : (m : ℕ) → m < most → decimal m ≡ s → ⊥
       go zero l f = h (ap length (sym f) ∙ ap length (decimal-small 0 (omega arith)))
       go (suc m) l f = omega (arith, no-leading-zero (suc m) (omega arith), ap (λ (t : List ℕ). get_or t 0 0) f)
 
-  pub no_digit : {i : ℕ} → i < length s → (48 ≤ get_or s i 0 → get_or s i 0 ≤ 57 → ⊥) → NumberBelow most s most
+  pub no_digit : {i : ℕ} → i < length s → (48 ≤ get_or s i 0 → get_or s i 0 ≤ 57 → ⊥) → NumberBelow most s None
   no_digit {i} h f =
       work.none (λ m l e.
       let x : (48 ≤ get_or s i 0) × (get_or s i 0 ≤ 57) =
       subst (λ (t : List ℕ). (48 ≤ get_or t i 0) × (get_or t i 0 ≤ 57)) e (chars-digits m i (omega (arith, ap length e))) in
       f x.0 x.1)
 
-  pub number-large : {n : ℕ} → decimal n ≡ s → most ≤ n → NumberBelow most s most
+  pub number-large : {n : ℕ} → decimal n ≡ s → most ≤ n → NumberBelow most s None
   number-large {n} e h = work.none (λ m l f. omega (arith, decimal-inj m n (f ∙ sym e)))

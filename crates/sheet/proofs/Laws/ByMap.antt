@@ -18,7 +18,7 @@ use Rattle.sheet.specs.Paper.Map.{registers, map_of, lookup_in}
 use Rattle.sheet.specs.Paper.Answers.{MapCause, IsMap, TypeInCause, TypesIn, typed_refusal, typed_value, zero_type, TypeCause, HasType, Types}
 use Rattle.sheet.specs.Paper.Answers as paper
 use Rattle.sheet.specs.declared.Typed.{Typed}
-use Rattle.sheet.specs.declared.Typed.TheVariants.{Refused as NoType}
+use Rattle.std.specs.Prelude.{Result, Err}
 use Rattle.sheet.proofs.Laws.Maps.{length-map, lookup-is}
 use Rattle.sheet.proofs.Laws.Scans.{one-sheet}
 
@@ -57,7 +57,7 @@ module _ {text : List ℕ} {register : ℕ} where
   only k e (paper.bad-sheet f) = true≢false e
   only k e (paper.unlisted w f) = true≢false e
 
-  pub type-refused : (why : Refusal) → refusal_number why ≡ 10 → ((rows : List Row) → Sheet text rows → ⊥) → Types text register (NoType why)
+  pub type-refused : (why : Refusal) → refusal_number why ≡ 10 → ((rows : List Row) → Sheet text rows → ⊥) → Types text register (Err why)
   unfolding ours
   type-refused why e f =
       refuses (some_number why) (subst (First (TypeCause text register) refusal_order) (sym e) (pass-over ours only refusal_order (here (paper.bad-sheet f))))
@@ -78,6 +78,6 @@ module _ {text : List ℕ} {register : ℕ} where
         go : {k : ℕ} → TypeInCause (find rows) register k → First (TypeCause text register) refusal_order k
         go (paper.unlisted e) = pass-over ours only refusal_order (after good (here (paper.unlisted w e)))
 
-  pub typed-by : {map : List ℕ} → ByMap text map → (r : Typed) → TypesIn (lookup_in map) register r → Types text register r
+  pub typed-by : {map : List ℕ} → ByMap text map → (r : Result Typed Refusal) → TypesIn (lookup_in map) register r → Types text register r
   typed-by m r a =
       by-sheet m.is (subst (λ (l : Lookup). Answers zero_type (TypeInCause l register) (λ t. l register ≡ some t) (typed_refusal r) (typed_value r)) m.look a)

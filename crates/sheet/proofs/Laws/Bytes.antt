@@ -7,11 +7,13 @@ use Prim.Native.Nat.{ℕ, zero, suc, ◌+◌, ◌-◌, ◌*◌, ◌/◌, ◌%◌
 use native.Mathlib.Omega.{arith}
 use lib.Dec.{leb, eqb}
 use borrow.Author.Tests.{le-leb, lt-leb, leb-true, leb-false}
+use Rattle.std.specs.Prelude.{Some, None}
+use Rattle.std.proofs.lemmas.Option.{none-some, same_Some}
 use Rattle.digits.specs.Paper.Bits.{is_set}
 use Rattle.digits.specs.Paper.LowFirst.{Width, one, two, four}
 use Rattle.sheet.specs.Paper.Sheet.{RegisterType}
 use Rattle.sheet.specs.Paper.Map.{type_number, type_byte, most_byte, type_of_byte, in_byte}
-use Rattle.sheet.specs.Work.Maps.{width_in, signed_in, decimals_in, Known}
+use Rattle.sheet.specs.Work.Maps.{width_in, width_said, signed_in, decimals_in, Known}
 
 -- ---- what a byte says
 
@@ -93,6 +95,28 @@ by_byte (suc n) {A} f g = go (leb (suc n) 24) refl
     go : (t : Bool) → leb (suc n) 24 ≡ t → A
     go true e = g (record { some-type = omega arith; most = leb-true (suc n) 24 e })
     go false e = f (in-large (leb-false (suc n) 24 e))
+
+-- ---- the width that a byte says
+
+pub said-none : (b : ℕ) → in_byte b ≡ none → None ≡ width_said (in_byte b)
+said-none b e = sym (ap width_said e)
+
+pub said-at : {b : ℕ} → Known b → (n : ℕ) → (b - 1) / 4 / 2 ≡ n → Some (2 ^ n) ≡ width_said (in_byte b)
+unfolding type_of_byte
+said-at {b} k n e = ap (λ (x : ℕ). Some (2 ^ x)) (sym e) ∙ sym (ap width_said (in-known k))
+
+pub unsaid : (b : ℕ) → width_said (in_byte b) ≡ None → in_byte b ≡ none
+unsaid b e = by_byte b (λ h. h) (λ k. absurd (none-some _ (sym e ∙ ap width_said (in-known k))))
+
+module _ (b : ℕ) {w : ℕ} (e : width_said (in_byte b) ≡ Some w) where
+  pub said-known : Known b
+  said-known = by_byte b (λ h. absurd (none-some w (sym (ap width_said h) ∙ e))) (λ k. k)
+
+  pub said-type : in_byte b ≡ some (type_of_byte b)
+  said-type = in-known said-known
+
+  pub said-width : w ≡ width_in (in_byte b)
+  said-width = same_Some w (width_in (in_byte b)) (sym e ∙ ap width_said said-type ∙ ap (λ (o : Option RegisterType). Some (width_in o)) (sym said-type))
 
 -- a byte whose width is 0 says no type; any other does
 pub none-width : (b : ℕ) → width_in (in_byte b) ≡ 0 → in_byte b ≡ none

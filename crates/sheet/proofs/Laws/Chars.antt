@@ -1,14 +1,15 @@
 -- What stands before the first c and behind it, and how many there are.
 -- Assumes nothing.
 use mathlib.Core.Path.{◌≡◌, refl, sym, ap, ◌∙◌}
-use mathlib.Core.Bool.{Bool, true, false}
+use mathlib.Core.Bool.{Bool, true, false, true≢false}
 use mathlib.Core.List.{List, [], ◌∷◌, ◌++◌}
 use Prim.Native.Nat.{ℕ, suc, ◌+◌, ◌≤◌, ◌<◌}
 use native.Mathlib.Omega.{arith}
-use lib.Dec.{eqb}
+use lib.Dec.{eqb, ltb}
 use lib.ListN.{length, get_or, take, drop}
-use lib.Seq.{drop-cons}
-use borrow.Author.Tests.{eqb-true, eq-eqb, ne_eqb, eqb-false}
+use borrow.Author.Tests.{eqb-true, eq-eqb, ne_eqb, eqb-false, ltb-false}
+use Rattle.std.specs.List.{list_any, position, position_or_len}
+use Rattle.std.specs.Option.{unwrap_or}
 use Rattle.digits.specs.Paper.Decimal.{decimal}
 use Rattle.digits.proofs.Laws.Decimal.{chars-digits}
 use Rattle.sheet.specs.Paper.Fault.{up_to, behind, count}
@@ -112,33 +113,29 @@ module _ (c : ℕ) where
   pub count-decimal : (n : ℕ) → c < 48 → count c (decimal n) ≡ 0
   count-decimal n h = count-large (decimal n) (λ i l. omega (arith, chars-digits n i l))
 
-  -- ---- the loop: what is left says how many stand before
+  -- ---- as a search answers
 
-  pub record Passing (s : List ℕ) (i : ℕ) : Type 0 where
-    pub inside : i ≤ length s
-    pub rest : i + length (up_to c (drop i s)) ≡ length (up_to c s)
+  up-place : (s : List ℕ) → position_or_len (λ x. eqb x c) s ≡ length (up_to c s)
+  up-place [] = rw up-nil.0
+  up-place (x ∷ s) =
+      by_first x (λ e t. rw (up-here x s e).0 (simp t))
+      (λ n t. rw (up-later x s n).0 (simp t (omega (arith, up-place s))))
 
-  module _ {s : List ℕ} {i : ℕ} (p : Passing s i) (h : i < length s) where
-    left : drop i s ≡ get_or s i 0 ∷ drop (suc i) s
-    left = drop-cons s i 0 h
+  pub up-found : (s : List ℕ) → unwrap_or (position (λ x. eqb x c) s) (length s) ≡ length (up_to c s)
+  up-found s = go (ltb (position_or_len (λ x. eqb x c) s) (length s)) refl
+    where
+      go : (b : Bool) → ltb (position_or_len (λ x. eqb x c) s) (length s) ≡ b → unwrap_or (position (λ x. eqb x c) s) (length s) ≡ length (up_to c s)
+      go true e = simp e (up-place s)
+      go false e = simp e (omega (arith, ltb-false _ _ e, up-place s, up_le s))
 
-    pub passing-here : get_or s i 0 ≡ c → i ≡ length (up_to c s)
-    passing-here e = omega (arith, p.rest, ap (λ (t : List ℕ). length (up_to c t)) left, ap length (up-here (get_or s i 0) (drop (suc i) s) e).0)
+  pub any-some : (s : List ℕ) → list_any (λ x. eqb x c) s ≡ true → 0 < count c s
+  any-some [] e = absurd (true≢false (sym e))
+  any-some (x ∷ s) e =
+      by_first x (λ f t. omega (arith, (up-here x s f).2))
+      (λ n t. omega (arith, (up-later x s n).2, any-some s (simp t at e)))
 
-    pub passing-next : (get_or s i 0 ≡ c → ⊥) → Passing s (i + 1)
-    passing-next n =
-        let e : i + 1 ≡ suc i = omega arith in
-        record {
-          inside = omega arith;
-          rest =
-              omega (
-                arith,
-                p.rest,
-                ap (λ (t : List ℕ). length (up_to c t)) left,
-                ap length (up-later (get_or s i 0) (drop (suc i) s) n).0,
-                ap (λ (j : ℕ). length (up_to c (drop j s))) e,
-              );
-        }
-
-  pub passing-end : {s : List ℕ} {i : ℕ} → Passing s i → length s ≤ i → i ≡ length (up_to c s)
-  passing-end {s} {i} p h = omega (arith, p.rest, p.inside, up_le s)
+  pub any-none : (s : List ℕ) → list_any (λ x. eqb x c) s ≡ false → count c s ≡ 0
+  any-none [] e = up-nil.2
+  any-none (x ∷ s) e =
+      by_first x (λ f t. absurd (true≢false (simp t at e)))
+      (λ n t. (up-later x s n).2 ∙ any-none s (simp t at e))

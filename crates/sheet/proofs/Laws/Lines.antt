@@ -1,11 +1,13 @@
 -- The first line of a text: the first test that it fails, or its row.
 -- Assumes nothing.
-use mathlib.Core.Path.{◌≡◌, refl, sym, ap, ap₂, ◌∙◌, subst, subst₃}
+use mathlib.Core.Path.{◌≡◌, refl, sym, ap, ap₂, ◌∙◌}
 use mathlib.Core.Bool.{Bool, true, false}
 use mathlib.Core.List.{List, [], ◌∷◌, ◌++◌}
 use Prim.Native.Nat.{ℕ, suc, ◌+◌, ◌*◌, ◌≤◌, ◌<◌}
 use native.Mathlib.Omega.{arith}
 use lib.ListN.{length, drop}
+use Rattle.std.specs.Prelude.{Option, Some, None}
+use Rattle.std.proofs.lemmas.Option.{none-some}
 use Rattle.digits.specs.Paper.Decimal.{decimal, decimal_in, enough}
 use Rattle.digits.specs.Paper.LowFirst.{Width, one, two, four, SixteenBits}
 use Rattle.digits.specs.Paper.Refusals.{First, clear, here, after}
@@ -14,22 +16,19 @@ use Rattle.sheet.specs.Paper.Sheet.{Row, type_name, comma, LF, fields, InLimits,
 use Rattle.sheet.specs.Paper.Map.{type_number, type_byte}
 use Rattle.sheet.specs.Paper.Fault.{behind, count, line, first_field, second_field, third_field, Fails, tests}
 use Rattle.sheet.specs.Paper.Fault as paper
-use Rattle.sheet.specs.Work.Lines.{NumberBelow, TypeNumbered, FieldsAre, no_register, no-type, no-decimals, are, LineIs, no-form, has-form, FirstLine, Failed, Passes, ReadsLine}
+use Rattle.sheet.specs.Work.Lines.{NumberBelow, TypeNumbered, FieldsSay, no_register, no-type, no-decimals, LineSays, LineFails, no-form, has-form, Passes}
 use Rattle.sheet.specs.Work.Lines as work
 use Rattle.sheet.proofs.Laws.Chars.{up-drop, up-all, up_split, up-some}
 use Rattle.sheet.proofs.Laws.Rows.{fields-are}
 
 -- ---- fields
 
-pub positive : {n : ℕ} → (n ≡ 0 → ⊥) → 0 < n
-positive {n} f = omega arith
+pub number-some : {most n : ℕ} {s : List ℕ} {o : Option ℕ} → NumberBelow most s o → o ≡ Some n → (n < most) × (decimal n ≡ s)
+number-some {most} {n} {s} (work.is {n = m} h e) f = let g : m ≡ n = cc in (omega arith, ap decimal (sym g) ∙ e)
+number-some (work.none g) f = absurd (none-some _ f)
 
-pub number-some : {most n : ℕ} {s : List ℕ} → NumberBelow most s n → (n ≡ most → ⊥) → (n < most) × (decimal n ≡ s)
-number-some (work.is h e) f = (h, e)
-number-some (work.none g) f = absurd (f refl)
-
-pub number-none : {most n : ℕ} {s : List ℕ} → NumberBelow most s n → n ≡ most → (m : ℕ) → m < most → decimal m ≡ s → ⊥
-number-none (work.is h e) f = absurd (omega arith)
+pub number-none : {most : ℕ} {s : List ℕ} {o : Option ℕ} → NumberBelow most s o → o ≡ None → (m : ℕ) → m < most → decimal m ≡ s → ⊥
+number-none (work.is h e) f = absurd (none-some _ (sym f))
 number-none (work.none g) f = g
 
 pub type-small : {w : ℕ} (signed : Bool) → Width w → type_number w signed ≤ 5
@@ -47,26 +46,32 @@ pub record Named (name : List ℕ) (number : ℕ) : Type 0 where
   pub known : Width width
   pub spelt : type_name width signed ≡ name
   pub is : number ≡ type_number width signed
+  pub few : number ≤ 5
 
-pub type-some : {name : List ℕ} {n : ℕ} → TypeNumbered name n → (n ≡ 6 → ⊥) → Named name n
-type-some (work.is {w} signed k e) f = record { width = w; signed = signed; known = k; spelt = e; is = refl }
-type-some (work.none g) f = absurd (f refl)
+pub type-some : {name : List ℕ} {n : ℕ} {o : Option ℕ} → TypeNumbered name o → o ≡ Some n → Named name n
+type-some {n = n} (work.is {w} signed k e) f =
+    let g : n ≡ type_number w signed = cc in
+    record { width = w; signed = signed; known = k; spelt = e; is = g; few = omega (arith, type-small signed k) }
+type-some (work.none g) f = absurd (none-some _ f)
 
-pub type-none : {name : List ℕ} {n : ℕ} → TypeNumbered name n → n ≡ 6 → (w : ℕ) (signed : Bool) → Width w → type_name w signed ≡ name → ⊥
-type-none (work.is {w} signed k e) f = absurd (omega (arith, type-small signed k))
+pub type-none : {name : List ℕ} {o : Option ℕ} → TypeNumbered name o → o ≡ None → (w : ℕ) (signed : Bool) → Width w → type_name w signed ≡ name → ⊥
+type-none (work.is {w} signed k e) f = absurd (none-some _ (sym f))
 type-none (work.none g) f = g
-
-pub type-at-most : {name : List ℕ} {n : ℕ} → TypeNumbered name n → n ≤ 6
-type-at-most (work.is {w} signed k e) = omega (arith, type-small signed k)
-type-at-most (work.none g) = omega arith
 
 -- three fields that are right
 pub fields-right : {a b c : List ℕ} {n t d byte : ℕ} → n < 65536 → decimal n ≡ a → Named b t → d < 4 → decimal d ≡ c
-    → byte ≡ 1 + 4 * t + d → FieldsAre a b c 0 n byte
+    → byte ≡ 1 + 4 * t + d → FieldsSay a b c n byte
 unfolding type_byte
 fields-right {n = n} {t = t} {d = d} h a k l c e =
-    are {r = record { register = n; is = record { width = k.width; signed = k.signed; decimals = d } }}
-    (record { register = h; width = k.known; decimals = omega arith }) a k.spelt c (e ∙ ap (λ (x : ℕ). 1 + 4 * x + d) k.is)
+    record {
+      row = record { register = n; is = record { width = k.width; signed = k.signed; decimals = d } };
+      limits = record { register = h; width = k.known; decimals = omega arith };
+      first = a;
+      second = k.spelt;
+      third = c;
+      register-is = refl;
+      byte-is = e ∙ ap (λ (x : ℕ). 1 + 4 * x + d) k.is;
+    }
 
 -- ---- a line
 
@@ -91,22 +96,19 @@ pub record RowIs (l : List ℕ) (register byte : ℕ) : Type 0 where
   pub register-is : register ≡ row.register
   pub byte-is : byte ≡ type_byte row.is
 
-pub row_of : {l : List ℕ} {t register byte : ℕ} → LineIs l t register byte → t ≡ 0 → RowIs l register byte
-row_of (no-form f) z = absurd (omega arith)
-row_of (has-form e (no_register f)) z = absurd (omega arith)
-row_of (has-form e (no-type h a f)) z = absurd (omega arith)
-row_of (has-form e (no-decimals h a signed w b f)) z = absurd (omega arith)
-row_of {l} (has-form e (are {r} {byte} lim a b c y)) z =
+pub row_of : {l : List ℕ} {register byte size : ℕ} → LineSays l register byte size → RowIs l register byte
+row_of {l} x =
+    let f = x.fields in
     record {
-      row = r;
-      limits = lim;
-      written = fields-are r ∙ ap₂ (λ (x y : List ℕ). x ++ comma ∷ y) a (ap₂ (λ (x y : List ℕ). x ++ comma ∷ y) b c) ∙ sym (of_fields l e);
-      form = e;
-      first = a;
-      second = b;
-      third = c;
-      register-is = refl;
-      byte-is = y;
+      row = f.row;
+      limits = f.limits;
+      written = fields-are f.row ∙ ap₂ (λ (x y : List ℕ). x ++ comma ∷ y) f.first (ap₂ (λ (x y : List ℕ). x ++ comma ∷ y) f.second f.third) ∙ sym (of_fields l x.form);
+      form = x.form;
+      first = f.first;
+      second = f.second;
+      third = f.third;
+      register-is = f.register-is;
+      byte-is = f.byte-is;
     }
 
 -- ---- the tests, in their order
@@ -133,13 +135,12 @@ module _ {least number : ℕ} {s : List ℕ} where
   no-7 : 0 < count LF s → Fails least number s 7 → ⊥
   no-7 h (paper.no-last-LF f) = f h
 
-  pub failing : {t register byte : ℕ} → LineIs (line s) t register byte → 0 < t → First (Fails least number s) tests t
-  failing (no-form f) p = here (paper.form f)
-  failing (has-form e (no_register f)) p = after (no-1 e) (here (paper.register f))
-  failing (has-form e (no-type h a f)) p = after (no-1 e) (after (no-2 h a) (here (paper.type f)))
-  failing (has-form e (no-decimals h a signed w b f)) p =
+  pub failing : {t : ℕ} → LineFails (line s) t → First (Fails least number s) tests t
+  failing (no-form f) = here (paper.form f)
+  failing (has-form e (no_register f)) = after (no-1 e) (here (paper.register f))
+  failing (has-form e (no-type h a f)) = after (no-1 e) (after (no-2 h a) (here (paper.type f)))
+  failing (has-form e (no-decimals h a signed w b f)) =
       after (no-1 e) (after (no-2 h a) (after (no-3 signed w b) (here (paper.decimals (λ d k. f d (omega arith))))))
-  failing (has-form e (are lim a b c y)) p = absurd (omega arith)
 
   module _ {register byte : ℕ} (r : RowIs (line s) register byte) where
     four-passed : {t : ℕ} → First (Fails least number s) (5 ∷ 6 ∷ 7 ∷ []) t → First (Fails least number s) tests t
@@ -177,50 +178,30 @@ module _ {least number : ℕ} {s : List ℕ} where
           },
         )
 
--- a line that has failed
-pub reads-failed : {least number t : ℕ} {s : List ℕ} {test register byte size : ℕ} → test ≡ t → 0 < t → First (Fails least number s) tests t
-    → ReadsLine least number s test register byte size
-reads-failed {least} {number} {t} {s} e p f =
-    record { first = subst (First (Fails least number s) tests) (sym e) f; passes = λ z. absurd (omega arith) }
-
--- ---- what the functions on fields come to
-
-pub fields-failed : {a b c : List ℕ} {why test register byte : ℕ} → Failed why test register byte → FieldsAre a b c why 0 0
-    → FieldsAre a b c test register byte
-fields-failed {a} {b} {c} {why} {test} {register} {byte} f x =
-    subst₃ (FieldsAre a b c) (sym f.test-is) (sym f.no_register) (sym f.no_byte) x
-
-line-failed : {l : List ℕ} {why test register byte : ℕ} → Failed why test register byte → LineIs l why 0 0 → LineIs l test register byte
-line-failed {l} f x = subst₃ (LineIs l) (sym f.test-is) (sym f.no_register) (sym f.no_byte) x
-
-pub form-failed : {s : List ℕ} {test register byte size : ℕ} → Failed 1 test register byte → (count comma (line s) ≡ 2 → ⊥)
-    → FirstLine s test register byte size
-form-failed f g = record { is = line-failed f (no-form g); size_is = λ z. absurd (omega (arith, f.test-is)) }
-
 -- ---- the six names
 
 module _ {name : List ℕ} where
-  pub is-u8 : name ≡ 117 ∷ 56 ∷ [] → TypeNumbered name 0
+  pub is-u8 : name ≡ 117 ∷ 56 ∷ [] → TypeNumbered name (Some 0)
   unfolding type_name type_number decimal decimal_in enough
   is-u8 e = work.is false one (sym e)
 
-  pub is-s8 : name ≡ 115 ∷ 56 ∷ [] → TypeNumbered name 1
+  pub is-s8 : name ≡ 115 ∷ 56 ∷ [] → TypeNumbered name (Some 1)
   unfolding type_name type_number decimal decimal_in enough
   is-s8 e = work.is true one (sym e)
 
-  pub is-u16 : name ≡ 117 ∷ 49 ∷ 54 ∷ [] → TypeNumbered name 2
+  pub is-u16 : name ≡ 117 ∷ 49 ∷ 54 ∷ [] → TypeNumbered name (Some 2)
   unfolding type_name type_number decimal decimal_in enough
   is-u16 e = work.is false two (sym e)
 
-  pub is-s16 : name ≡ 115 ∷ 49 ∷ 54 ∷ [] → TypeNumbered name 3
+  pub is-s16 : name ≡ 115 ∷ 49 ∷ 54 ∷ [] → TypeNumbered name (Some 3)
   unfolding type_name type_number decimal decimal_in enough
   is-s16 e = work.is true two (sym e)
 
-  pub is-u32 : name ≡ 117 ∷ 51 ∷ 50 ∷ [] → TypeNumbered name 4
+  pub is-u32 : name ≡ 117 ∷ 51 ∷ 50 ∷ [] → TypeNumbered name (Some 4)
   unfolding type_name type_number decimal decimal_in enough
   is-u32 e = work.is false four (sym e)
 
-  pub is-s32 : name ≡ 115 ∷ 51 ∷ 50 ∷ [] → TypeNumbered name 5
+  pub is-s32 : name ≡ 115 ∷ 51 ∷ 50 ∷ [] → TypeNumbered name (Some 5)
   unfolding type_name type_number decimal decimal_in enough
   is-s32 e = work.is true four (sym e)
 
@@ -235,5 +216,5 @@ module _ {name : List ℕ} where
     other w false four e = u32 (sym e)
     other w true four e = s32 (sym e)
 
-    pub is_none : TypeNumbered name 6
+    pub is_none : TypeNumbered name None
     is_none = work.none other

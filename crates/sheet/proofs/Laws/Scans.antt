@@ -2,18 +2,20 @@
 -- Assumes nothing.
 use mathlib.Core.Path.{◌≡◌, refl, sym, ap, ap₂, ◌∙◌, subst}
 use mathlib.Core.List.{List, [], ◌∷◌, ◌++◌}
-use Prim.Native.Nat.{ℕ, zero, suc, ◌+◌, ◌≤◌, ◌<◌}
+use Prim.Native.Nat.{ℕ, suc, ◌+◌, ◌≤◌, ◌<◌}
 use native.Mathlib.Omega.{arith}
-use lib.ListN.{length, drop, length-drop, length-append}
-use lib.Seq.{drop-drop, drop-length}
+use lib.ListN.{length, drop, length-append}
 use Rattle.digits.specs.Paper.Decimal.{decimal}
-use Rattle.digits.specs.Paper.Refusals.{First, clear, here, after}
+use Rattle.digits.specs.Paper.Refusals.{First}
 use Rattle.digits.proofs.Laws.Decimal.{decimal-inj}
 use Rattle.digits.proofs.Laws.Refusals.{cause-at}
 use Rattle.sheet.specs.Paper.Sheet.{Row, comma, LF, fields, sheet, InLimits, Rising, done, next, most_rows, Sheet}
 use Rattle.sheet.specs.Paper.Fault.{behind, count, line, first_field, Fails, tests, FirstFault, no_line, here as fault-here, later}
 use Rattle.sheet.specs.Paper.Fault as paper
-use Rattle.sheet.specs.Work.Lines.{Passes, ReadsLine, RowsFrom, Scanning, Scans}
+use Rattle.sheet.specs.Paper.Answers.{test_number}
+use Rattle.sheet.specs.declared.faults.Test.{Test}
+use Rattle.sheet.specs.declared.faults.Test.TheVariants.{Form, Register, TypeName, Decimals, NotRising, Over500, NoLastLF}
+use Rattle.sheet.specs.Work.Lines.{Passes, RowsFrom, Scanning, HasLines, HasFault}
 use Rattle.sheet.proofs.Laws.Chars.{count-append, count-one}
 use Rattle.sheet.proofs.Laws.Carried as carried
 use Rattle.sheet.proofs.Laws.Rows.{fields-inj, line_of, first_of, second-of, third_of, two-commas}
@@ -120,10 +122,9 @@ module _ {least number : ℕ} {s : List ℕ} {register byte size : ℕ} (p : Pas
 
 -- ---- the loop
 
-pub scan-start : (text : List ℕ) → Scanning text 0 0 1
+pub scan-start : (text : List ℕ) → Scanning text text 0 1
 scan-start text =
     record {
-      inside = omega arith;
       some = omega arith;
       few = omega arith;
       low = omega arith;
@@ -131,61 +132,50 @@ scan-start text =
       rows = carried.start;
     }
 
-module _ {text : List ℕ} {at least number : ℕ} (g : Scanning text at least number) (h : at < length text) where
-  some_left : 0 < length (drop at text)
-  some_left = omega (arith, length-drop at text)
+module _ {text left : List ℕ} {least number : ℕ} (g : Scanning text left least number) (h : 0 < length left) where
+  pub scan-fails : {test : ℕ} → First (Fails least number left) tests test → 0 < test → HasFault text number test
+  scan-fails {test} f p =
+      record {
+        fault = g.fault number test (fault-here h p f);
+        no-sheet = λ rows w. let r = g.rows.back rows w in no_rows h f p r.0 r.1;
+      }
 
-  module _ {test register byte size : ℕ} (l : ReadsLine least number (drop at text) test register byte size) where
-    pub scan-fails : (test ≡ 0 → ⊥) → Scans text number test 0
-    scan-fails n =
-        let p : 0 < test = positive test n in
-        record {
-          fault = g.fault number test (fault-here some_left p l.first);
-          sheet-of = λ z. absurd (n z);
-          no-sheet = λ z rows w. let r = g.rows.back rows w in no_rows some_left l.first p r.0 r.1;
-        }
-      where
-        positive : (n : ℕ) → (n ≡ 0 → ⊥) → 0 < n
-        positive zero f = absurd (f refl)
-        positive (suc n) f = omega arith
+  pub scan-next : {register byte size : ℕ} → First (Fails least number left) tests 0 → Passes least number left register byte size
+      → Scanning text (drop size left) (register + 1) (number + 1)
+  scan-next {register} {byte} {size} c p =
+      let f : register + 1 ≡ suc register = omega arith in
+      let k : number + 1 ≡ suc number = omega arith in
+      record {
+        some = omega arith;
+        few = omega (arith, p.few);
+        low = omega (arith, p.register-is, p.limits.register);
+        fault = λ line t x.
+            g.fault line t
+            (later {n = register} h c (first_field_lem p)
+            (subst (λ (y : List ℕ). FirstFault (suc register) (suc number) y line t) (sym (behind-is p))
+            (subst (λ (y : ℕ). FirstFault y (suc number) (drop size left) line t) f
+            (subst (λ (y : ℕ). FirstFault (register + 1) y (drop size left) line t) k x))));
+        rows = carried.step p.row (put_on p) (λ xs w. let o = take-off p h xs w in (o.0, o.1)) g.rows;
+      }
 
-    pub passes-test : test ≡ 0 → Passes least number (drop at text) register byte size
-    passes-test z = l.passes z
+pub scan-end : {text : List ℕ} (left : List ℕ) {least number n : ℕ} → Scanning text left least number → length left ≡ 0 → 1 + n ≡ number → HasLines text n
+scan-end [] g h m =
+    let w = g.rows.forth [] (rows-nil g.few) in
+    record { fault = g.fault 0 0 no_line; rows = w.0; are = w.1; count = omega (arith, w.2) }
+scan-end (x ∷ left) g h m = absurd (omega arith)
 
-    pub scan-next : test ≡ 0 → Scanning text (at + size) (register + 1) (number + 1)
-    scan-next z =
-        let p = l.passes z in
-        let d : drop size (drop at text) ≡ drop (at + size) text = drop-drop size at text in
-        let f : register + 1 ≡ suc register = omega arith in
-        let k : number + 1 ≡ suc number = omega arith in
-        record {
-          inside = omega (arith, size-most p, length-drop at text);
-          some = omega arith;
-          few = omega (arith, p.few);
-          low = omega (arith, p.register-is, p.limits.register);
-          fault = λ line t x.
-              g.fault line t
-              (later {n = register} some_left (subst (First (Fails least number (drop at text)) tests) z l.first) (first_field_lem p)
-              (subst (λ (y : List ℕ). FirstFault (suc register) (suc number) y line t) (sym d ∙ sym (behind-is p))
-              (subst (λ (y : ℕ). FirstFault y (suc number) (drop (at + size) text) line t) f
-              (subst (λ (y : ℕ). FirstFault (register + 1) y (drop (at + size) text) line t) k x))));
-          rows =
-              carried.step p.row
-              (λ xs w. put_on p xs (subst (λ (y : List ℕ). RowsFrom (register + 1) (number + 1) y xs) (sym d) w))
-              (λ xs w. let o = take-off p some_left xs w in (o.0, subst (λ (y : List ℕ). RowsFrom (register + 1) (number + 1) y o.0) d o.1))
-              g.rows;
-        }
+-- a line that passes has some bytes, and its size is within the text
+pub line-inside : {least number : ℕ} {s : List ℕ} {register byte size : ℕ} → Passes least number s register byte size → (size ≤ length s) × (0 < size)
+line-inside p = (size-most p, omega (arith, p.size_is))
 
-pub scan-end : {text : List ℕ} {at least number n : ℕ} → Scanning text at least number → length text ≤ at → 1 + n ≡ number → Scans text 0 0 n
-scan-end {text} {at} {least} {number} {n} g h m =
-    let e : at ≡ length text = omega (arith, g.inside) in
-    let d : drop at text ≡ [] = ap (λ (k : ℕ). drop k text) e ∙ drop-length text in
-    let w = g.rows.forth [] (subst (λ (y : List ℕ). RowsFrom least number y []) (sym d) (rows-nil g.few)) in
-    record {
-      fault = g.fault 0 0 (subst (λ (y : List ℕ). FirstFault least number y 0 0) (sym d) no_line);
-      sheet-of = λ z. (w.0, w.1, omega (arith, w.2));
-      no-sheet = λ f. absurd (f refl);
-    }
+pub some-test : (t : Test) → 0 < test_number t
+some-test Form = omega arith
+some-test Register = omega arith
+some-test TypeName = omega arith
+some-test Decimals = omega arith
+some-test NotRising = omega arith
+some-test Over500 = omega arith
+some-test NoLastLF = omega arith
 
 -- ---- the whole text
 
@@ -194,23 +184,6 @@ is-sheet w = record { written = w.written; rising = w.rising; few = omega (arith
 
 pub of-sheet : {text : List ℕ} {rows : List Row} → Sheet text rows → RowsFrom 0 1 text rows
 of-sheet w = record { written = w.written; rising = w.rising; few = omega (arith, w.few) }
-
--- ---- a test's number
-
-first_small : {Cause : ℕ → Type 0} {t : ℕ} → First Cause tests t → t ≤ 7
-first_small (here c) = omega arith
-first_small (after a (here c)) = omega arith
-first_small (after a (after b (here c))) = omega arith
-first_small (after a (after b (after d (here c)))) = omega arith
-first_small (after a (after b (after d (after e (here c))))) = omega arith
-first_small (after a (after b (after d (after e (after f (here c)))))) = omega arith
-first_small (after a (after b (after d (after e (after f (after g (here c))))))) = omega arith
-first_small (after a (after b (after d (after e (after f (after g (after h clear))))))) = omega arith
-
-pub fault-small : {least number l t : ℕ} {s : List ℕ} → FirstFault least number s l t → t ≤ 7
-fault-small no_line = omega arith
-fault-small (fault-here p h f) = first_small f
-fault-small (later p f e x) = fault-small x
 
 -- ---- NO TWO LISTS OF ROWS WRITE THE SAME TEXT
 

@@ -1,6 +1,7 @@
 -- What the functions on maps say of their parts.
 -- Assumes nothing.
-use Rattle.std.specs.Prelude.{◌≡◌, Bool, false, List, [], ◌∷◌, ℕ, ◌≤◌, length, drop, set, replicate}
+use Rattle.std.specs.Prelude.{◌≡◌, Bool, false, List, [], ◌∷◌, ℕ, ◌≤◌, length, set, replicate}
+use Rattle.std.specs.Prelude.{Option as Answer, Some, None}
 use Rattle.std.proofs.Math.Option.{Option, none, some}
 use Rattle.sheet.specs.Paper.Sheet.{RegisterType, Row}
 use Rattle.sheet.specs.Paper.Map.{most_byte, type_byte}
@@ -10,6 +11,10 @@ use Rattle.sheet.specs.Work.Lines.{RowsFrom}
 abbrev pub width_in : Option RegisterType → ℕ
 width_in none = 0
 width_in (some t) = t.width
+
+abbrev pub width_said : Option RegisterType → Answer ℕ
+width_said none = None
+width_said (some t) = Some t.width
 
 abbrev pub signed_in : Option RegisterType → Bool
 signed_in none = false
@@ -38,12 +43,11 @@ pub record Filled (text map later : List ℕ) : Type 0 where
   pub are : RowsFrom 0 1 text rows
   pub stored : later ≡ stores map rows
 
--- the rows before the place `at` are stored
-pub record Filling (text map₀ map : List ℕ) (at least number : ℕ) : Type 0 where
+-- the rows before those left are stored
+pub record Filling (text left map₀ map : List ℕ) (least number : ℕ) : Type 0 where
   pub whole : List Row
   pub rest : List Row
-  pub inside : at ≤ length text
   pub are : RowsFrom 0 1 text whole
-  pub left : RowsFrom least number (drop at text) rest
+  pub left_are : RowsFrom least number left rest
   pub same : length map ≡ length map₀
   pub stored : stores map rest ≡ stores map₀ whole

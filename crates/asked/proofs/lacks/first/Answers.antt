@@ -14,13 +14,17 @@ pub returns-then-not-is_object : goal.returns-then-not-is_object
 returns-then-not-is_object c = next (told c.accepts.ensures c.if-not-accepts.false) (without (untold c.is_object.ensures c.if-not-is_object.true) refl)
 
 pub returns-then-not-has_kind : goal.returns-then-not-has_kind
-returns-then-not-has_kind c = next (told c.accepts.ensures c.if-not-accepts.false) (next (told c.is_object.ensures c.if-not-is_object.false) (without (untold c.has_kind.ensures c.if-not-has_kind.true) (record { there = _; stands = stands c.value_of.result c.value_of.ensures c.stands.ensures; is = refl })))
+returns-then-not-has_kind c = next (told c.accepts.ensures c.if-not-accepts.false) (next (told c.is_object.ensures c.if-not-is_object.false) (without (untold c.has_kind.ensures c.if-not-has_kind.true) (record { there = _; stands = stands c.value_of.result c.value_of.ensures c.is_ok.ensures.value; is = refl })))
 
-pub returns-then-row-eq0 : goal.returns-then-row-eq0
-returns-then-row-eq0 c = next (told c.accepts.ensures c.if-not-accepts.false) (next (told c.is_object.ensures c.if-not-is_object.false) (next (told c.has_kind.ensures c.if-not-has_kind.false) (without (no-head c.row-row.ensures c.if-row-eq0.true) (record { there = _; stands = stands c.value_of-then-row-eq0.result c.value_of-then-row-eq0.ensures c.stands-then-row-eq0.ensures; is = refl }))))
+pub returns-in_default : goal.returns-in_default
+returns-in_default c =
+    next (told c.accepts.ensures c.if-not-accepts.false) (next (told c.is_object.ensures c.if-not-is_object.false) (next (told c.has_kind.ensures c.if-not-has_kind.false)
+    (without (no-head c.in_default.ensures) (record { there = _; stands = stands c.value_of-in_default.result c.value_of-in_default.ensures c.is_ok-in_default.ensures.value; is = refl }))))
 
 pub of_row-requires : goal.of_row-requires
-of_row-requires c = head_in c.row-row.ensures c.if-row-eq0.false
+of_row-requires c =
+    head_in c.in-Some.ensures
 
 pub returns : goal.returns
-returns c = let h = head_in c.row-row.ensures c.if-row-eq0.false in next (told c.accepts.ensures c.if-not-accepts.false) (next (told c.is_object.ensures c.if-not-is_object.false) (next (told c.has_kind.ensures c.if-not-has_kind.false) (next (_, h) (record { row = _; head = h; lack = c.of_row.ensures }))))
+returns c =
+    let h = head_in c.in-Some.ensures in next (told c.accepts.ensures c.if-not-accepts.false) (next (told c.is_object.ensures c.if-not-is_object.false) (next (told c.has_kind.ensures c.if-not-has_kind.false) (next (_, h) (record { row = _; head = h; lack = c.of_row.ensures }))))

@@ -2,15 +2,23 @@
 -- Assumes nothing.
 use mathlib.Core.Path.{refl}
 use native.Mathlib.Omega.{arith}
+use Rattle.std.proofs.lemmas.Result.{err_from_is_err_and}
 use Rattle.messages.specs.Paper.Message.{put}
 use Rattle.asked.specs.Paper.Answers.{beside}
 use Rattle.shapes.specs.Paper.Shapes.{fields_of}
-use Rattle.asked.proofs.Laws.Drafts.{drafts, members_of}
+use Rattle.asked.proofs.Laws.Drafts.{drafted, no-draft, members_of}
 use Rattle.asked.proofs.Laws.Slots.{slots_at, slotted}
 use Rattle.asked.proofs.Laws.Shaped.{said_row}
 use Rattle.asked.proofs.nibe.put.Goals as goal
 
+pub returns-in_err-v : goal.returns-in_err-v
+unfolding slots_at slotted members_of fields_of beside
+returns-in_err-v c =
+    let p = err_from_is_err_and c.from_residual.result c.from_residual.ensures.1 in
+    rw (p.1, p.2) (no-draft 16 refl (λ e. absurd (omega arith)) _ (c.valued.ensures) c.in_err-v.was)
+
 pub returns : goal.returns
 unfolding slots_at slotted members_of fields_of beside
 returns c =
-    drafts 16 refl (λ e. absurd (omega arith)) refl c.valued-read.ensures (λ e. said_row (put _ _ _) refl refl (omega arith) refl refl)
+    drafted 16 refl (λ e. absurd (omega arith)) _ (c.valued.ensures) c.in_ok-v.was
+    (said_row (put _ _ _) refl refl (omega arith) refl refl)

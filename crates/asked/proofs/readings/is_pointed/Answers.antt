@@ -7,9 +7,9 @@ use Rattle.jsontext.proofs.Theorems.{string-length}
 use Rattle.asked.proofs.Laws.Agree.{string-read, string-unread, same-string}
 use Rattle.asked.proofs.readings.is_pointed.Goals as goal
 
-pub returns-then-read-ne-READ : goal.returns-then-read-ne-READ
-returns-then-read-ne-READ c = string-unread c.chars-read.ensures.reads c.if-read-ne-READ.true (λ y. omega (arith, string-length _ _ y, y.short))
+pub returns-in_default : goal.returns-in_default
+returns-in_default c = string-unread c.in_default.ensures.reads (λ y. omega (arith, string-length _ _ y, y.short))
 
 pub returns : goal.returns
 returns c =
-    same-string (string-read c.chars-read.ensures.reads c.if-read-ne-READ.false) (part-front c.chars-read.result.len c.chars-read.new.room) refl c.is_pointed_so.ensures
+    same-string (string-read c.in-Ok.ensures.reads) (part-front c.in-Ok.len c.chars.new.room) refl c.is_pointed_so.ensures

@@ -7,8 +7,10 @@ use Rattle.asked.specs.Work.Rows.{row_named}
 use Rattle.asked.proofs.Laws.Named.{unknown-row}
 use Rattle.asked.proofs.rows.named.Goals as goal
 
-pub returns-in-Is : goal.returns-in-Is
-returns-in-Is c = c.of_kind.ensures ∙ ap (λ (k : ℕ). row_named k c.args.name.now) (resolved-known c.of.ensures c.in-Is.is)
+pub returns-in_err-of : goal.returns-in_err-of
+returns-in_err-of c =
+    rw c.from_residual.ensures (unknown-row _ _ (resolved-unknown c.of.ensures c.in_err-of.was))
 
-pub returns-in-Unknown : goal.returns-in-Unknown
-returns-in-Unknown c = unknown-row _ _ (resolved-unknown c.of.ensures c.in-Unknown.is)
+pub returns : goal.returns
+returns c =
+    c.of_kind.ensures ∙ ap (λ (k : ℕ). row_named k c.args.name.now) (resolved-known c.of.ensures c.in_ok-of.was)

@@ -3,8 +3,10 @@
 use Rattle.asked.proofs.Laws.Strings.{chars-put, chars-unput}
 use Rattle.asked.proofs.strings.chars.Goals as goal
 
-pub returns-in-Bytes : goal.returns-in-Bytes
-returns-in-Bytes c = record { reads = (chars-put c.characters.ensures c.in-Bytes.is).0; len_in_bounds = (chars-put c.characters.ensures c.in-Bytes.is).1 }
+pub returns-in-Ok : goal.returns-in-Ok
+returns-in-Ok c =
+    let x = chars-put c.in-Ok.ensures in record { reads = x.0; len_in_bounds = x.1 }
 
-pub returns-in-Refused : goal.returns-in-Refused
-returns-in-Refused c = record { reads = (chars-unput c.characters.ensures c.in-Refused.is c.unwritten.ensures c.none.ensures).0; len_in_bounds = (chars-unput c.characters.ensures c.in-Refused.is c.unwritten.ensures c.none.ensures).1 }
+pub returns-in-Err : goal.returns-in-Err
+returns-in-Err c =
+    let x = chars-unput _ c.in-Err.ensures c.unwritten.ensures in record { reads = x.0; len_in_bounds = x.1 }

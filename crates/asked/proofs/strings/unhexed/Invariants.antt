@@ -1,6 +1,6 @@
 -- `strings::unhexed` meets its contract. The loop's invariant: the bytes of the digits passed are in the room, as far as it goes.
 -- Assumes nothing.
-use Prim.Native.Nat.{◌-◌, ◌≤◌}
+use Prim.Native.Nat.{◌≤◌}
 use mathlib.Core.Path.{◌≡◌}
 use lib.ListN.{length}
 use Rattle.asked.proofs.Laws.Strings.{Unhexing}
@@ -8,6 +8,3 @@ use Rattle.asked.proofs.strings.unhexed.Given as goal
 
 abbrev pub invariant-loop-i : goal.invariant-loop-i
 invariant-loop-i l = (l.i ≤ l.n) × (length l.room ≡ length l.initial.room) × Unhexing l.digits l.initial.room l.room l.i
-
-abbrev pub decreases-loop-i : goal.decreases-loop-i
-decreases-loop-i l = l.n - l.i

@@ -6,11 +6,11 @@ use Rattle.asked.proofs.wholes.within.Goals as goal
 
 pub returns-then-raw-least : goal.returns-then-raw-least
 returns-then-raw-least c =
-    out_of (too-low (less c.args.raw c.args.least c.ranges.raw c.ranges.least c.if-raw-least.true)) c.none.ensures
+    out_of (too-low (less c.args.raw c.args.least c.ranges.raw c.ranges.least c.if-raw-least.true))
 
 pub returns-then-most-raw : goal.returns-then-most-raw
 returns-then-most-raw c =
-    out_of (too-high (less c.args.most c.args.raw c.ranges.most c.ranges.raw c.if-most-raw.true)) c.none-then-most-raw.ensures
+    out_of (too-high (less c.args.most c.args.raw c.ranges.most c.ranges.raw c.if-most-raw.true))
 
 pub returns : goal.returns
 returns c =

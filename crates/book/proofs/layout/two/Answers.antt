@@ -1,29 +1,19 @@
 -- `book::layout::two` meets its contract: two bytes, the low one first.
 -- Assumes nothing.
-use Prim.Native.Nat.{◌+◌}
+use mathlib.Core.List.{[], ◌∷◌}
+use mathlib.Core.Path.{◌≡◌, refl, ap, ◌∙◌}
+use Prim.Native.Nat.{ℕ, suc, ◌+◌}
 use native.Mathlib.Omega.{arith}
-use Rattle.digits.specs.Paper.Bytes.{Bytes}
-use Rattle.book.proofs.Laws.Reading.{byte_at, numbers-join}
+use lib.ListN.{get_or}
+use borrow.Author.Rules.{rules}
+use Rattle.std.proofs.lemmas.Nat.{le_bytes_2}
+use Rattle.book.proofs.Laws.Reading.{number-of-bytes}
 use Rattle.book.proofs.layout.two.Goals as goal
-
-pub overflow_cast-result : goal.overflow_cast-result
-overflow_cast-result c = omega (arith, (c.type_inv.s c.args.at).fits)
-
-pub overflow_cast-result-2 : goal.overflow_cast-result-2
-overflow_cast-result-2 c = omega (arith, (c.type_inv.s (c.args.at + 1)).fits)
-
-pub overflow_mul-result : goal.overflow_mul-result
-overflow_mul-result c = omega (arith, (c.type_inv.s (c.args.at + 1)).fits)
-
-pub overflow_add-result-2 : goal.overflow_add-result-2
-overflow_add-result-2 c =
-    omega (arith, (c.shared_slice_known-1.given c.args.at).fits, (c.type_inv.s (c.args.at + 1)).fits)
 
 pub returns : goal.returns
 returns c =
-    let low = (c.shared_slice_known-1.given c.args.at).fits in
-    let high = (c.type_inv.s (c.args.at + 1)).fits in
-    let b : Bytes c.args.s.now = record { each = λ i. (c.type_inv.s i).fits } in
-    let first = byte_at c.args.s.now c.args.at b (omega (arith, c.requires)) in
-    let second = byte_at c.args.s.now (c.args.at + 1) b (omega (arith, c.requires)) in
-    (omega (arith, low, high), numbers-join 1 1 low first second)
+    let s = c.args.s.now in
+    let at = c.args.at in
+    let next : at + 1 ≡ suc at = omega arith in
+    let bytes = le_bytes_2 (get_or s at 0 ∷ get_or s (at + 1) 0 ∷ []) _ refl (search rules) c.from_le_bytes.ensures in
+    (c.from_le_bytes.type_inv, number-of-bytes 2 c.requires (bytes ∙ ap (λ (i : ℕ). get_or s at 0 ∷ get_or s i 0 ∷ []) next))

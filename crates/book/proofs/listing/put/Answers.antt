@@ -1,6 +1,5 @@
 -- `book::listing::put` meets its contract: what is left, put from here on, completes the lines of the book.
 -- Assumes nothing.
-use Prim.Native.Nat.{◌-◌}
 use native.Mathlib.Omega.{arith}
 use Rattle.puts.proofs.Laws.Puts.{put-length}
 use Rattle.book.proofs.Laws.Entries.{counts-trailed}
@@ -14,21 +13,6 @@ pub head_at-head-requires : goal.head_at-head-requires
 head_at-head-requires c =
     let small = (counts-trailed c.requires.counts).small in
     record { at_in_bounds = head_in c.loop-i.invariant small c.loop-i-test.true; book_len_bound = small }
-
-pub offset_bounds-places-i : goal.offset_bounds-places-i
-offset_bounds-places-i c = omega arith
-
-pub bounds-places-i : goal.bounds-places-i
-bounds-places-i c = omega (arith, c.requires.room, (counts-trailed c.requires.counts).few)
-
-pub overflow_add-stop : goal.overflow_add-stop
-overflow_add-stop c = omega arith
-
-pub offset_bounds-places-i-in-loop-i : goal.offset_bounds-places-i-in-loop-i
-offset_bounds-places-i-in-loop-i c = omega arith
-
-pub bounds-places-i-in-loop-i : goal.bounds-places-i-in-loop-i
-bounds-places-i-in-loop-i c = omega (arith, c.requires.room, (counts-trailed c.requires.counts).few)
 
 pub slice_bounds-put_line-count : goal.slice_bounds-put_line-count
 slice_bounds-put_line-count c =
@@ -49,12 +33,6 @@ pub put_line-next-requires : goal.put_line-next-requires
 put_line-next-requires c =
     let small = (counts-trailed c.requires.counts).small in
     tested-so c.loop-i.invariant small c.loop-i-test.true c.head_at-head.ensures
-
-pub overflow_add-i : goal.overflow_add-i
-overflow_add-i c = omega arith
-
-pub loop-i-smaller : goal.loop-i-smaller
-loop-i-smaller c = omega arith
 
 pub loop-i-preserved : goal.loop-i-preserved
 loop-i-preserved c =

@@ -11,12 +11,12 @@ pub returns-then-end-to : goal.returns-then-end-to
 returns-then-end-to c =
     slot-long c.args.s.now c.args.at c.args.end c.requires.at_le_end c.requires.end_in_bounds c.requires.s_len_bound c.head_at-head.ensures c.if-end-to.true
 
-pub returns-in-Is : goal.returns-in-Is
-returns-in-Is c =
+pub returns-in-Ok : goal.returns-in-Ok
+returns-in-Ok c =
     slot_is c.args.s.now c.args.at c.args.end c.requires.at_le_end c.requires.end_in_bounds c.requires.s_len_bound c.head_at-head.ensures c.if-end-to.false
-    c.one_frame.ensures c.in-Is.is
+    c.in-Ok.ensures
 
-pub returns-in-Refused : goal.returns-in-Refused
-returns-in-Refused c =
+pub returns-in-Err : goal.returns-in-Err
+returns-in-Err c =
     slot-none c.args.s.now c.args.at c.args.end c.requires.at_le_end c.requires.end_in_bounds c.requires.s_len_bound c.head_at-head.ensures
-    c.one_frame.ensures c.in-Refused.is
+    _ c.in-Err.ensures

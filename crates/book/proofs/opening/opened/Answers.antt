@@ -24,7 +24,7 @@ overflow_sub-end c =
 pub filled-requires : goal.filled-requires
 filled-requires c =
     let t = trailed-count c.count-count.ensures.0 c.count-count.ensures.1 (told c.trailed.ensures c.if-not-trailed.false) in
-    record { count_in_bounds = omega (arith, t.room, c.trailer_size.ensures); s_len_bound = t.small; count_bound = t.few; in_bounds = c.requires }
+    record { count_in_bounds = omega (arith, t.room, c.trailer_size.ensures); s_len_bound = t.small; count_bound = t.few }
 
 pub returns-then-not-filled : goal.returns-then-not-filled
 returns-then-not-filled c =
@@ -34,5 +34,4 @@ returns-then-not-filled c =
 pub returns : goal.returns
 returns c =
     let t = trailed-count c.count-count.ensures.0 c.count-count.ensures.1 (told c.trailed.ensures c.if-not-trailed.false) in
-    let f = noted_in c.filled.ensures c.if-not-filled.false in
-    opened t c.trailer_size.ensures f.0 f.1
+    opened t c.trailer_size.ensures (noted_in c.filled.ensures c.if-not-filled.false)

@@ -1,7 +1,8 @@
 -- The public functions of `asked`.
 -- Assumes nothing.
-use Rattle.std.specs.Prelude.{List, [], ◌∷◌, ℕ, length}
-use Rattle.puts.specs.declared.Written.{Written}
+use Rattle.std.specs.Prelude.{List, [], ◌∷◌, ℕ, length, Result, Option}
+use Rattle.digits.specs.declared.refusal.Refusal.{Refusal}
+use Rattle.puts.specs.Paper.Wrote.{Written}
 use Rattle.commands.specs.Paper.Answers.{MessageCause, MeantBytes}
 use Rattle.asked.specs.Paper.Answers.{AskedCause, ReadCause, AskedAs, asked_refusal, asked_value, zero_asked}
 use Rattle.asked.specs.Paper.Lacks.{LackOf}
@@ -15,7 +16,7 @@ pub record AskedArgs : Type 0 where
   pub text : List ℕ
   pub room : List ℕ
 
-abbrev pub read : Claim Asked
+abbrev pub read : Claim (Result Asked Refusal)
 read =
     record {
       name = "asked::read";
@@ -47,5 +48,5 @@ encode =
 pub record FirstArgs : Type 0 where
   pub text : List ℕ
 
-abbrev pub first : Claim Lack
+abbrev pub first : Claim (Option Lack)
 first = answering {Args = FirstArgs} "asked::lacks::first" (λ a r. LackOf a.text r)

@@ -1,9 +1,10 @@
 -- The public functions of `book`.
 -- Assumes nothing.
-use Rattle.std.specs.Prelude.{List, [], ◌∷◌, ◌≡◌, ℕ, length}
+use Rattle.std.specs.Prelude.{List, [], ◌∷◌, ◌≡◌, ℕ, length, Result}
 use Rattle.std.proofs.Math.Option.{none}
 use Rattle.std.specs.Borrow.{Bor}
-use Rattle.puts.specs.declared.Written.{Written}
+use Rattle.digits.specs.declared.refusal.Refusal.{Refusal}
+use Rattle.puts.specs.Paper.Wrote.{Written}
 use Rattle.sheet.specs.Paper.Map.{sheet_in}
 use Rattle.book.specs.Paper.Answers.{AddCause, Adds, BookLines, Counts, EntryCause, EntryLine, EntryLineCause}
 use Rattle.book.specs.Paper.Answers.{EntryOf, ListCause, OpenCause, Location, located_refusal, located_value}
@@ -11,14 +12,13 @@ use Rattle.book.specs.Paper.Answers.{opened_count}
 use Rattle.book.specs.Paper.Answers.{opened_refusal, location_ends, zero_location}
 use Rattle.book.specs.Paper.Answers.{EntryLineByText, EntryLineByTextCause, BookLinesByText, ListByTextCause}
 use Rattle.book.specs.declared.Located.{Located}
-use Rattle.book.specs.declared.Opened.{Opened}
 use Rattle.claims.specs.Paper.Claim.{fronts, Claim, refuses, hands}
 
 -- How many entries a book has.
 pub record OpeningArgs : Type 0 where
   pub book : List ℕ
 
-abbrev pub opening : Claim Opened
+abbrev pub opening : Claim (Result ℕ Refusal)
 opening =
     record {
       name = "book::open";
@@ -39,7 +39,7 @@ pub record EntryArgs : Type 0 where
   pub book : List ℕ
   pub number : ℕ
 
-abbrev pub entry : Claim Located
+abbrev pub entry : Claim (Result Located Refusal)
 entry =
     record {
       name = "book::entry";

@@ -1,7 +1,7 @@
 -- The public functions of `builds`.
 -- Assumes nothing.
 use Rattle.std.specs.Prelude.{List, [], ◌∷◌, ◌≡◌, ℕ, length}
-use Rattle.puts.specs.declared.Written.{Written}
+use Rattle.puts.specs.Paper.Wrote.{Written}
 use Rattle.layouts.specs.Paper.Layout.{bytes_of}
 use Rattle.layouts.specs.Paper.Made.{link_of, nest_of, nibe_of}
 use Rattle.layouts.specs.Paper.Nest.{nest}

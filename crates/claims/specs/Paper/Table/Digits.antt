@@ -1,18 +1,14 @@
 -- The public functions of `digits`.
 -- Assumes nothing.
-use Rattle.std.specs.Prelude.{List, [], ◌∷◌, Bool, ◌≡◌, ℕ, ◌<◌, ◌^◌, ◌%◌, length}
-use Rattle.digits.specs.Paper.Answers.{AtEnd, byte_refusal, byte_value, number_refusal, number_value, natural_refusal}
-use Rattle.digits.specs.Paper.Answers.{natural_value, word_refusal, word_value}
+use Rattle.std.specs.Prelude.{List, [], ◌∷◌, Bool, ◌≡◌, ℕ, ◌<◌, ◌^◌, ◌%◌, length, Option}
+use Rattle.digits.specs.Paper.Answers.{AtEnd, byte_refusal, number_refusal, natural_refusal}
+use Rattle.digits.specs.Paper.Answers.{value_or_zero, word_refusal}
 use Rattle.digits.specs.Paper.Decimal.{decimal}
 use Rattle.digits.specs.Paper.Hex.{hex_byte, hex_digit, hex_word}
 use Rattle.digits.specs.Paper.LowFirst.{Held, low_byte_first}
 use Rattle.digits.specs.Paper.Read.{Decides}
 use Rattle.digits.specs.Paper.Refusals.{refusal_number}
 use Rattle.digits.specs.declared.decimal.Decimal.{Decimal}
-use Rattle.digits.specs.declared.decimal.Natural.{Natural}
-use Rattle.digits.specs.declared.hex.Byte.{Byte}
-use Rattle.digits.specs.declared.hex.Word.{Word}
-use Rattle.digits.specs.declared.low_first.Number.{Number}
 use Rattle.digits.specs.declared.refusal.Refusal.{Refusal}
 use Rattle.claims.specs.Paper.Claim.{Claim, answering, reading}
 
@@ -29,13 +25,13 @@ decimal-digits =
 pub record DecimalNumberOfArgs : Type 0 where
   pub s : List ℕ
 
-abbrev pub decimal-number-of : Claim Natural
+abbrev pub decimal-number-of : Claim (Option ℕ)
 decimal-number-of =
     reading {Args = DecimalNumberOfArgs} "digits::decimal::number_of"
     (record {
       refuses-with = 7;
       refusal = natural_refusal;
-      value = natural_value;
+      value = value_or_zero;
       zeros = 0;
       Limits = λ a n. n < 2 ^ 32;
       write = λ a. decimal;
@@ -54,13 +50,13 @@ hex-digit =
 pub record HexValueArgs : Type 0 where
   pub c : ℕ
 
-abbrev pub hex-value : Claim Byte
+abbrev pub hex-value : Claim (Option ℕ)
 hex-value =
     reading {Args = HexValueArgs} "digits::hex::value"
     (record {
       refuses-with = 5;
       refusal = byte_refusal;
-      value = byte_value;
+      value = value_or_zero;
       zeros = 0;
       Limits = λ a v. v < 16;
       write = λ a v. hex_digit v ∷ [];
@@ -80,13 +76,13 @@ pub record HexByteOfArgs : Type 0 where
   pub high : ℕ
   pub low : ℕ
 
-abbrev pub hex-byte-of : Claim Byte
+abbrev pub hex-byte-of : Claim (Option ℕ)
 hex-byte-of =
     reading {Args = HexByteOfArgs} "digits::hex::byte_of"
     (record {
       refuses-with = 5;
       refusal = byte_refusal;
-      value = byte_value;
+      value = value_or_zero;
       zeros = 0;
       Limits = λ a v. v < 256;
       write = λ a. hex_byte;
@@ -105,13 +101,13 @@ hex-four-digits =
 pub record HexWordOfArgs : Type 0 where
   pub d : List ℕ
 
-abbrev pub hex-word-of : Claim Word
+abbrev pub hex-word-of : Claim (Option ℕ)
 hex-word-of =
     reading {Args = HexWordOfArgs} "digits::hex::word_of"
     (record {
       refuses-with = 5;
       refusal = word_refusal;
-      value = word_value;
+      value = value_or_zero;
       zeros = 0;
       Limits = λ a v. v < 65536;
       write = λ a. hex_word;
@@ -154,13 +150,13 @@ low-first-eight =
 pub record LowFirstNumberOfArgs : Type 0 where
   pub s : List ℕ
 
-abbrev pub low-first-number-of : Claim Number
+abbrev pub low-first-number-of : Claim (Option ℕ)
 low-first-number-of =
     reading {Args = LowFirstNumberOfArgs} "digits::low_first::number_of"
     (record {
       refuses-with = 7;
       refusal = number_refusal;
-      value = number_value;
+      value = value_or_zero;
       zeros = 0;
       Limits = λ a. Held (length a.s);
       write = λ a. low_byte_first (length a.s);

@@ -1,19 +1,18 @@
 -- The public functions of `frames`.
 -- Assumes nothing.
-use Rattle.std.specs.Prelude.{List, [], ◌∷◌, Bool, ◌≡◌, ℕ}
+use Rattle.std.specs.Prelude.{List, [], ◌∷◌, Bool, ◌≡◌, ℕ, Option, Result}
 use Rattle.std.specs.Borrow.{Bor}
+use Rattle.digits.specs.declared.refusal.Refusal.{Refusal}
 use Rattle.digits.specs.Paper.Part.{zero_ends}
 use Rattle.frames.specs.Paper.Kinds as paper
 use Rattle.frames.specs.Paper.Kinds.{KindCause, number_of, resolved_refusal, resolved_value}
 use Rattle.frames.specs.Paper.Search.{Hit, Leftmost, SearchCause, found_hit, found_refusal, frame_ends, payload_ends}
 use Rattle.frames.specs.Paper.Search.{zero_hit}
 use Rattle.frames.specs.Paper.OneFrame.{OneFrame, OneFrameCause, frame_payload_ends, frame_payload_refusal}
-use Rattle.frames.specs.Paper.Why.{JudgedAt, WhyCause, verdict_failing, verdict_refusal, zero_failing}
+use Rattle.frames.specs.Paper.Why.{Failing, JudgedAt, WhyCause, verdict_failing, verdict_refusal, zero_failing}
 use Rattle.frames.specs.declared.Found.{Found}
-use Rattle.frames.specs.declared.Verdict.{Verdict}
 use Rattle.frames.specs.declared.FramePayload.{FramePayload}
 use Rattle.frames.specs.declared.kinds.Kind.{Kind}
-use Rattle.frames.specs.declared.kinds.Resolved.{Resolved}
 use Rattle.claims.specs.Paper.Claim.{Claim, answering, refuses, hands}
 
 -- The frame with the smallest start at or after the place.
@@ -22,7 +21,7 @@ pub record SearchArgs : Type 0 where
   pub buffer : List ℕ
   pub place : ℕ
 
-abbrev pub search : Claim Found
+abbrev pub search : Claim (Result Found Refusal)
 search =
     record {
       name = "frames::search";
@@ -77,7 +76,7 @@ pub record OneFrameArgs : Type 0 where
   pub kind : ℕ
   pub s : List ℕ
 
-abbrev pub one-frame : Claim FramePayload
+abbrev pub one-frame : Claim (Result FramePayload Refusal)
 one-frame =
     record {
       name = "frames::one_frame";
@@ -99,7 +98,7 @@ pub record WhyArgs : Type 0 where
   pub buffer : List ℕ
   pub place : ℕ
 
-abbrev pub why : Claim Verdict
+abbrev pub why : Claim (Result Failing Refusal)
 why =
     record {
       name = "frames::why";
@@ -119,7 +118,7 @@ why =
 pub record KindsOfArgs : Type 0 where
   pub number : ℕ
 
-abbrev pub kinds-of : Claim Resolved
+abbrev pub kinds-of : Claim (Option Kind)
 kinds-of =
     record {
       name = "frames::kinds::of";

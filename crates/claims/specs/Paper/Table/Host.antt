@@ -23,8 +23,7 @@ use Rattle.book.specs.Paper.Answers.{ListCause, BookLines, AddCause, Adds}
 use Rattle.list.specs.Paper.Listing.{NoSheet, OfMap, Listing}
 use Rattle.sheet.specs.Paper.Answers.{MapCause, IsMap}
 use Rattle.sheet.specs.Paper.Map.{sheet_in}
-use Rattle.puts.specs.Paper.Wrote.{written_refusal, written_count}
-use Rattle.puts.specs.declared.Written.{Written}
+use Rattle.puts.specs.Paper.Wrote.{written_refusal, written_count, Written}
 use Rattle.host.specs.Paper.Answers.{hit_in, ends_in, number_in, flag}
 use Rattle.host.specs.Paper.Kind.{KindByte}
 use Rattle.host_lines.specs.Paper.Answers.{placed_in}

@@ -1,15 +1,15 @@
 -- The public functions of `jsontext`.
 -- Assumes nothing.
-use Rattle.std.specs.Prelude.{Bool, List, [], ◌∷◌, ℕ, length}
+use Rattle.std.specs.Prelude.{Bool, List, [], ◌∷◌, ℕ, length, Result, Option}
+use Rattle.digits.specs.declared.refusal.Refusal.{Refusal}
 use Rattle.digits.specs.Paper.Part.{zero_ends}
 use Rattle.digits.specs.Paper.Read.{Decides}
-use Rattle.puts.specs.declared.Written.{Written}
+use Rattle.puts.specs.Paper.Wrote.{Written}
 use Rattle.jsontext.specs.Paper.Faults.{FaultOf}
 use Rattle.jsontext.specs.Paper.Members.{CountCause, CountOf, count_refusal, count_value}
 use Rattle.jsontext.specs.Paper.Members.{ValueCause, ValueOf, value_refusal, value_value, CharactersCause, IsString}
 use Rattle.jsontext.specs.Paper.Names.{InGrammar}
 use Rattle.jsontext.specs.declared.faults.Fault.{Fault}
-use Rattle.jsontext.specs.declared.members.Many.{Many}
 use Rattle.jsontext.specs.declared.members.Value.{Value}
 use Rattle.claims.specs.Paper.Claim.{fronts, Claim, answering, refuses}
 
@@ -24,14 +24,14 @@ accepts = answering {Args = AcceptsArgs} "jsontext::accepts" (λ a r. Decides (I
 pub record FaultArgs : Type 0 where
   pub text : List ℕ
 
-abbrev pub fault : Claim Fault
+abbrev pub fault : Claim (Option Fault)
 fault = answering {Args = FaultArgs} "jsontext::fault" (λ a r. FaultOf a.text r)
 
 -- How many members the object has that the text is.
 pub record CountArgs : Type 0 where
   pub text : List ℕ
 
-abbrev pub count : Claim Many
+abbrev pub count : Claim (Result ℕ Refusal)
 count =
     record {
       name = "jsontext::members::count";
@@ -52,7 +52,7 @@ pub record ValueOfArgs : Type 0 where
   pub text : List ℕ
   pub name : List ℕ
 
-abbrev pub value_of : Claim Value
+abbrev pub value_of : Claim (Result Value Refusal)
 value_of =
     record {
       name = "jsontext::members::value_of";

@@ -1,6 +1,6 @@
 -- The public functions of `layouts`.
 -- Assumes nothing.
-use Rattle.std.specs.Prelude.{List, Bool, ◌≡◌, ℕ}
+use Rattle.std.specs.Prelude.{List, Bool, ◌≡◌, ℕ, Result}
 use Rattle.digits.specs.Paper.Read.{Decides}
 use Rattle.checks.specs.Paper.Buses.{homiq_crc}
 use Rattle.checks.specs.Paper.Check.{check}
@@ -12,7 +12,8 @@ use Rattle.layouts.specs.Paper.Nest.{nest}
 use Rattle.layouts.specs.Paper.Nibe.{commands, nibe}
 use Rattle.layouts.specs.Paper.Nikobus.{nikobus}
 use Rattle.layouts.specs.Paper.Starts.{homiq_starts, nest_starts, nibe_starts, nikobus_starts}
-use Rattle.layouts.specs.declared.AtHead.{AtHead}
+use Rattle.layouts.specs.declared.Failure.{Failure}
+use Rattle.layouts.specs.declared.Frame.{Frame}
 use Rattle.layouts.specs.declared.nest.Direction.{Direction}
 use Rattle.claims.specs.Paper.Claim.{Claim, answering}
 
@@ -20,7 +21,7 @@ use Rattle.claims.specs.Paper.Claim.{Claim, answering}
 pub record HomiqFrameArgs : Type 0 where
   pub s : List ℕ
 
-abbrev pub homiq-frame : Claim AtHead
+abbrev pub homiq-frame : Claim (Result Frame Failure)
 homiq-frame =
     answering {Args = HomiqFrameArgs} "layouts::homiq::frame" (λ a r. Recognises homiq a.s r)
 
@@ -55,7 +56,7 @@ pub record NestFrameArgs : Type 0 where
   pub direction : Direction
   pub s : List ℕ
 
-abbrev pub nest-frame : Claim AtHead
+abbrev pub nest-frame : Claim (Result Frame Failure)
 nest-frame =
     answering {Args = NestFrameArgs} "layouts::nest::frame"
     (λ a r. Recognises (nest a.direction) a.s r)
@@ -73,7 +74,7 @@ nest-may-start =
 pub record NibeFrameArgs : Type 0 where
   pub s : List ℕ
 
-abbrev pub nibe-frame : Claim AtHead
+abbrev pub nibe-frame : Claim (Result Frame Failure)
 nibe-frame =
     answering {Args = NibeFrameArgs} "layouts::nibe::frame" (λ a r. Recognises nibe a.s r)
 
@@ -98,7 +99,7 @@ nibe-is-command =
 pub record NikobusFrameArgs : Type 0 where
   pub s : List ℕ
 
-abbrev pub nikobus-frame : Claim AtHead
+abbrev pub nikobus-frame : Claim (Result Frame Failure)
 nikobus-frame =
     answering {Args = NikobusFrameArgs} "layouts::nikobus::frame" (λ a r. Recognises nikobus a.s r)
 

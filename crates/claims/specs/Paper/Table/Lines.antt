@@ -1,9 +1,9 @@
 -- The public functions of `lines`.
 -- Assumes nothing.
-use Rattle.std.specs.Prelude.{List, [], ◌∷◌, ℕ, ◌-◌, length}
+use Rattle.std.specs.Prelude.{List, [], ◌∷◌, ℕ, ◌-◌, length, Result}
 use Rattle.std.proofs.Math.Option.{none}
-use Rattle.puts.specs.Paper.Wrote.{written_count, written_refusal}
-use Rattle.puts.specs.declared.Written.{Written}
+use Rattle.digits.specs.declared.refusal.Refusal.{Refusal}
+use Rattle.puts.specs.Paper.Wrote.{written_count, written_refusal, Written}
 use Rattle.frames.specs.Paper.Search.{SearchCause}
 use Rattle.messages.specs.Paper.Meant.{ContentWith, MeantCause}
 use Rattle.messages.specs.Paper.Says.{Says}
@@ -14,7 +14,6 @@ use Rattle.lines.specs.Paper.Answers.{LineByText, LineByTextCause}
 use Rattle.lines.specs.Paper.Answers.{LineCause, LineOf, NextCause, NextLine, NextSize, PutContent, PutSaid}
 use Rattle.lines.specs.Paper.Answers.{SaidCause, ended_place, ended_refusal, listed_placed, listed_refusal}
 use Rattle.lines.specs.Paper.Answers.{measured_refusal, measured_size, zero_placed, zero_size}
-use Rattle.lines.specs.declared.Ended.{Ended}
 use Rattle.lines.specs.declared.Listed.{Listed}
 use Rattle.lines.specs.declared.Measured.{Measured}
 use Rattle.claims.specs.Paper.Claim.{fronts, Claim, refuses, writes}
@@ -82,7 +81,7 @@ pub record NextArgs : Type 0 where
   pub room : List ℕ
   pub to : ℕ
 
-abbrev pub next : Claim Listed
+abbrev pub next : Claim (Result Listed Refusal)
 next =
     record {
       name = "lines::next";
@@ -106,7 +105,7 @@ pub record MeasureArgs : Type 0 where
   pub place : ℕ
   pub map : List ℕ
 
-abbrev pub measure : Claim Measured
+abbrev pub measure : Claim (Result Measured Refusal)
 measure =
     record {
       name = "lines::measure";
@@ -159,7 +158,7 @@ pub record PutContentArgs : Type 0 where
   pub room : List ℕ
   pub to : ℕ
 
-abbrev pub put-content : Claim Ended
+abbrev pub put-content : Claim (Result ℕ Refusal)
 put-content =
     record {
       name = "lines::put_content";

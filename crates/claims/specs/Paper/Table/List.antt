@@ -1,7 +1,7 @@
 -- The public functions of `list`.
 -- Assumes nothing.
 use Rattle.std.specs.Prelude.{List, [], ◌∷◌, ℕ, length}
-use Rattle.puts.specs.declared.Written.{Written}
+use Rattle.puts.specs.Paper.Wrote.{Written}
 use Rattle.list.specs.Paper.Listing.{NoSheet, OfMap, OfText, Listing}
 use Rattle.claims.specs.Paper.Causes.{ListingCause}
 use Rattle.claims.specs.Paper.Claim.{fronts, Claim}

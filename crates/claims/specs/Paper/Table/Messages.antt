@@ -1,7 +1,8 @@
 -- The public functions of `messages`.
 -- Assumes nothing.
-use Rattle.std.specs.Prelude.{List, [], ◌∷◌, ◌≡◌, ℕ}
+use Rattle.std.specs.Prelude.{List, [], ◌∷◌, ◌≡◌, ℕ, Result}
 use Rattle.std.specs.Borrow.{Bor}
+use Rattle.digits.specs.declared.refusal.Refusal.{Refusal}
 use Rattle.frames.specs.Paper.Search.{SearchCause}
 use Rattle.messages.specs.Paper.Allowed.{InTheTable, StandingCause, standing_refusal, standing_value}
 use Rattle.messages.specs.Paper.Answers.{DecodeCause, DecodedTo, Stands, content_ends, decoded_refusal, decoded_value}
@@ -15,15 +16,12 @@ use Rattle.messages.specs.Paper.Panel.{PairCause, PairOf, VoltsCause, pair_refus
 use Rattle.messages.specs.Paper.Panel.{volts_value, zero_counts, zero_volts}
 use Rattle.messages.specs.Paper.Says.{Says}
 use Rattle.messages.specs.declared.Decoded.{Decoded}
-use Rattle.messages.specs.declared.Meant.{Meant}
 use Rattle.messages.specs.declared.Message.{Message}
 use Rattle.messages.specs.declared.FoundMessage.{FoundMessage}
-use Rattle.messages.specs.declared.Standing.{Standing}
 use Rattle.messages.specs.declared.Tag.{Tag}
-use Rattle.messages.specs.declared.homiq.NextId.{NextId}
-use Rattle.messages.specs.declared.nest.Pair.{Pair}
 use Rattle.messages.specs.declared.nest.Response.{Response}
 use Rattle.messages.specs.declared.nest.Volts.{Volts}
+use Rattle.numbers.specs.declared.panel.Climate.{Climate}
 use Rattle.claims.specs.Paper.Claim.{Claim, refuses, hands, NeverRefused}
 
 -- The message of one frame.
@@ -31,7 +29,7 @@ pub record DecodeArgs : Type 0 where
   pub kind : ℕ
   pub frame : List ℕ
 
-abbrev pub decode : Claim Decoded
+abbrev pub decode : Claim (Result Decoded Refusal)
 decode =
     record {
       name = "messages::decode";
@@ -53,7 +51,7 @@ pub record FindArgs : Type 0 where
   pub buffer : List ℕ
   pub place : ℕ
 
-abbrev pub find : Claim FoundMessage
+abbrev pub find : Claim (Result FoundMessage Refusal)
 find =
     record {
       name = "messages::find";
@@ -90,7 +88,7 @@ pub record OfArgs : Type 0 where
   pub tag : Tag
   pub payload : List ℕ
 
-abbrev pub of : Claim Meant
+abbrev pub of : Claim (Result Message Refusal)
 of =
     record {
       name = "messages::of";
@@ -111,7 +109,7 @@ pub record AllowedArgs : Type 0 where
   pub message : Message
   pub content : List ℕ
 
-abbrev pub allowed : Claim Standing
+abbrev pub allowed : Claim (Result (Unit {0}) Refusal)
 allowed =
     record {
       name = "messages::allowed";
@@ -146,7 +144,7 @@ homiq-field =
 pub record HomiqNextIdArgs : Type 0 where
   pub id : ℕ
 
-abbrev pub homiq-next-id : Claim NextId
+abbrev pub homiq-next-id : Claim (Result ℕ Refusal)
 homiq-next-id =
     record {
       name = "messages::homiq::next_id";
@@ -166,7 +164,7 @@ homiq-next-id =
 pub record NestForPanelArgs : Type 0 where
   pub message : Response
 
-abbrev pub nest-for-panel : Claim Pair
+abbrev pub nest-for-panel : Claim (Result Climate Refusal)
 nest-for-panel =
     record {
       name = "messages::nest::for_panel";
@@ -186,7 +184,7 @@ nest-for-panel =
 pub record NestVoltagesArgs : Type 0 where
   pub payload : List ℕ
 
-abbrev pub nest-voltages : Claim Volts
+abbrev pub nest-voltages : Claim (Result Volts Refusal)
 nest-voltages =
     record {
       name = "messages::nest::voltages";

@@ -1,7 +1,8 @@
 -- The public functions of `numbers`.
 -- Assumes nothing.
-use Rattle.std.specs.Prelude.{List, [], ◌∷◌, Bool, false, ◌≡◌, ℕ, ℤ, pos, length}
-use Rattle.puts.specs.declared.Written.{Written}
+use Rattle.std.specs.Prelude.{List, [], ◌∷◌, Bool, false, ◌≡◌, ℕ, ℤ, pos, length, Result}
+use Rattle.digits.specs.declared.refusal.Refusal.{Refusal}
+use Rattle.puts.specs.Paper.Wrote.{Written}
 use Rattle.numbers.specs.Paper.Answers.{BytesCause, RangeCause, TextCause, ValueCause, ValueIn, fits_refusal}
 use Rattle.numbers.specs.Paper.Answers.{fits_value, reading_refusal, reading_value, shown_refusal, shown_value}
 use Rattle.numbers.specs.Paper.Answers.{value_of}
@@ -10,10 +11,8 @@ use Rattle.numbers.specs.Paper.ByteValues.{value_bytes}
 use Rattle.numbers.specs.Paper.Panel.{ClimatePair, Panel}
 use Rattle.numbers.specs.Paper.Single.{fits_single}
 use Rattle.numbers.specs.Paper.Text.{InLimits, text}
-use Rattle.numbers.specs.declared.byte_values.Value.{Value}
 use Rattle.numbers.specs.declared.panel.Climate.{Climate}
-use Rattle.numbers.specs.declared.panel.Shown.{Shown}
-use Rattle.numbers.specs.declared.single.Fit.{Fit}
+use Rattle.numbers.specs.declared.panel.Value.{Value as PanelValue}
 use Rattle.numbers.specs.declared.text.Reading.{Reading}
 use Rattle.claims.specs.Paper.Claim.{fronts, Claim, answering, reading, refuses}
 
@@ -40,7 +39,7 @@ pub record ByteValuesReadArgs : Type 0 where
   pub width : ℕ
   pub signed : Bool
 
-abbrev pub byte-values-read : Claim Value
+abbrev pub byte-values-read : Claim (Result ℤ Refusal)
 byte-values-read =
     record {
       name = "numbers::byte_values::read";
@@ -60,7 +59,7 @@ byte-values-read =
 pub record PanelOfArgs : Type 0 where
   pub raw : ℤ
 
-abbrev pub panel-of : Claim Shown
+abbrev pub panel-of : Claim (Result PanelValue Refusal)
 panel-of =
     record {
       name = "numbers::panel::of";
@@ -90,7 +89,7 @@ panel-pair =
 pub record SingleFitsArgs : Type 0 where
   pub raw : ℤ
 
-abbrev pub single-fits : Claim Fit
+abbrev pub single-fits : Claim (Result Bool Refusal)
 single-fits =
     record {
       name = "numbers::single::fits";
@@ -126,7 +125,7 @@ text-write =
 pub record TextReadArgs : Type 0 where
   pub t : List ℕ
 
-abbrev pub text-read : Claim Reading
+abbrev pub text-read : Claim (Result Reading Refusal)
 text-read =
     reading {Args = TextReadArgs} "numbers::text::read"
     (record {

@@ -3,8 +3,7 @@
 use Rattle.std.specs.Prelude.{List, [], ◌∷◌, ◌≡◌, ℕ, length}
 use Rattle.digits.specs.Paper.Decimal.{decimal}
 use Rattle.digits.specs.Paper.Hex.{hex_bytes}
-use Rattle.puts.specs.Paper.Wrote.{RoomCause}
-use Rattle.puts.specs.declared.Written.{Written}
+use Rattle.puts.specs.Paper.Wrote.{RoomCause, Written}
 use Rattle.claims.specs.Paper.Claim.{fronts, Claim, putting}
 
 -- Writes the bytes of s from the front of the room: all of them, or none if the room is too short.

@@ -1,7 +1,7 @@
 -- The public functions of `shapes`.
 -- Assumes nothing.
 use Rattle.std.specs.Prelude.{List, [], ◌∷◌, ◌≡◌, ℕ, length}
-use Rattle.puts.specs.declared.Written.{Written}
+use Rattle.puts.specs.Paper.Wrote.{Written}
 use Rattle.shapes.specs.Paper.Members.{NameCause, names, name_in, sort_at}
 use Rattle.shapes.specs.Paper.Shapes.{shape_at}
 use Rattle.shapes.specs.declared.Sort.{Sort}

@@ -1,15 +1,15 @@
 -- The public functions of `sheet`.
 -- Assumes nothing.
-use Rattle.std.specs.Prelude.{Bool, List, [], ◌∷◌, ◌≡◌, ℕ, length}
+use Rattle.std.specs.Prelude.{Bool, List, [], ◌∷◌, ◌≡◌, ℕ, length, Result, Option}
 use Rattle.std.proofs.Math.Option.{some}
+use Rattle.digits.specs.declared.refusal.Refusal.{Refusal}
 use Rattle.digits.specs.Paper.Read.{Decides}
-use Rattle.puts.specs.declared.Written.{Written}
+use Rattle.puts.specs.Paper.Wrote.{Written}
 use Rattle.sheet.specs.Paper.Map.{lookup_in}
 use Rattle.sheet.specs.Paper.Answers.{OpenCause, HasRows, rows_refusal, rows_count, TypeInCause, TypeCause, HasType}
 use Rattle.sheet.specs.Paper.Answers.{typed_refusal, typed_value, zero_type, MapCause, IsMap, SplitCause, IsSplit}
 use Rattle.sheet.specs.Paper.Answers.{JoinCause, IsJoin, SomeSplit, Faults}
 use Rattle.sheet.specs.Paper.Split.{Unsolicited}
-use Rattle.sheet.specs.declared.Rows.{Rows}
 use Rattle.sheet.specs.declared.Typed.{Typed}
 use Rattle.sheet.specs.declared.faults.Fault.{Fault}
 use Rattle.claims.specs.Paper.Claim.{fronts, Claim, answering, refuses}
@@ -18,7 +18,7 @@ use Rattle.claims.specs.Paper.Claim.{fronts, Claim, answering, refuses}
 pub record OpeningArgs : Type 0 where
   pub text : List ℕ
 
-abbrev pub opening : Claim Rows
+abbrev pub opening : Claim (Result ℕ Refusal)
 opening =
     record {
       name = "sheet::open";
@@ -39,7 +39,7 @@ pub record TypeOfArgs : Type 0 where
   pub text : List ℕ
   pub register : ℕ
 
-abbrev pub type-of : Claim Typed
+abbrev pub type-of : Claim (Result Typed Refusal)
 type-of =
     record {
       name = "sheet::type_of";
@@ -109,7 +109,7 @@ pub record TypeInArgs : Type 0 where
   pub map : List ℕ
   pub register : ℕ
 
-abbrev pub type-in : Claim Typed
+abbrev pub type-in : Claim (Result Typed Refusal)
 type-in =
     record {
       name = "sheet::type_in";
@@ -145,5 +145,5 @@ unsolicited = answering {Args = UnsolicitedArgs} "sheet::unsolicited" (λ a r. D
 pub record FaultArgs : Type 0 where
   pub text : List ℕ
 
-abbrev pub fault : Claim Fault
+abbrev pub fault : Claim (Option Fault)
 fault = answering {Args = FaultArgs} "sheet::fault" (λ a r. Faults a.text r)

@@ -1,15 +1,8 @@
 -- `commands::homiq::answer` meets its contract: what is exchanged is the payload of the acknowledgement, whose frame is built.
 -- Assumes nothing.
 use mathlib.Core.Path.{refl}
-use native.Mathlib.Omega.{arith}
-use Rattle.commands.proofs.Laws.Acknowledged.{some-payload, reply-inside, reply-bytes, of-type-a, of-type-s, framed}
+use Rattle.commands.proofs.Laws.Acknowledged.{reply-inside, reply-bytes, of-type-a, of-type-s, framed}
 use Rattle.commands.proofs.homiq.answer.Goals as goal
-
-pub overflow_sub-payload : goal.overflow_sub-payload
-overflow_sub-payload c = some-payload c.requires
-
-pub bounds-payload-payload : goal.bounds-payload-payload
-bounds-payload-payload c = omega (arith, some-payload c.requires)
 
 pub returns-then-payload-eq97 : goal.returns-then-payload-eq97
 returns-then-payload-eq97 c = λ w x. of-type-a x (framed x) c.if-payload-eq97.true

@@ -2,7 +2,6 @@
 -- Assumes nothing.
 use mathlib.Core.Path.{refl}
 use mathlib.Core.List.{[]}
-use Rattle.commands.proofs.Laws.NestWrites.{climate-back}
 use Rattle.digits.specs.Paper.Ascii.{ascii}
 use Rattle.messages.specs.Paper.Content as content
 use Rattle.messages.specs.Paper.Message.{state, break, end, text, response}
@@ -12,9 +11,6 @@ use Rattle.messages.specs.Work.Answers.{Only}
 use Rattle.messages.specs.declared.nest.Response.{Response as Coded}
 use Rattle.commands.proofs.Laws.Written.{built, in-case}
 use Rattle.commands.proofs.nest.write.Goals as goal
-
-pub returns-in-Climate : goal.returns-in-Climate
-returns-in-Climate c = in-case (λ (x : Coded). Only (of_response x c.args.payload.now)) c.write_climate.result c.in-Climate.is (climate-back _ _ c.write_climate.result (record { sfits = c.in-Climate.known_told-1-own.given.0.1 }) c.write_climate.ensures)
 
 pub returns-in-State : goal.returns-in-State
 unfolding content_of

@@ -1,19 +1,21 @@
 -- `commands::nibe::is_width` meets its contract, width by width.
 -- Assumes nothing.
 use mathlib.Core.Path.{sym, subst}
+use native.Mathlib.Omega.{arith}
 use Rattle.digits.proofs.Laws.LowFirst.{no-width}
-use Rattle.digits.specs.Paper.LowFirst.{Width, one, two, four}
+use Rattle.digits.specs.Paper.LowFirst.{Width, four}
 use Rattle.digits.specs.Paper.Read.{holds, fails}
+use Rattle.commands.proofs.Laws.Widths.{one-or-two}
 use Rattle.commands.proofs.nibe.is_width.Goals as goal
 
-pub returns-then-width-eq1 : goal.returns-then-width-eq1
-returns-then-width-eq1 c = holds (subst Width (sym c.if-width-eq1.true) one)
+pub returns-in-1 : goal.returns-in-1
+returns-in-1 c = holds (subst Width (sym c.in-1.is) four)
 
-pub returns-then-width-eq2 : goal.returns-then-width-eq2
-returns-then-width-eq2 c = holds (subst Width (sym c.if-width-eq2.true) two)
+pub returns-in-1-2 : goal.returns-in-1-2
+returns-in-1-2 c = holds (one-or-two (omega arith) (omega arith))
 
-pub returns-then-width-eq4 : goal.returns-then-width-eq4
-returns-then-width-eq4 c = holds (subst Width (sym c.if-width-eq4.true) four)
+pub returns-in_default : goal.returns-in_default
+returns-in_default c = fails (no-width (λ e. omega (arith, e)) (λ e. omega (arith, e)) (λ e. omega (arith, e)))
 
-pub returns : goal.returns
-returns c = fails (no-width c.if-width-eq1.false c.if-width-eq2.false c.if-width-eq4.false)
+pub returns-in_default-2 : goal.returns-in_default-2
+returns-in_default-2 c = fails (no-width (λ e. omega (arith, e)) (λ e. omega (arith, e)) (λ e. omega (arith, e)))

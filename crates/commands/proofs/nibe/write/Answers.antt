@@ -1,6 +1,7 @@
 -- `commands::nibe::write` meets its contract: case by case.
 -- Assumes nothing.
-use mathlib.Core.Path.{ap, refl, subst}
+use mathlib.Core.Path.{ap, refl, subst, ◌∙◌}
+use Rattle.commands.proofs.Laws.NibeWrites.{bit-byte}
 use mathlib.Core.List.{[], ◌∷◌}
 use Prim.Native.Nat.{ℕ}
 use Rattle.messages.specs.Paper.Content as content
@@ -26,7 +27,7 @@ returns-in-Put c = in-case (λ (x : Nibe). Only (of_nibe x c.args.content.now)) 
 
 pub returns-in-Done : goal.returns-in-Done
 unfolding content_of
-returns-in-Done c = in-case (λ (x : Nibe). Only (of_nibe x c.args.content.now)) c.frame-in-Done.result c.in-Done.is (built (done _) (content.nibe 0x6C _) c.frame-in-Done.result (ap (λ (b : ℕ). content.nibe 0x6C (b ∷ [])) c.bit_of.ensures) c.frame-in-Done.ensures)
+returns-in-Done c = in-case (λ (x : Nibe). Only (of_nibe x c.args.content.now)) c.frame-in-Done.result c.in-Done.is (built (done _) (content.nibe 0x6C _) c.frame-in-Done.result (ap (λ (b : ℕ). content.nibe 0x6C (b ∷ [])) (c.from.ensures ∙ bit-byte c.in-Done.ok)) c.frame-in-Done.ensures)
 
 pub returns-in-Other : goal.returns-in-Other
 unfolding content_of

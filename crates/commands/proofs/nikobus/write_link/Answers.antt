@@ -4,13 +4,10 @@ use mathlib.Core.Path.{refl}
 use Rattle.messages.specs.Paper.Content as content
 use Rattle.messages.specs.Paper.Message.{link}
 use Rattle.messages.specs.Paper.Table.{content_of}
-use Rattle.commands.proofs.Laws.NikobusWrites.{inside, link-by-digits}
+use Rattle.commands.proofs.Laws.NikobusWrites.{link-by-digits}
 use Rattle.commands.proofs.Laws.Written.{built}
 use Rattle.commands.proofs.nikobus.write_link.Goals as goal
 
-pub slice_bounds-link-end : goal.slice_bounds-link-end
-slice_bounds-link-end c = inside c.values-n.ensures
-
 pub returns : goal.returns
 unfolding content_of
-returns c = link-by-digits c.link.result c.values-n.ensures (built (link _) (content.link _) c.link.result refl c.link.ensures)
+returns c = link-by-digits c.link.result c.in-Some.ensures (built (link _) (content.link _) c.link.result refl c.link.ensures)

@@ -1,9 +1,8 @@
--- `digits::low_first::four` meets its contract: by computation.
+-- `digits::low_first::four` meets its contract: the library's bytes are those of document 01.
 -- Assumes nothing.
-use mathlib.Core.Path.{refl}
-use Rattle.digits.specs.Paper.LowFirst.{low_byte_first}
+use mathlib.Core.Path.{◌∙◌}
+use Rattle.digits.proofs.Laws.LowFirst.{low-bytes}
 use Rattle.digits.proofs.low_first.four.Goals as goal
 
 pub returns : goal.returns
-unfolding low_byte_first
-returns c = refl
+returns c = c.to_le_bytes.ensures ∙ low-bytes 4 _

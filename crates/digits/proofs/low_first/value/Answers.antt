@@ -14,12 +14,6 @@ pub loop-i-init : goal.loop-i-init
 unfolding low_value
 loop-i-init c = (omega arith, rw (drop_of_length-le c.args.s.now (le_refl _)), lit< tt)
 
-pub overflow_sub-i : goal.overflow_sub-i
-overflow_sub-i c = omega arith
-
-pub bounds-s-i : goal.bounds-s-i
-bounds-s-i c = omega arith
-
 pub overflow_cast-n : goal.overflow_cast-n
 overflow_cast-n c = omega (arith, c.type_inv.s (c.loop-i.i - 1))
 
@@ -28,9 +22,6 @@ overflow_mul-n c = omega arith
 
 pub overflow_add-n : goal.overflow_add-n
 overflow_add-n c = omega (arith, c.type_inv.s (c.loop-i.i - 1))
-
-pub loop-i-smaller : goal.loop-i-smaller
-loop-i-smaller c = omega arith
 
 pub loop-i-preserved : goal.loop-i-preserved
 loop-i-preserved c =

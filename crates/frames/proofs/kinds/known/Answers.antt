@@ -1,11 +1,8 @@
 -- `frames::kinds::known` meets its contract: what is resolved is known.
 -- Assumes nothing.
-use mathlib.Core.Path.{sym}
-use Rattle.frames.proofs.Laws.Kinds.{known_of, resolved-known, resolved-unknown}
+use mathlib.Core.Path.{◌∙◌}
+use Rattle.frames.proofs.Laws.Kinds.{resolved-some}
 use Rattle.frames.proofs.kinds.known.Goals as goal
 
-pub returns-in-Is : goal.returns-in-Is
-returns-in-Is c = sym (known_of c.in-Is.kind (resolved-known c.of.ensures c.in-Is.is))
-
-pub returns-in-Unknown : goal.returns-in-Unknown
-returns-in-Unknown c = sym (resolved-unknown c.of.ensures c.in-Unknown.is)
+pub returns : goal.returns
+returns c = c.is_some.ensures ∙ resolved-some c.of.result c.of.ensures

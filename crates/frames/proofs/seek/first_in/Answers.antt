@@ -18,12 +18,6 @@ looks_like_start-requires c = omega (arith, c.requires, c.loop-i-test.true)
 pub overflow_cast-i : goal.overflow_cast-i
 overflow_cast-i c = omega (arith, c.loop-i-test.true)
 
-pub overflow_add-i : goal.overflow_add-i
-overflow_add-i c = omega (arith, c.loop-i-test.true)
-
-pub loop-i-smaller : goal.loop-i-smaller
-loop-i-smaller c = omega (arith, c.loop-i-test.true)
-
 pub loop-i-preserved : goal.loop-i-preserved
 loop-i-preserved c =
     (omega (arith, c.loop-i-test.true), sought-next c.loop-i-test.true (omega (arith, c.requires, c.loop-i-test.true)) c.looks_like_start.ensures c.index_if.ensures c.least-first.ensures c.loop-i.invariant.1)

@@ -16,12 +16,6 @@ overflow_add-place c = omega (arith, c.well_formed, c.requires, c.loop-i-test.tr
 pub looks_like_start-any-requires : goal.looks_like_start-any-requires
 looks_like_start-any-requires c = omega (arith, c.requires, c.loop-i-test.true)
 
-pub overflow_add-i : goal.overflow_add-i
-overflow_add-i c = omega (arith, c.loop-i-test.true)
-
-pub loop-i-smaller : goal.loop-i-smaller
-loop-i-smaller c = omega (arith, c.loop-i-test.true)
-
 pub loop-i-preserved : goal.loop-i-preserved
 loop-i-preserved c =
     (omega (arith, c.loop-i-test.true), λ e. let n = neither c.loop-i.any c.looks_like_start-any.result e in more-passed c.loop-i.i (c.loop-i.invariant.1 n.0) (omega (arith, c.requires, c.loop-i-test.true)) (c.looks_like_start-any.ensures n.1))

@@ -8,6 +8,3 @@ use Rattle.frames.proofs.seek.may_start_in.Given as goal
 
 abbrev pub invariant-loop-i : goal.invariant-loop-i
 invariant-loop-i l = (l.i ≤ 64) × (l.any ≡ false → Passed l.kind l.buffer l.place (l.place + l.i))
-
-abbrev pub decreases-loop-i : goal.decreases-loop-i
-decreases-loop-i l = 64 - l.i

@@ -1,10 +1,17 @@
 -- `host::answers::kind_byte` meets its contract.
 -- Assumes nothing.
-use Rattle.host.specs.Paper.Kind.{held, beyond}
+use mathlib.Core.Path.{◌≡◌}
+use Prim.Native.Nat.{ℕ, ◌<◌}
+use native.Mathlib.Omega.{arith}
+use Rattle.std.specs.Prelude.{Result, Ok, Err, OkIff}
+use Rattle.std.specs.Result.{result_unwrap_or}
+use Rattle.host.specs.Paper.Kind.{KindByte, held, beyond}
 use Rattle.host.proofs.answers.kind_byte.Goals as goal
 
-pub returns-then-kind-lt-BEYOND_A_BYTE : goal.returns-then-kind-lt-BEYOND_A_BYTE
-returns-then-kind-lt-BEYOND_A_BYTE c = held c.if-kind-lt-BEYOND_A_BYTE.true
+-- the byte that a number is, or else 0
+byte : {E : Type 0} {k b : ℕ} (r : Result ℕ E) → OkIff r (k < 256) k → b ≡ result_unwrap_or r 0 → KindByte k b
+byte (Ok x) i e = rw (e, i.1) (held i.0)
+byte (Err x) i e = rw e (beyond (omega (arith, i)))
 
 pub returns : goal.returns
-returns c = beyond c.if-kind-lt-BEYOND_A_BYTE.false
+returns c = byte c.try_from.result c.try_from.ensures c.unwrap_or.ensures

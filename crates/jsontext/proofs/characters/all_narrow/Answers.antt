@@ -1,24 +1,19 @@
--- `characters::all_narrow` meets its contract. The loop's invariant: what is left of the string tells of all.
+-- `characters::all_narrow` meets its contract.
 -- Assumes nothing.
-use Rattle.jsontext.proofs.Laws.Cursors.{is-next}
-use Rattle.jsontext.proofs.Laws.Narrow.{narrow-first, narrow-on, too_wide, all-bytes}
+use Rattle.std.proofs.Common.{rules, tests}
+use Rattle.std.proofs.lemmas.Iterator.Consumers.{YieldsList-from_first}
+use Rattle.std.proofs.lemmas.Iterator.Search.{all_from_yields_List}
+use lib.Dec.{leb}
+use Rattle.jsontext.specs.Work.Names.{left}
+use Rattle.jsontext.specs.Work.Units.{name_in}
+use Rattle.jsontext.proofs.Laws.Narrow.{all-tested}
 use Rattle.jsontext.proofs.characters.all_narrow.Goals as goal
 
-pub loop-u-init : goal.loop-u-init
-loop-u-init c = narrow-first c.args.text.now c.behind.result c.behind.ensures
-
-pub returns-then-u-gt255 : goal.returns-then-u-gt255
-returns-then-u-gt255 c =
-    too_wide c.loop-u.invariant c.next_unit.ensures
-    c.in-Is.is c.if-u-gt255.true
-
-pub loop-u-smaller : goal.loop-u-smaller
-loop-u-smaller c = (is-next c.next_unit.ensures c.in-Is.is).1
-
-pub loop-u-preserved : goal.loop-u-preserved
-loop-u-preserved c =
-    narrow-on c.loop-u.invariant c.next_unit.ensures
-    c.in-Is.is c.if-u-gt255.false
-
-pub returns-in-End : goal.returns-in-End
-returns-in-End c = all-bytes c.loop-u.invariant c.next_unit.ensures c.in-End.is
+pub returns : goal.returns
+returns c =
+    let all =
+    all_from_yields_List (λ u. leb u 255) c.all.new.self _ _ c.all.ensures.ran
+    (YieldsList-from_first (λ x. x) (λ u. left u.low u.rest.now) {s = c.of.result} (name_in c.args.text.now) c.of.ensures)
+    (λ x b q k. search (rules, tests))
+    in
+    rw all (all-tested (name_in c.args.text.now))

@@ -1,21 +1,21 @@
--- `characters::is_name` meets its contract. The loop's invariant: what is left of the string and of the name tells of all.
+-- `characters::is_name` meets its contract.
 -- Assumes nothing.
-use native.Mathlib.Omega.{arith}
-use Rattle.jsontext.proofs.Laws.Narrow.{set_out, step-on, told-all}
+use mathlib.Core.Path.{refl, sym, ◌∙◌}
+use Rattle.jsontext.proofs.Laws.Cursors.{set_out, walk-on, differ, shorter, second_ends}
+use Rattle.jsontext.proofs.Laws.Places.{at_place, at-end}
 use Rattle.jsontext.proofs.characters.is_name.Goals as goal
 
-pub loop-d-init : goal.loop-d-init
-loop-d-init c = set_out c.args.s.now c.args.p c.args.name.now c.behind.result c.behind.ensures
+pub loop-b-init : goal.loop-b-init
+loop-b-init c = set_out c.of-units.ensures refl
 
-pub overflow_add-i : goal.overflow_add-i
-overflow_add-i c =
-    omega (arith, (step-on c.loop-d.invariant c.compared.ensures c.in-On.is).inside)
+pub returns-in_default : goal.returns-in_default
+returns-in_default c = shorter c.loop-b.invariant c.in_default.ensures.steps.0 (at_place _ _ c.loop-b-test.true)
 
-pub loop-d-smaller : goal.loop-d-smaller
-loop-d-smaller c = (step-on c.loop-d.invariant c.compared.ensures c.in-On.is).less
+pub returns-then-u-from : goal.returns-then-u-from
+returns-then-u-from c = differ c.loop-b.invariant c.in-Some.ensures.steps (at_place _ _ c.loop-b-test.true) (λ e. c.if-u-from.true (e ∙ sym c.from.ensures))
 
-pub loop-d-preserved : goal.loop-d-preserved
-loop-d-preserved c = (step-on c.loop-d.invariant c.compared.ensures c.in-On.is).alike
+pub loop-b-preserved : goal.loop-b-preserved
+loop-b-preserved c = walk-on c.loop-b.invariant c.in-Some.ensures.steps (at_place _ _ c.loop-b-test.true) (c.if-u-from.false ∙ c.from.ensures)
 
-pub returns-in-Told : goal.returns-in-Told
-returns-in-Told c = told-all c.loop-d.invariant c.compared.ensures c.in-Told.is
+pub returns : goal.returns
+returns c = second_ends c.loop-b.invariant _ _ _ c.is_none.ensures (at-end _ _ c.loop-b-test.false) c.next-2.ensures.steps

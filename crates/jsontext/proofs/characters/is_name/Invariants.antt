@@ -1,11 +1,10 @@
 -- `characters::is_name` meets its contract. The loop's invariant: what is left of the string and of the name tells of all.
 -- Assumes nothing.
-use Rattle.jsontext.specs.Work.Names.{weight}
-use Rattle.jsontext.proofs.Laws.Narrow.{Alike}
+use lib.ListN.{drop}
+use Rattle.jsontext.specs.Work.Names.{left}
+use Rattle.jsontext.specs.Work.Units.{name_in}
+use Rattle.jsontext.proofs.Laws.Cursors.{Walked}
 use Rattle.jsontext.proofs.characters.is_name.Given as goal
 
-abbrev pub invariant-loop-d : goal.invariant-loop-d
-invariant-loop-d l = Alike l.s l.p l.name l.c l.i
-
-abbrev pub decreases-loop-d : goal.decreases-loop-d
-decreases-loop-d l = weight l.s l.c
+abbrev pub invariant-loop-b : goal.invariant-loop-b
+invariant-loop-b l = Walked (name_in (drop l.p l.s)) l.name (left l.units.low l.units.rest.now) (drop l.b-index l.name)

@@ -7,12 +7,12 @@ use Rattle.jsontext.proofs.characters.is_narrow.Goals as goal
 pub returns-then-text-gt-MOST_BYTES : goal.returns-then-text-gt-MOST_BYTES
 returns-then-text-gt-MOST_BYTES c = too_long c.if-text-gt-MOST_BYTES.true
 
-pub returns-then-end-eq0 : goal.returns-then-end-eq0
-returns-then-end-eq0 c = no-string c.string-end.ensures c.if-end-eq0.true
+pub returns-in_default : goal.returns-in_default
+returns-in_default c = no-string c.in_default.ensures
 
 pub returns-then-end-text : goal.returns-then-end-text
-returns-then-end-text c = more-behind (found c.string-end.ensures c.if-end-eq0.false) c.if-end-text.true
+returns-then-end-text c = more-behind (found c.in-Some.ensures) c.if-end-text.true
 
 pub returns : goal.returns
 returns c =
-    by_bytes c.if-text-gt-MOST_BYTES.false (found c.string-end.ensures c.if-end-eq0.false) c.if-end-text.false c.all_narrow.ensures
+    by_bytes c.if-text-gt-MOST_BYTES.false (found c.in-Some.ensures) c.if-end-text.false c.all_narrow.ensures

@@ -8,53 +8,53 @@ use Rattle.jsontext.proofs.Laws.Faults.{deeper, nested-too-deep}
 use Rattle.jsontext.proofs.Laws.Places.{found, told-yes, told-no}
 use Rattle.jsontext.proofs.faults.+in_array_in_member_in_object_in_value.Goals as goal
 
-pub in_array-returns-then-e-eq0 : goal.in_array-returns-then-e-eq0
-in_array-returns-then-e-eq0 t c = in_item c.loop-p.invariant c.value-e.ensures c.if-e-eq0.true c.in_value.ensures
+pub in_array-returns-in_default : goal.in_array-returns-in_default
+in_array-returns-in_default t c = in_item c.loop-e.invariant c.in_default.ensures c.in_value.ensures
 
 pub in_array-returns-then-not-stands : goal.in_array-returns-then-not-stands
 in_array-returns-then-not-stands t c =
-    comma-lacks c.loop-p.invariant (found c.value-e.ensures c.if-e-eq0.false) tt c.blanks-f.ensures (told-no c.stands.ensures c.if-not-stands.true)
+    comma-lacks c.loop-e.invariant (found c.in-Some.ensures) tt c.blanks-f.ensures (told-no c.stands.ensures c.if-not-stands.true)
 
-pub in_array-loop-p-smaller : goal.in_array-loop-p-smaller
-in_array-loop-p-smaller t c =
-    let v = found c.value-e.ensures c.if-e-eq0.false in omega (arith, v.on, v.within, c.blanks-f.ensures.on, c.blanks-at-in-loop-p.ensures.on)
+pub in_array-loop-e-smaller : goal.in_array-loop-e-smaller
+in_array-loop-e-smaller t c =
+    let v = found c.in-Some.ensures in omega (arith, v.on, v.within, c.blanks-f.ensures.on, c.blanks-at-in-loop-e.ensures.on)
 
-pub in_array-loop-p-preserved : goal.in_array-loop-p-preserved
-in_array-loop-p-preserved t c =
-    pass_on c.loop-p.invariant (found c.value-e.ensures c.if-e-eq0.false) tt c.blanks-f.ensures (told-yes c.stands.ensures c.if-not-stands.false) c.blanks-at-in-loop-p.ensures
+pub in_array-loop-e-preserved : goal.in_array-loop-e-preserved
+in_array-loop-e-preserved t c =
+    pass_on c.loop-e.invariant (found c.in-Some.ensures) tt c.blanks-f.ensures (told-yes c.stands.ensures c.if-not-stands.false) c.blanks-at-in-loop-e.ensures
 
-pub in_member-returns-then-a-eq0 : goal.in_member-returns-then-a-eq0
-in_member-returns-then-a-eq0 t c = name-lacks c.requires c.string-a.ensures c.if-a-eq0.true
+pub in_member-returns-in_default : goal.in_member-returns-in_default
+in_member-returns-in_default t c = name-lacks c.requires c.in_default.ensures
 
 pub in_member-returns-then-not-stands : goal.in_member-returns-then-not-stands
 in_member-returns-then-not-stands t c =
-    colon-lacks (found c.string-a.ensures c.if-a-eq0.false) c.blanks-b.ensures (told-no c.stands.ensures c.if-not-stands.true)
+    colon-lacks (found c.in-Some.ensures) c.blanks-b.ensures (told-no c.stands.ensures c.if-not-stands.true)
 
 pub in_member-returns : goal.in_member-returns
 in_member-returns t c =
-    in-its-value (found c.string-a.ensures c.if-a-eq0.false) c.blanks-b.ensures (told-yes c.stands.ensures c.if-not-stands.false) c.blanks-c.ensures c.in_value.ensures
+    in-its-value (found c.in-Some.ensures) c.blanks-b.ensures (told-yes c.stands.ensures c.if-not-stands.false) c.blanks-c.ensures c.in_value.ensures
 
-pub in_object-loop-p-init : goal.in_object-loop-p-init
-in_object-loop-p-init t c = set-out-members c.requires c.blanks-first.ensures
+pub in_object-loop-e-init : goal.in_object-loop-e-init
+in_object-loop-e-init t c = set-out-members c.requires c.blanks-first.ensures
 
-pub in_object-returns-then-e-eq0 : goal.in_object-returns-then-e-eq0
-in_object-returns-then-e-eq0 t c = in_item c.loop-p.invariant.passing c.member-e.ensures c.if-e-eq0.true c.in_member.ensures
+pub in_object-returns-in_default : goal.in_object-returns-in_default
+in_object-returns-in_default t c = in_item c.loop-e.invariant.passing c.in_default.ensures c.in_member.ensures
 
 pub in_object-returns-then-not-is_new : goal.in_object-returns-then-not-is_new
 in_object-returns-then-not-is_new t c =
-    named-before c.loop-p.invariant.passing (found c.member-e.ensures c.if-e-eq0.false) (is-twice c.loop-p.invariant c.is_new.ensures c.if-not-is_new.true)
+    named-before c.loop-e.invariant.passing (found c.in-Some.ensures) (is-twice c.loop-e.invariant c.is_new.ensures c.if-not-is_new.true)
 
 pub in_object-returns-then-not-stands : goal.in_object-returns-then-not-stands
 in_object-returns-then-not-stands t c =
-    comma-lacks c.loop-p.invariant.passing (found c.member-e.ensures c.if-e-eq0.false) (is-other c.loop-p.invariant c.is_new.ensures c.if-not-is_new.false) c.blanks-f.ensures (told-no c.stands.ensures c.if-not-stands.true)
+    comma-lacks c.loop-e.invariant.passing (found c.in-Some.ensures) (is-other c.loop-e.invariant c.is_new.ensures c.if-not-is_new.false) c.blanks-f.ensures (told-no c.stands.ensures c.if-not-stands.true)
 
-pub in_object-loop-p-smaller : goal.in_object-loop-p-smaller
-in_object-loop-p-smaller t c =
-    let v = found c.member-e.ensures c.if-e-eq0.false in omega (arith, v.on, v.within, c.blanks-f.ensures.on, c.blanks-at.ensures.on)
+pub in_object-loop-e-smaller : goal.in_object-loop-e-smaller
+in_object-loop-e-smaller t c =
+    let v = found c.in-Some.ensures in omega (arith, v.on, v.within, c.blanks-f.ensures.on, c.blanks-at.ensures.on)
 
-pub in_object-loop-p-preserved : goal.in_object-loop-p-preserved
-in_object-loop-p-preserved t c =
-    members-on c.loop-p.invariant c.member-e.ensures c.if-e-eq0.false (is-other c.loop-p.invariant c.is_new.ensures c.if-not-is_new.false) c.blanks-f.ensures (told-yes c.stands.ensures c.if-not-stands.false) c.blanks-at.ensures
+pub in_object-loop-e-preserved : goal.in_object-loop-e-preserved
+in_object-loop-e-preserved t c =
+    members-on c.loop-e.invariant c.in-Some.ensures (is-other c.loop-e.invariant c.is_new.ensures c.if-not-is_new.false) c.blanks-f.ensures (told-yes c.stands.ensures c.if-not-stands.false) c.blanks-at.ensures
 
 pub in_value-returns-then-s-p : goal.in_value-returns-then-s-p
 in_value-returns-then-s-p t c = text-ends c.args.depth c.requires c.if-s-p.true

@@ -20,14 +20,14 @@ decreases-in_object l = 3 * l.depth + 2
 abbrev pub decreases-in_value : goal.decreases-in_value
 decreases-in_value l = 3 * l.depth
 
-abbrev pub invariant-in_array-loop-p : goal.invariant-in_array-loop-p
-invariant-in_array-loop-p l = Passing (tight true l.depth) any_item (value_stops l.depth) l.s l.p l.at
+abbrev pub invariant-in_array-loop-e : goal.invariant-in_array-loop-e
+invariant-in_array-loop-e l = Passing (tight true l.depth) any_item (value_stops l.depth) l.s l.p l.at
 
-abbrev pub decreases-in_array-loop-p : goal.decreases-in_array-loop-p
-decreases-in_array-loop-p l = length l.s - l.at
+abbrev pub decreases-in_array-loop-e : goal.decreases-in_array-loop-e
+decreases-in_array-loop-e l = length l.s - l.at
 
-abbrev pub invariant-in_object-loop-p : goal.invariant-in_object-loop-p
-invariant-in_object-loop-p l = PassingMembers l.depth l.s l.p l.first l.at
+abbrev pub invariant-in_object-loop-e : goal.invariant-in_object-loop-e
+invariant-in_object-loop-e l = PassingMembers l.depth l.s l.p l.first l.at
 
-abbrev pub decreases-in_object-loop-p : goal.decreases-in_object-loop-p
-decreases-in_object-loop-p l = length l.s - l.at
+abbrev pub decreases-in_object-loop-e : goal.decreases-in_object-loop-e
+decreases-in_object-loop-e l = length l.s - l.at

@@ -10,4 +10,4 @@ pub returns-then-text-at-eq125 : goal.returns-then-text-at-eq125
 returns-then-text-at-eq125 c = first-none c.blanks-at.ensures c.if-text-at.false c.if-text-at-eq125.true
 
 pub returns : goal.returns
-returns c = first-at c.blanks-at.ensures c.requires c.if-text-at.false c.if-text-at-eq125.false
+returns c = first-at c.blanks-at.ensures c.if-text-at.false c.if-text-at-eq125.false

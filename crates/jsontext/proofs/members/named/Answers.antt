@@ -8,13 +8,13 @@ pub loop-at-init : goal.loop-at-init
 loop-at-init c = seeking c.first-at.ensures
 
 pub returns-then-is_name : goal.returns-then-is_name
-returns-then-is_name c = is-named c.loop-at.invariant c.loop-at-test.true (told-true c.is_name.ensures c.if-is_name.true)
+returns-then-is_name c = is-named c.loop-at.invariant c.in-Some.is (told-true c.is_name.ensures c.if-is_name.true)
 
 pub loop-at-smaller : goal.loop-at-smaller
-loop-at-smaller c = later-less c.loop-at-test.true c.later-at.ensures
+loop-at-smaller c = rw c.in-Some.is (later-less c.later-at.ensures)
 
 pub loop-at-preserved : goal.loop-at-preserved
-loop-at-preserved c = seek-on c.loop-at.invariant c.loop-at-test.true (told-false c.is_name.ensures c.if-is_name.false) c.later-at.ensures
+loop-at-preserved c = seek-on c.loop-at.invariant c.in-Some.is (told-false c.is_name.ensures c.if-is_name.false) c.later-at.ensures
 
 pub returns : goal.returns
-returns c = none_named c.loop-at.invariant c.loop-at-test.false
+returns c = none_named c.loop-at.invariant c.in_default.is

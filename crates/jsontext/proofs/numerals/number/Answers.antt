@@ -1,21 +1,22 @@
 -- `numerals::number` meets its contract.
 -- Assumes nothing.
-use native.Mathlib.Omega.{arith}
 use Rattle.jsontext.proofs.Laws.Places.{found, then-none}
 use Rattle.jsontext.proofs.Laws.Numbers.{number-found, then_may, may, may-then, may-stop}
 use Rattle.jsontext.proofs.numerals.number.Goals as goal
 
-pub returns-then-b-eq0 : goal.returns-then-b-eq0
-returns-then-b-eq0 c = number-found c.behind_minus-a.ensures (then-none c.int-b.ensures c.if-b-eq0.true)
+pub returns-in_err-b : goal.returns-in_err-b
+returns-in_err-b c = rw c.from_residual.ensures (number-found c.behind_minus-a.ensures (then-none c.in_err-b.ensures))
 
-pub frac-c-requires : goal.frac-c-requires
-frac-c-requires c = let v = found c.int-b.ensures c.if-b-eq0.false in (omega (arith, v.on), v.within)
+pub frac-requires : goal.frac-requires
+frac-requires c = (found c.in_ok-b.ensures).within
 
-pub returns-then-c-eq0 : goal.returns-then-c-eq0
-returns-then-c-eq0 c = number-found c.behind_minus-a.ensures (then_may (found c.int-b.ensures c.if-b-eq0.false) (may-stop c.frac-c.ensures c.if-c-eq0.true))
+pub returns-in_err-c : goal.returns-in_err-c
+returns-in_err-c c =
+    rw c.from_residual-in_err-c.ensures
+    (number-found c.behind_minus-a.ensures (then_may (found c.in_ok-b.ensures) (may-stop c.in_err-c.ensures)))
 
 pub exp-requires : goal.exp-requires
-exp-requires c = let v = found c.int-b.ensures c.if-b-eq0.false in let w = may c.frac-c.ensures c.if-c-eq0.false in (omega (arith, v.on, w.passed.on), w.within)
+exp-requires c = (may c.in_ok-c.ensures).within
 
 pub returns : goal.returns
-returns c = number-found c.behind_minus-a.ensures (then_may (found c.int-b.ensures c.if-b-eq0.false) (may-then (may c.frac-c.ensures c.if-c-eq0.false) c.exp.ensures))
+returns c = number-found c.behind_minus-a.ensures (then_may (found c.in_ok-b.ensures) (may-then (may c.in_ok-c.ensures) c.exp.ensures))

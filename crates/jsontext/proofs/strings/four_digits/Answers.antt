@@ -3,14 +3,14 @@
 use Rattle.jsontext.proofs.Laws.Places.{then-none, then_found, found}
 use Rattle.jsontext.proofs.strings.four_digits.Goals as goal
 
-pub returns-then-a-eq0 : goal.returns-then-a-eq0
-returns-then-a-eq0 c = then-none c.digit-a.ensures c.if-a-eq0.true
+pub returns-in_err-a : goal.returns-in_err-a
+returns-in_err-a c = rw c.from_residual.ensures (then-none c.in_err-a.ensures)
 
-pub returns-then-b-eq0 : goal.returns-then-b-eq0
-returns-then-b-eq0 c = then_found (found c.digit-a.ensures c.if-a-eq0.false) (then-none c.digit-b.ensures c.if-b-eq0.true)
+pub returns-in_err-b : goal.returns-in_err-b
+returns-in_err-b c = rw c.from_residual-in_err-b.ensures (then_found (found c.in_ok-a.ensures) (then-none c.in_err-b.ensures))
 
-pub returns-then-c-eq0 : goal.returns-then-c-eq0
-returns-then-c-eq0 c = then_found (found c.digit-a.ensures c.if-a-eq0.false) (then_found (found c.digit-b.ensures c.if-b-eq0.false) (then-none c.digit-c.ensures c.if-c-eq0.true))
+pub returns-in_err-c : goal.returns-in_err-c
+returns-in_err-c c = rw c.from_residual-in_err-c.ensures (then_found (found c.in_ok-a.ensures) (then_found (found c.in_ok-b.ensures) (then-none c.in_err-c.ensures)))
 
 pub returns : goal.returns
-returns c = then_found (found c.digit-a.ensures c.if-a-eq0.false) (then_found (found c.digit-b.ensures c.if-b-eq0.false) (then_found (found c.digit-c.ensures c.if-c-eq0.false) c.digit.ensures))
+returns c = then_found (found c.in_ok-a.ensures) (then_found (found c.in_ok-b.ensures) (then_found (found c.in_ok-c.ensures) c.digit-4.ensures))

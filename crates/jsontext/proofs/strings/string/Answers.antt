@@ -28,17 +28,14 @@ overflow_add-result c = omega arith
 pub returns-then-s-i-eq34 : goal.returns-then-s-i-eq34
 returns-then-s-i-eq34 c = closed c.loop-i.invariant.0 c.loop-i-test.true c.if-s-i-eq34.true
 
-pub character-e-requires : goal.character-e-requires
-character-e-requires c = tt
-
-pub returns-then-e-eq0 : goal.returns-then-e-eq0
-returns-then-e-eq0 c = broken c.loop-i.invariant.0 c.loop-i-test.true c.if-s-i-eq34.false c.character-e.ensures c.if-e-eq0.true
+pub returns-in_default : goal.returns-in_default
+returns-in_default c = (broken c.loop-i.invariant.0 c.loop-i-test.true c.if-s-i-eq34.false c.in_default.ensures)
 
 pub loop-i-smaller : goal.loop-i-smaller
-loop-i-smaller c = let v = goes_on c.character-e.ensures c.if-e-eq0.false in omega (arith, v.0, v.1)
+loop-i-smaller c = let v = goes_on c.in-Some.ensures in omega (arith, v.0, v.1)
 
 pub loop-i-preserved : goal.loop-i-preserved
-loop-i-preserved c = (one_more c.loop-i.invariant.0 c.loop-i-test.true c.if-s-i-eq34.false c.character-e.ensures c.if-e-eq0.false, (goes_on c.character-e.ensures c.if-e-eq0.false).1)
+loop-i-preserved c = (one_more c.loop-i.invariant.0 c.loop-i-test.true c.if-s-i-eq34.false c.in-Some.ensures, (goes_on c.in-Some.ensures).1)
 
 pub returns : goal.returns
 returns c = unclosed c.loop-i.invariant.0 c.loop-i-test.false

@@ -3,8 +3,8 @@
 use Rattle.jsontext.proofs.Laws.Places.{then-none, then_found, found}
 use Rattle.jsontext.proofs.strings.two_more.Goals as goal
 
-pub returns-then-a-eq0 : goal.returns-then-a-eq0
-returns-then-a-eq0 c = then-none c.within-a.ensures c.if-a-eq0.true
+pub returns-in_err-a : goal.returns-in_err-a
+returns-in_err-a c = rw c.from_residual.ensures (then-none c.in_err-a.ensures)
 
 pub returns : goal.returns
-returns c = then_found (found c.within-a.ensures c.if-a-eq0.false) c.within.ensures
+returns c = then_found (found c.in_ok-a.ensures) c.within-2.ensures

@@ -1,29 +1,30 @@
 -- `units::short_value` meets its contract.
 -- Assumes nothing.
-use borrow.Author.Tests.{eq-eqb, ne_eqb}
+use Rattle.std.proofs.Common.{arith}
+use Rattle.std.proofs.lemmas.Bool.Decides.{nat_tests}
 use Rattle.jsontext.specs.Work.Units.{short_value}
 use Rattle.jsontext.proofs.units.short_value.Goals as goal
 
-pub returns-then-c-eq98 : goal.returns-then-c-eq98
+pub returns-in-98 : goal.returns-in-98
 unfolding short_value
-returns-then-c-eq98 c = simp (eq-eqb _ _ c.if-c-eq98.true)
+returns-in-98 c = rw c.in-98.is
 
-pub returns-then-c-eq102 : goal.returns-then-c-eq102
+pub returns-in-102 : goal.returns-in-102
 unfolding short_value
-returns-then-c-eq102 c = simp (ne_eqb _ _ c.if-c-eq98.false, eq-eqb _ _ c.if-c-eq102.true)
+returns-in-102 c = rw c.in-102.is
 
-pub returns-then-c-eq110 : goal.returns-then-c-eq110
+pub returns-in-110 : goal.returns-in-110
 unfolding short_value
-returns-then-c-eq110 c = simp (ne_eqb _ _ c.if-c-eq98.false, ne_eqb _ _ c.if-c-eq102.false, eq-eqb _ _ c.if-c-eq110.true)
+returns-in-110 c = rw c.in-110.is
 
-pub returns-then-c-eq114 : goal.returns-then-c-eq114
+pub returns-in-114 : goal.returns-in-114
 unfolding short_value
-returns-then-c-eq114 c = simp (ne_eqb _ _ c.if-c-eq98.false, ne_eqb _ _ c.if-c-eq102.false, ne_eqb _ _ c.if-c-eq110.false, eq-eqb _ _ c.if-c-eq114.true)
+returns-in-114 c = rw c.in-114.is
 
-pub returns-then-c-eq116 : goal.returns-then-c-eq116
+pub returns-in-116 : goal.returns-in-116
 unfolding short_value
-returns-then-c-eq116 c = simp (ne_eqb _ _ c.if-c-eq98.false, ne_eqb _ _ c.if-c-eq102.false, ne_eqb _ _ c.if-c-eq110.false, ne_eqb _ _ c.if-c-eq114.false, eq-eqb _ _ c.if-c-eq116.true)
+returns-in-116 c = rw c.in-116.is
 
-pub returns : goal.returns
+pub returns-in_default : goal.returns-in_default
 unfolding short_value
-returns c = simp (ne_eqb _ _ c.if-c-eq98.false, ne_eqb _ _ c.if-c-eq102.false, ne_eqb _ _ c.if-c-eq110.false, ne_eqb _ _ c.if-c-eq114.false, ne_eqb _ _ c.if-c-eq116.false)
+returns-in_default c = grind (arith, nat_tests)

@@ -1,7 +1,6 @@
 -- `layouts::homiq::characters` meets its contract: what is left from the index on completes the run.
 -- Assumes nothing.
 use mathlib.Core.Path.{sym, ◌∙◌}
-use Prim.Native.Nat.{◌-◌}
 use native.Mathlib.Omega.{arith}
 use borrow.Author.Rules.{rules}
 use Rattle.layouts.specs.Paper.Homiq.{field_char}
@@ -18,4 +17,4 @@ pub loop-i-preserved : goal.loop-i-preserved
 loop-i-preserved c = (search rules, leading_step field_char _ _ c.loop-i-test.true (sym c.is_character.ensures ∙ c.if-not-is_character.false) ∙ c.loop-i.invariant.1)
 
 pub returns : goal.returns
-returns c = leading_end field_char _ _ c.loop-i-test.false ∙ c.loop-i.invariant.1
+returns c = omega (arith, leading_end field_char c.args.s.now c.loop-i.i c.loop-i-test.false, c.loop-i.invariant, c.loop-i-test.false)

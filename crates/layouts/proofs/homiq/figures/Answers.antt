@@ -1,7 +1,9 @@
 -- `layouts::homiq::figures` meets its contract: what is left from the index on completes the run and its number, and four figures fit.
 -- Assumes nothing.
-use mathlib.Core.Path.{sym, ◌∙◌}
-use Prim.Native.Nat.{◌-◌}
+use mathlib.Core.Path.{◌≡◌, sym, ◌∙◌, ap}
+use Prim.Native.Nat.{ℕ}
+use lib.ListN.{take}
+use Rattle.digits.specs.Work.Decimal.{guess}
 use native.Mathlib.Omega.{arith}
 use borrow.Author.Rules.{rules}
 use Rattle.layouts.specs.Work.Homiq.{is_figure}
@@ -29,4 +31,8 @@ loop-i-preserved c =
     figuring-next c.loop-i.invariant c.if-s-i.false (sym c.is_figure.ensures ∙ c.if-not-is_figure.false)
 
 pub returns : goal.returns
-returns c = record { end_value = (figuring-end c.loop-i.invariant (leading_end is_figure _ _ (omega (arith, c.loop-i-test.false, c.requires)))).0; value_value = (figuring-end c.loop-i.invariant (leading_end is_figure _ _ (omega (arith, c.loop-i-test.false, c.requires)))).1 }
+returns c =
+    let g = c.loop-i.invariant in
+    let e : c.loop-i.i ≡ 4 = omega (arith, c.loop-i-test.false, g.within, c.requires) in
+    let f = figuring-end g (leading_end is_figure _ _ (omega (arith, c.loop-i-test.false, c.requires))) in
+    record { end_value = sym e ∙ f.0; value_value = f.1 ∙ ap (λ (k : ℕ). guess 0 (take k c.args.s.now)) e }

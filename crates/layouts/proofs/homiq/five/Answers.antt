@@ -1,23 +1,22 @@
 -- `layouts::homiq::five` meets its contract: the parts follow one another as in `five_len`.
 -- Assumes nothing.
-use native.Mathlib.Omega.{arith}
-use Rattle.layouts.specs.Work.Homiq.{field_len}
-use Rattle.layouts.proofs.Laws.Heads.{inside, ends-inside}
-use Rattle.layouts.proofs.Laws.HomiqFields.{field-right}
-use Rattle.layouts.proofs.Laws.HomiqPayload.{five-whole}
+use Rattle.layouts.proofs.Laws.HomiqPayload.{without-two, no-val, no-src, no-dst, no-id, five-there}
 use Rattle.layouts.proofs.homiq.five.Goals as goal
 
-pub field_at-b-requires : goal.field_at-b-requires
-field_at-b-requires c = record { at_in_bounds = rw c.field-a.ensures (inside (field-right 8) _); most_bound = omega arith }
+pub returns-in_err-cmd : goal.returns-in_err-cmd
+returns-in_err-cmd c = rw c.from_residual.ensures (without-two c.args.p.now c.in_err-cmd.ensures)
 
-pub field_at-c-requires : goal.field_at-c-requires
-field_at-c-requires c = record { at_in_bounds = ends-inside (field_len 16) (inside (field-right 16)) _ _ _ c.field_at-b.ensures; most_bound = omega arith }
+pub returns-in_err-val : goal.returns-in_err-val
+returns-in_err-val c = rw c.from_residual-in_err-val.ensures (no-val c.args.p.now c.in_ok-cmd.ensures c.in_err-val.ensures)
 
-pub field_at-d-requires : goal.field_at-d-requires
-field_at-d-requires c = record { at_in_bounds = ends-inside (field_len 4) (inside (field-right 4)) _ _ _ c.field_at-c.ensures; most_bound = omega arith }
+pub returns-in_err-src : goal.returns-in_err-src
+returns-in_err-src c = rw c.from_residual-in_err-src.ensures (no-src c.args.p.now c.in_ok-cmd.ensures c.in_ok-val.ensures c.in_err-src.ensures)
 
-pub number_at-requires : goal.number_at-requires
-number_at-requires c = record { at_in_bounds = ends-inside (field_len 4) (inside (field-right 4)) _ _ _ c.field_at-d.ensures; most_bound = omega arith }
+pub returns-in_err-dst : goal.returns-in_err-dst
+returns-in_err-dst c = rw c.from_residual-in_err-dst.ensures (no-dst c.args.p.now c.in_ok-cmd.ensures c.in_ok-val.ensures c.in_ok-src.ensures c.in_err-dst.ensures)
+
+pub returns-in_err-id : goal.returns-in_err-id
+returns-in_err-id c = rw c.from_residual-in_err-id.ensures (no-id c.args.p.now c.in_ok-cmd.ensures c.in_ok-val.ensures c.in_ok-src.ensures c.in_ok-dst.ensures c.in_err-id.ensures)
 
 pub returns : goal.returns
-returns c = five-whole _ _ _ _ _ _ c.field-a.ensures c.field_at-b.ensures c.field_at-c.ensures c.field_at-d.ensures c.number_at.ensures.end_value
+returns c = five-there c.args.p.now c.in_ok-cmd.ensures c.in_ok-val.ensures c.in_ok-src.ensures c.in_ok-dst.ensures c.in_ok-id.ensures.0

@@ -2,7 +2,7 @@
 -- Assumes nothing.
 use mathlib.Core.List.{List}
 use mathlib.Core.Path.{◌≡◌, sym, ◌∙◌, ap}
-use Prim.Native.Nat.{ℕ, ◌<◌}
+use Prim.Native.Nat.{ℕ}
 use native.Mathlib.Omega.{arith}
 use lib.ListN.{take, length-take}
 use Rattle.digits.specs.Work.Decimal.{guess}
@@ -22,19 +22,19 @@ pub figures-digits-requires : goal.figures-digits-requires
 figures-digits-requires c = rw c.first.ensures (omega (arith, length-take 4 c.args.s.now))
 
 pub returns-then-most-v : goal.returns-then-most-v
-returns-then-most-v c = record { end_value = number-no _ _ _ (counted _ c.args.s.now _ c.figures-digits.ensures.end_value c.first.ensures) (made _ _ c.args.s.now _ c.figures-digits.ensures.value_value c.first.ensures) _ c.requires (λ f. omega (arith, f.most)); value_value = λ p. absurd (omega arith) }
+returns-then-most-v c = sym (number-no _ _ _ (counted _ c.args.s.now _ c.figures-digits.ensures.end_value c.first.ensures) (made _ _ c.args.s.now _ c.figures-digits.ensures.value_value c.first.ensures) _ c.requires (λ f. omega (arith, f.most)))
 
 pub returns-then-n-width : goal.returns-then-n-width
-returns-then-n-width c = record { end_value = number-no _ _ _ (counted _ c.args.s.now _ c.figures-digits.ensures.end_value c.first.ensures) (made _ _ c.args.s.now _ c.figures-digits.ensures.value_value c.first.ensures) _ c.requires (λ f. c.if-n-width.true (f.digits ∙ sym c.width.ensures)); value_value = λ p. absurd (omega arith) }
+returns-then-n-width c = sym (number-no _ _ _ (counted _ c.args.s.now _ c.figures-digits.ensures.end_value c.first.ensures) (made _ _ c.args.s.now _ c.figures-digits.ensures.value_value c.first.ensures) _ c.requires (λ f. c.if-n-width.true (f.digits ∙ sym c.width.ensures)))
 
 pub returns-then-s-n : goal.returns-then-s-n
-returns-then-s-n c = record { end_value = number-no _ _ _ (counted _ c.args.s.now _ c.figures-digits.ensures.end_value c.first.ensures) (made _ _ c.args.s.now _ c.figures-digits.ensures.value_value c.first.ensures) _ c.requires (λ f. closed-past c.args.s.now _ c.if-s-n.true f.end); value_value = λ p. absurd (omega arith) }
+returns-then-s-n c = sym (number-no _ _ _ (counted _ c.args.s.now _ c.figures-digits.ensures.end_value c.first.ensures) (made _ _ c.args.s.now _ c.figures-digits.ensures.value_value c.first.ensures) _ c.requires (λ f. closed-past c.args.s.now _ c.if-s-n.true f.end))
 
 pub returns-then-s-n-ne59 : goal.returns-then-s-n-ne59
-returns-then-s-n-ne59 c = record { end_value = number-no _ _ _ (counted _ c.args.s.now _ c.figures-digits.ensures.end_value c.first.ensures) (made _ _ c.args.s.now _ c.figures-digits.ensures.value_value c.first.ensures) _ c.requires (λ f. c.if-s-n-ne59.true f.end); value_value = λ p. absurd (omega arith) }
+returns-then-s-n-ne59 c = sym (number-no _ _ _ (counted _ c.args.s.now _ c.figures-digits.ensures.end_value c.first.ensures) (made _ _ c.args.s.now _ c.figures-digits.ensures.value_value c.first.ensures) _ c.requires (λ f. c.if-s-n-ne59.true f.end))
 
 pub returns : goal.returns
-returns c = record {
-  end_value = number-whole _ _ _ (counted _ c.args.s.now _ c.figures-digits.ensures.end_value c.first.ensures) (made _ _ c.args.s.now _ c.figures-digits.ensures.value_value c.first.ensures) _ c.requires c.if-most-v.false (c.if-n-width.false ∙ c.width.ensures) c.if-s-n-ne59.false;
-  value_value = λ p. number-value _ _ _ (counted _ c.args.s.now _ c.figures-digits.ensures.end_value c.first.ensures) (made _ _ c.args.s.now _ c.figures-digits.ensures.value_value c.first.ensures);
-}
+returns c =
+    let n = counted _ c.args.s.now _ c.figures-digits.ensures.end_value c.first.ensures in
+    let v = made _ _ c.args.s.now _ c.figures-digits.ensures.value_value c.first.ensures in
+    ((number-whole _ _ _ n v _ c.requires c.if-most-v.false (c.if-n-width.false ∙ c.width.ensures) c.if-s-n-ne59.false, omega arith, omega (arith, c.if-s-n.false)), number-value _ _ _ n v)

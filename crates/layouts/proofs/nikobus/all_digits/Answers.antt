@@ -1,7 +1,6 @@
 -- `layouts::nikobus::all_digits` meets its contract: what is left to test tells what the whole does.
 -- Assumes nothing.
 use mathlib.Core.Path.{refl, sym, ap, ◌∙◌}
-use Prim.Native.Nat.{◌-◌}
 use native.Mathlib.Omega.{arith}
 use borrow.Author.Rules.{rules}
 use Rattle.digits.proofs.Laws.Parts.{part-rest}

@@ -24,4 +24,4 @@ pub returns-then-starts_with-3 : goal.returns-then-starts_with-3
 returns-then-starts_with-3 c = c.tail.ensures
 
 pub returns : goal.returns
-returns c = answered-as c.nothing.ensures (fails-start nikobus-bus c.args.s.now (no-mark c.args.s.now (sym c.starts_with.ensures ∙ c.if-starts_with.false) (sym c.starts_with-2.ensures ∙ c.if-starts_with-2.false) (sym c.starts_with-3.ensures ∙ c.if-starts_with-3.false)))
+returns c = answered-as c.from.ensures (fails-start nikobus-bus c.args.s.now (no-mark c.args.s.now (sym c.starts_with.ensures ∙ c.if-starts_with.false) (sym c.starts_with-2.ensures ∙ c.if-starts_with-2.false) (sym c.starts_with-3.ensures ∙ c.if-starts_with-3.false)))

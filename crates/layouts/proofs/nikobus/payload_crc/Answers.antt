@@ -1,7 +1,6 @@
 -- `layouts::nikobus::payload_crc` meets its contract: two digits a step, what is left leads to where the whole does.
 -- Assumes nothing.
 use mathlib.Core.Path.{◌∙◌}
-use Prim.Native.Nat.{◌-◌}
 use native.Mathlib.Omega.{arith}
 use borrow.Author.Rules.{rules}
 use Rattle.checks.specs.Paper.Buses.{nikobus_crc16}

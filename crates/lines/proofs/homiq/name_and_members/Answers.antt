@@ -8,7 +8,7 @@ use Rattle.digits.specs.Paper.Ascii.{ascii}
 use Rattle.json_values.specs.Paper.Json.{◌∶◌, chars}
 use Rattle.messages.specs.Paper.Homiq.{past, field_at}
 use Rattle.messages.proofs.Laws.HomiqLook.{field-bytes}
-use Rattle.puts.proofs.Laws.Puts.{◌then◌, puts-as, put-length}
+use Rattle.puts.proofs.Laws.Puts.{◌then◌, puts-as}
 use Rattle.lines.specs.Work.Put.{commaed}
 use Rattle.lines.proofs.homiq.name_and_members.Goals as goal
 

@@ -1,28 +1,24 @@
--- `messages::homiq::field_end` meets its contract: where the field from here on ends, the whole field does.
+-- `messages::homiq::field_end` meets its contract: the `;` that is found first ends the field.
 -- Assumes nothing.
-use mathlib.Core.Path.{refl, ◌∙◌}
-use Prim.Native.Nat.{◌-◌}
-use native.Mathlib.Omega.{arith}
-use Rattle.messages.proofs.Laws.HomiqLook.{end-stop, end_step, end-last}
+use borrow.Author.Rules.{rules}
+use borrow.Author.Tests.{tests}
+use lib.ListN.{drop}
+use mathlib.Core.Path.{◌∙◌}
+use Rattle.digits.proofs.Laws.Parts.{part-rest}
+use Rattle.std.specs.Prelude.{nat_eq}
+use Rattle.std.proofs.lemmas.Iterator.{YieldsList-from_slice}
+use Rattle.std.proofs.lemmas.Iterator.Search.{position_from_yields_List}
+use Rattle.messages.proofs.Laws.HomiqLook.{end-found, end-none}
 use Rattle.messages.proofs.homiq.field_end.Goals as goal
 
-pub loop-i-init : goal.loop-i-init
-loop-i-init c = (c.requires, refl)
+pub returns-in-Some : goal.returns-in-Some
+returns-in-Some c =
+    end-found c.args.s.now c.args.from c.requires
+    (position_from_yields_List (λ x. nat_eq x 59) _ _ c.position.result c.position.ensures.ran (YieldsList-from_slice (drop c.args.from c.args.s.now) (c.iter.ensures.rest ∙ part-rest c.args.from c.args.s.now)) (λ x b q k. search (rules, tests)))
+    c.in-Some.is
 
-pub bounds-s-i : goal.bounds-s-i
-bounds-s-i c = omega arith
-
-pub returns-then-s-i-eq59 : goal.returns-then-s-i-eq59
-returns-then-s-i-eq59 c = (end-stop _ _ c.loop-i-test.true c.if-s-i-eq59.true ∙ c.loop-i.invariant.1, c.loop-i.invariant.0)
-
-pub overflow_add-i : goal.overflow_add-i
-overflow_add-i c = omega (arith, c.well_formed)
-
-pub loop-i-smaller : goal.loop-i-smaller
-loop-i-smaller c = omega arith
-
-pub loop-i-preserved : goal.loop-i-preserved
-loop-i-preserved c = (omega arith, end_step _ _ c.loop-i-test.true c.if-s-i-eq59.false ∙ c.loop-i.invariant.1)
-
-pub returns : goal.returns
-returns c = (end-last _ _ c.loop-i-test.false ∙ c.loop-i.invariant.1, c.loop-i.invariant.0)
+pub returns-in-None : goal.returns-in-None
+returns-in-None c =
+    end-none c.args.s.now c.args.from c.requires
+    (position_from_yields_List (λ x. nat_eq x 59) _ _ c.position.result c.position.ensures.ran (YieldsList-from_slice (drop c.args.from c.args.s.now) (c.iter.ensures.rest ∙ part-rest c.args.from c.args.s.now)) (λ x b q k. search (rules, tests)))
+    c.in-None.is

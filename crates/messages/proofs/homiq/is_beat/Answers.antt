@@ -3,8 +3,8 @@
 use Rattle.messages.proofs.Laws.Telling.{first-fails, second-tells}
 use Rattle.messages.proofs.homiq.is_beat.Goals as goal
 
-pub returns-then-not-same : goal.returns-then-not-same
-returns-then-not-same c = first-fails c.same.ensures c.if-not-same.true
+pub returns-then-same : goal.returns-then-same
+returns-then-same c = second-tells c.same.ensures c.if-same.true c.is_letter.ensures
 
-pub returns : goal.returns
-returns c = second-tells c.same.ensures c.if-not-same.false c.is_letter.ensures
+pub returns-else-same : goal.returns-else-same
+returns-else-same c = first-fails c.same.ensures c.if-same.false

@@ -5,12 +5,12 @@ use Rattle.messages.specs.Paper.Message.{ask, reply, put, done}
 use Rattle.messages.proofs.Laws.Allowed.{nibe-as, only-good, only_if}
 use Rattle.messages.proofs.Laws.NibeRows.{ask-found, reply-found, put-found, done-found}
 use Rattle.messages.specs.Paper.Table.{Limits}
-use Rattle.messages.specs.declared.Standing.TheVariants.{Good}
+use Rattle.std.specs.Prelude.{Ok}
 use Rattle.messages.specs.declared.nibe.Nibe.TheVariants.{Ask, Reply, Put, Done, Other}
 use Rattle.messages.proofs.nibe.allowed.Goals as goal
 
 pub returns-in-Ask : goal.returns-in-Ask
-returns-in-Ask c = let l : Limits (ask c.in-Ask.register) = omega (arith, c.in-Ask.known_told-1-own.given) in nibe-as (Ask c.in-Ask.register) c.args.content.now Good c.in-Ask.is (only-good (ask c.in-Ask.register) l (ask-found c.in-Ask.register l))
+returns-in-Ask c = let l : Limits (ask c.in-Ask.register) = omega (arith, c.in-Ask.known_told-1-own.given) in nibe-as (Ask c.in-Ask.register) c.args.content.now (Ok tt) c.in-Ask.is (only-good (ask c.in-Ask.register) l (ask-found c.in-Ask.register l))
 
 pub returns-in-Reply : goal.returns-in-Reply
 returns-in-Reply c =
@@ -25,7 +25,7 @@ returns-in-Put c =
     (stands c.holds-in-Put.ensures c.standing-in-Put.ensures)
 
 pub returns-in-Done : goal.returns-in-Done
-returns-in-Done c = nibe-as (Done c.in-Done.ok) c.args.content.now Good c.in-Done.is (only-good (done c.in-Done.ok) tt (done-found c.in-Done.ok))
+returns-in-Done c = nibe-as (Done c.in-Done.ok) c.args.content.now (Ok tt) c.in-Done.is (only-good (done c.in-Done.ok) tt (done-found c.in-Done.ok))
 
 pub returns-in-Other : goal.returns-in-Other
 returns-in-Other c = nibe-as (Other _) c.args.content.now c.plain_allowed.result c.in-Other.is c.plain_allowed.ensures

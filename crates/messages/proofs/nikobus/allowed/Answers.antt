@@ -8,7 +8,7 @@ use Rattle.messages.proofs.Laws.Given.{six-bytes}
 use Rattle.messages.proofs.Laws.NikobusRows.{read_found, set_found, answer-found}
 use Rattle.messages.specs.Paper.Table.{content_of, SixBytes, Limits}
 use Rattle.messages.specs.Work.Look.{look}
-use Rattle.messages.specs.declared.Standing.TheVariants.{Good}
+use Rattle.std.specs.Prelude.{Ok}
 use Rattle.messages.specs.Paper.Says.{six}
 use Rattle.messages.specs.declared.nikobus.Nikobus.TheVariants.{Read, Set, Answer, Press, Tail}
 use Rattle.messages.proofs.nikobus.allowed.Goals as goal
@@ -27,14 +27,14 @@ returns-in-Set c =
     (stands c.standing-in-Set.ensures)
 
 pub returns-in-Answer : goal.returns-in-Answer
-returns-in-Answer c = let o : SixBytes (six c.in-Answer.out) = six-bytes (omega (arith, c.in-Answer.known_told-in-Answer-1-own.given)) (omega (arith, c.in-Answer.known_told-in-Answer-1-own.given)) (omega (arith, c.in-Answer.known_told-in-Answer-1-own.given)) (omega (arith, c.in-Answer.known_told-in-Answer-1-own.given)) (omega (arith, c.in-Answer.known_told-in-Answer-1-own.given)) (omega (arith, c.in-Answer.known_told-in-Answer-1-own.given)) in let l : Limits (answer c.in-Answer.address c.in-Answer.third (six c.in-Answer.out)) = (omega (arith, c.in-Answer.known_told-in-Answer-1-own.given), omega (arith, c.in-Answer.known_told-in-Answer-1-own.given), o) in nikobus-as (Answer c.in-Answer.address c.in-Answer.third c.in-Answer.out) c.args.digits.now Good c.in-Answer.is refl (only-good (answer c.in-Answer.address c.in-Answer.third (six c.in-Answer.out)) l (answer-found c.in-Answer.address c.in-Answer.third (six c.in-Answer.out) l))
+returns-in-Answer c = let o : SixBytes (six c.in-Answer.out) = six-bytes (omega (arith, c.in-Answer.known_told-in-Answer-1-own.given)) (omega (arith, c.in-Answer.known_told-in-Answer-1-own.given)) (omega (arith, c.in-Answer.known_told-in-Answer-1-own.given)) (omega (arith, c.in-Answer.known_told-in-Answer-1-own.given)) (omega (arith, c.in-Answer.known_told-in-Answer-1-own.given)) (omega (arith, c.in-Answer.known_told-in-Answer-1-own.given)) in let l : Limits (answer c.in-Answer.address c.in-Answer.third (six c.in-Answer.out)) = (omega (arith, c.in-Answer.known_told-in-Answer-1-own.given), omega (arith, c.in-Answer.known_told-in-Answer-1-own.given), o) in nikobus-as (Answer c.in-Answer.address c.in-Answer.third c.in-Answer.out) c.args.digits.now (Ok tt) c.in-Answer.is refl (only-good (answer c.in-Answer.address c.in-Answer.third (six c.in-Answer.out)) l (answer-found c.in-Answer.address c.in-Answer.third (six c.in-Answer.out) l))
 
 pub returns-in-Press : goal.returns-in-Press
 returns-in-Press c = nikobus-as (Press _) c.args.digits.now c.press_allowed.result c.in-Press.is refl c.press_allowed.ensures
 
 pub returns-in-Tail : goal.returns-in-Tail
 unfolding look content_of
-returns-in-Tail c = nikobus-as Tail c.args.digits.now Good c.in-Tail.is refl (only-good tail tt refl)
+returns-in-Tail c = nikobus-as Tail c.args.digits.now (Ok tt) c.in-Tail.is refl (only-good tail tt refl)
 
 pub returns-in-Link : goal.returns-in-Link
 returns-in-Link c = as-link c.args.digits.now c.link_allowed.result c.in-Link.is c.link_allowed.ensures

@@ -1,14 +1,13 @@
 -- `messages::nikobus::is_group` meets its contract: group by group.
 -- Assumes nothing.
+use borrow.Author.Tests.{eq-eqb}
 use mathlib.Core.Logic.{inl, inr, ⊎_elim}
-use Rattle.digits.specs.Paper.Read.{holds, fails}
+use Rattle.std.proofs.lemmas.Bool.{eqb-true}
+use Rattle.messages.proofs.Laws.Telling.{tells}
 use Rattle.messages.proofs.nikobus.is_group.Goals as goal
 
 pub returns-then-group-eq1 : goal.returns-then-group-eq1
-returns-then-group-eq1 c = holds (inl c.if-group-eq1.true)
+returns-then-group-eq1 c = tells _ (λ e. inl c.if-group-eq1.true) (λ g. eq-eqb _ _ c.if-group-eq1.true)
 
-pub returns-then-group-eq2 : goal.returns-then-group-eq2
-returns-then-group-eq2 c = holds (inr c.if-group-eq2.true)
-
-pub returns : goal.returns
-returns c = fails (⊎_elim c.if-group-eq1.false c.if-group-eq2.false)
+pub returns-else-group-eq1 : goal.returns-else-group-eq1
+returns-else-group-eq1 c = tells _ (λ e. inr (eqb-true _ _ e)) (λ g. eq-eqb _ _ (⊎_elim (λ x. absurd (c.if-group-eq1.false x)) (λ x. x) g))

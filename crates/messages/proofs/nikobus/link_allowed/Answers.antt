@@ -1,8 +1,7 @@
 -- `messages::nikobus::link_allowed` meets its contract: the message of the digits is the link, or one above it.
 -- Assumes nothing.
-use native.Mathlib.Omega.{arith}
 use Rattle.digits.proofs.Laws.Tests.{told, untold}
-use Rattle.messages.proofs.Laws.Allowed.{nikobus-row, no-digits, link-above, link-good}
+use Rattle.messages.proofs.Laws.Allowed.{above-link, not-above-link, no-digits, link-above, link-good}
 use Rattle.messages.specs.Paper.Table.{content_of}
 use Rattle.messages.specs.Work.Look.{look}
 use Rattle.messages.proofs.nikobus.link_allowed.Goals as goal
@@ -13,10 +12,10 @@ returns-then-not-is_link c = no-digits (untold c.is_link.ensures c.if-not-is_lin
 pub linked-requires : goal.linked-requires
 linked-requires c = told c.is_link.ensures c.if-not-is_link.false
 
-pub returns-then-row : goal.returns-then-row
+pub returns-in-Link : goal.returns-in-Link
 unfolding look content_of
-returns-then-row c = link-above c.linked.ensures.link c.linked.ensures.says (omega (arith, c.if-row.true, c.row-2.ensures, c.row.ensures, nikobus-row c.linked.result c.linked.ensures.link.payload))
+returns-in-Link c = link-good c.linked.ensures.link c.linked.ensures.says (not-above-link c.linked.result c.linked.ensures.link.payload c.in-Link.is)
 
-pub returns : goal.returns
+pub returns-in_default : goal.returns-in_default
 unfolding look content_of
-returns c = link-good c.linked.ensures.link c.linked.ensures.says (λ h. omega (arith, h, c.if-row.false, c.row-2.ensures, c.row.ensures, nikobus-row c.linked.result c.linked.ensures.link.payload))
+returns-in_default c = link-above c.linked.ensures.link c.linked.ensures.says (above-link c.linked.result c.linked.ensures.link.payload c.in_default.not-Link)

@@ -5,8 +5,7 @@ use Prim.Native.Nat.{ℕ, ◌^◌, ◌<◌}
 use lib.Dec.{lit<}
 use Rattle.std.specs.Prelude.{List}
 use lib.ListN.{length}
-use Rattle.digits.specs.declared.low_first.Number.TheVariants.{Is}
-use Rattle.digits.specs.declared.low_first.Number.{Number}
+use Rattle.std.specs.Prelude.{Option, Some}
 use Rattle.digits.specs.Paper.LowFirst.{Width, Held, low_byte_first}
 use Rattle.digits.specs.Paper.Answers.{number_refusal, ReadsNumber}
 use Rattle.digits.proofs.Laws.LowFirst.{never-refused}
@@ -19,7 +18,7 @@ use Rattle.numbers.proofs.Laws.Reading.{unknown-width, other-count, value_read}
 use Rattle.numbers.proofs.byte_values.read.Goals as goal
 
 -- the number that the bytes are
-is_read : (s : List ℕ) {r : Number} (n : ℕ) → r ≡ Is n → ReadsNumber s r → Held (length s) n × (low_byte_first (length s) n ≡ s)
+is_read : (s : List ℕ) {r : Option ℕ} (n : ℕ) → r ≡ Some n → ReadsNumber s r → Held (length s) n × (low_byte_first (length s) n ≡ s)
 is_read s n e h = answered (lit< tt) (subst (ReadsNumber s) e h) refl
 
 pub returns-then-not-is_width : goal.returns-then-not-is_width
@@ -38,6 +37,6 @@ returns-in_default c =
 pub returns : goal.returns
 returns c =
     let known = told c.is_width.ensures c.if-not-is_width.false in
-    let small = subst (λ (k : ℕ). c.in-Is.n < 256 ^ k) c.if-s-width.false (is_read c.args.s.now c.in-Is.n c.in-Is.is c.number_of.ensures).0.below in
-    value_read c.args.width c.args.signed c.args.s.now known c.in-Is.n c.if-s-width.false small (is_read c.args.s.now c.in-Is.n c.in-Is.is c.number_of.ensures).1
-    (ap back c.of_twos.ensures ∙ read_back (of_twos c.args.width c.args.signed c.in-Is.n) (raw-fits (of_twos c.args.width c.args.signed c.in-Is.n) (in-raw (size known) (size-most known) (of-twos (size known) c.args.signed c.in-Is.n small).0)))
+    let small = subst (λ (k : ℕ). c.in-Some.n < 256 ^ k) c.if-s-width.false (is_read c.args.s.now c.in-Some.n c.in-Some.is c.number_of.ensures).0.below in
+    value_read c.args.width c.args.signed c.args.s.now known c.in-Some.n c.if-s-width.false small (is_read c.args.s.now c.in-Some.n c.in-Some.is c.number_of.ensures).1
+    (ap back c.of_twos.ensures ∙ read_back (of_twos c.args.width c.args.signed c.in-Some.n) (raw-fits (of_twos c.args.width c.args.signed c.in-Some.n) (in-raw (size known) (size-most known) (of-twos (size known) c.args.signed c.in-Some.n small).0)))

@@ -21,12 +21,6 @@ pub returns-then-t-i-eq46 : goal.returns-then-t-i-eq46
 returns-then-t-i-eq46 c =
     point-here c.args.t.now c.loop-i.i c.loop-i-test.true c.if-t-i-eq46.true ∙ c.loop-i.invariant.1
 
-pub overflow_add-i : goal.overflow_add-i
-overflow_add-i c = omega arith
-
-pub loop-i-smaller : goal.loop-i-smaller
-loop-i-smaller c = omega arith
-
 pub loop-i-preserved : goal.loop-i-preserved
 loop-i-preserved c =
     (omega arith, point-later c.args.t.now c.loop-i.i c.loop-i-test.true c.if-t-i-eq46.false ∙ c.loop-i.invariant.1)

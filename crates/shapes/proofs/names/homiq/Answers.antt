@@ -5,4 +5,4 @@ use Rattle.shapes.proofs.names.homiq.Goals as goal
 
 pub returns : goal.returns
 unfolding names
-returns c = c.six.ensures
+returns c = c.nth.ensures

@@ -5,4 +5,4 @@ use Rattle.shapes.proofs.sorts.homiq.Goals as goal
 
 pub returns : goal.returns
 unfolding sorts
-returns c = c.six.ensures
+returns c = c.nth.ensures

@@ -1,48 +1,51 @@
 -- `sheet::reader::scan` meets its contract. The loop's invariant: the lines passed are good, and what the rest is says what the text is.
 -- Assumes nothing.
-use lib.ListN.{length-drop}
-use mathlib.Core.Path.{subst}
+use mathlib.Core.Path.{sym, ◌∙◌, subst}
 use mathlib.Core.List.{List}
-use Prim.Native.Nat.{ℕ}
+use Prim.Native.Nat.{ℕ, ◌+◌}
 use native.Mathlib.Omega.{arith}
+use lib.ListN.{length-drop}
+use borrow.Author.Tests.{eqb-true, eqb-false}
 use Rattle.digits.proofs.Laws.Parts.{part-rest}
-use Rattle.sheet.specs.Work.Lines.{ReadsLine}
-use Rattle.sheet.proofs.Laws.Scans.{scan-start, scan-fails, scan-next, scan-end, passes-test, size-most}
+use Rattle.sheet.specs.Work.Lines.{Scanning}
+use Rattle.sheet.proofs.Laws.Scans.{scan-start, scan-fails, scan-next, scan-end, line-inside, some-test}
 use Rattle.sheet.proofs.reader.scan.Goals as goal
 
-pub loop-at-init : goal.loop-at-init
-loop-at-init c = scan-start c.args.text.now
+pub loop-left-init : goal.loop-left-init
+loop-left-init c = scan-start c.args.text.now
 
-pub slice_bounds-first-count : goal.slice_bounds-first-count
-slice_bounds-first-count c = omega arith
+pub returns-in-Err : goal.returns-in-Err
+returns-in-Err c =
+    let f = eqb-false _ _ (sym c.is_empty.ensures ∙ c.loop-left-test.true) in
+    scan-fails c.loop-left.invariant (omega arith) c.in-Err.ensures (some-test c.in-Err.test)
 
-pub slice_bounds-first-start : goal.slice_bounds-first-start
-slice_bounds-first-start c = omega arith
+pub slice_bounds-left-count : goal.slice_bounds-left-count
+slice_bounds-left-count c = omega (arith, line-inside c.in-Ok.ensures.1)
 
-pub returns-then-test-ne0 : goal.returns-then-test-ne0
-returns-then-test-ne0 c = scan-fails c.loop-at.invariant c.loop-at-test.true (subst (λ (s : List ℕ). ReadsLine c.loop-at.least c.loop-at.number s c.first-line.result.test c.first-line.result.register c.first-line.result.byte c.first-line.result.length) (part-rest c.loop-at.at c.args.text.now) c.first-line.ensures) c.if-test-ne0.true
-
-pub overflow_add-at : goal.overflow_add-at
-overflow_add-at c = omega (arith, size-most (passes-test c.loop-at.invariant c.loop-at-test.true (subst (λ (s : List ℕ). ReadsLine c.loop-at.least c.loop-at.number s c.first-line.result.test c.first-line.result.register c.first-line.result.byte c.first-line.result.length) (part-rest c.loop-at.at c.args.text.now) c.first-line.ensures) c.if-test-ne0.false), length-drop c.loop-at.at c.args.text.now)
+pub slice_bounds-left-start : goal.slice_bounds-left-start
+slice_bounds-left-start c = omega (arith, line-inside c.in-Ok.ensures.1)
 
 pub overflow_add-least : goal.overflow_add-least
-overflow_add-least c =
-    let p = passes-test c.loop-at.invariant c.loop-at-test.true (subst (λ (s : List ℕ). ReadsLine c.loop-at.least c.loop-at.number s c.first-line.result.test c.first-line.result.register c.first-line.result.byte c.first-line.result.length) (part-rest c.loop-at.at c.args.text.now) c.first-line.ensures) c.if-test-ne0.false in
-    omega (arith, p.register-is, p.limits.register)
+overflow_add-least c = let p = c.in-Ok.ensures.1 in omega (arith, p.register-is, p.limits.register)
 
 pub overflow_add-number : goal.overflow_add-number
-overflow_add-number c = omega (arith, c.loop-at.invariant.few)
+overflow_add-number c = omega (arith, c.loop-left.invariant.few)
 
-pub loop-at-smaller : goal.loop-at-smaller
-loop-at-smaller c =
-    let p = passes-test c.loop-at.invariant c.loop-at-test.true (subst (λ (s : List ℕ). ReadsLine c.loop-at.least c.loop-at.number s c.first-line.result.test c.first-line.result.register c.first-line.result.byte c.first-line.result.length) (part-rest c.loop-at.at c.args.text.now) c.first-line.ensures) c.if-test-ne0.false in
-    omega (arith, p.size_is, size-most p, length-drop c.loop-at.at c.args.text.now, c.loop-at-test.true)
+pub loop-left-smaller : goal.loop-left-smaller
+loop-left-smaller c =
+    let e = part-rest c.in-Ok.line.length c.loop-left.left.now in
+    rw e (omega (arith, line-inside c.in-Ok.ensures.1, length-drop c.in-Ok.line.length c.loop-left.left.now))
 
-pub loop-at-preserved : goal.loop-at-preserved
-loop-at-preserved c = scan-next c.loop-at.invariant c.loop-at-test.true (subst (λ (s : List ℕ). ReadsLine c.loop-at.least c.loop-at.number s c.first-line.result.test c.first-line.result.register c.first-line.result.byte c.first-line.result.length) (part-rest c.loop-at.at c.args.text.now) c.first-line.ensures) c.if-test-ne0.false
+pub loop-left-preserved : goal.loop-left-preserved
+loop-left-preserved c =
+    let f = eqb-false _ _ (sym c.is_empty.ensures ∙ c.loop-left-test.true) in
+    let p = c.in-Ok.ensures in
+    subst (λ (s : List ℕ). Scanning c.args.text.now s (c.in-Ok.line.register + 1) (c.loop-left.number + 1)) (sym (part-rest c.in-Ok.line.length c.loop-left.left.now))
+    (scan-next c.loop-left.invariant (omega arith) p.0 p.1)
 
 pub overflow_sub-result : goal.overflow_sub-result
-overflow_sub-result c = omega (arith, c.loop-at.invariant.some)
+overflow_sub-result c = omega (arith, c.loop-left.invariant.some)
 
 pub returns : goal.returns
-returns c = scan-end c.loop-at.invariant c.loop-at-test.false (omega (arith, c.loop-at.invariant.some))
+returns c =
+    scan-end c.loop-left.left.now c.loop-left.invariant (eqb-true _ _ (sym c.is_empty.ensures ∙ c.loop-left-test.false)) (omega (arith, c.loop-left.invariant.some))

@@ -1,26 +1,14 @@
--- `sheet::reader::up_to` meets its contract. The loop's invariant: what is left says how many stand before.
+-- `sheet::reader::up_to` meets its contract: the place of the first, or the end.
 -- Assumes nothing.
-use native.Mathlib.Omega.{arith}
-use Rattle.sheet.proofs.Laws.Chars.{passing-here, passing-next, passing-end}
+use Rattle.std.proofs.Common.{rules, tests, ap, ◌∙◌, length, eqb}
+use Rattle.std.proofs.lemmas.Iterator.{YieldsList-from_slice}
+use Rattle.std.proofs.lemmas.Iterator.Search.{position_from_yields_List}
+use Rattle.std.specs.Prelude.{Option, unwrap_or}
+use Prim.Native.Nat.{ℕ}
+use Rattle.sheet.proofs.Laws.Chars.{up-found}
 use Rattle.sheet.proofs.reader.up_to.Goals as goal
 
-pub loop-i-init : goal.loop-i-init
-loop-i-init c = record { inside = omega arith; rest = omega arith }
-
-pub bounds-s-i : goal.bounds-s-i
-bounds-s-i c = omega arith
-
-pub returns-then-s-i : goal.returns-then-s-i
-returns-then-s-i c = passing-here _ c.loop-i.invariant c.loop-i-test.true c.if-s-i.true
-
-pub overflow_add-i : goal.overflow_add-i
-overflow_add-i c = omega arith
-
-pub loop-i-smaller : goal.loop-i-smaller
-loop-i-smaller c = omega arith
-
-pub loop-i-preserved : goal.loop-i-preserved
-loop-i-preserved c = passing-next _ c.loop-i.invariant c.loop-i-test.true c.if-s-i.false
-
 pub returns : goal.returns
-returns c = passing-end _ c.loop-i.invariant c.loop-i-test.false
+returns c =
+    let e = position_from_yields_List (λ (x : ℕ). eqb x c.args.c) _ _ c.position.result c.position.ensures.ran (YieldsList-from_slice c.args.s.now cc) (λ x b q k. search (rules, tests)) in
+    c.unwrap_or.ensures ∙ ap (λ (o : Option ℕ). unwrap_or o (length c.args.s.now)) e ∙ up-found c.args.c c.args.s.now

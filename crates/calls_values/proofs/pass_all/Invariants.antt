@@ -1,6 +1,0 @@
--- `calls_values::pass_all` is safe and ends: the turns that are left fall.
--- Assumes nothing.
-use Rattle.calls_values.proofs.pass_all.Given as goal
-
-abbrev pub decreases-loop-turns : goal.decreases-loop-turns
-decreases-loop-turns g l = l.turns
