@@ -149,7 +149,7 @@ struct bolsterweft_found {
  * Cost: linear in the bytes searched. Each false start among them costs at most one frame's length more: the worst capture, two
  * overlapping Nest heads in every ten bytes that each claim some 1,000, takes 197 times as long as good frames of its size (31 ms
  * for 64 KiB, measured).
- * Stack: 256 bytes.
+ * Stack: 192 bytes.
  *
  * Example:
  *
@@ -176,7 +176,7 @@ struct bolsterweft_payload {
  *   2  if the kind is not 1 to 5.
  *   5  if the bytes are not one frame.
  * Cost: linear in frame_length.
- * Stack: 256 bytes.
+ * Stack: 192 bytes.
  *
  * Example:
  *
@@ -217,7 +217,7 @@ struct bolsterweft_verdict {
  *   2  if the kind is not 1 to 5.
  *   3  if the place is beyond buffer_length.
  * Cost: linear in the frame's length.
- * Stack: 256 bytes.
+ * Stack: 192 bytes.
  *
  * Example:
  *
@@ -243,7 +243,7 @@ struct bolsterweft_count {
  *   5  if the bytes are not one Homiq frame, or its type is `a`.
  *   4  if the room is too short.
  * Cost: linear in frame_length.
- * Stack: 448 bytes.
+ * Stack: 384 bytes.
  *
  * Example:
  *
@@ -728,7 +728,7 @@ struct bolsterweft_entry {
  *   8  if the bytes are not a book.
  *   3  if it has no entry of that number.
  * Cost: linear in book_length. So a walk over all entries is quadratic; `bolsterweft_book_list` is not.
- * Stack: 16,384 bytes.
+ * Stack: 16,320 bytes.
  *
  * Example:
  *
@@ -842,7 +842,7 @@ struct bolsterweft_count bolsterweft_book_list_with(const uint8_t *book, size_t 
  *   5  if the bytes are not one frame of the kind, or the new book would be over its limits.
  *   4  if the room is too short.
  * Cost: linear in book_length and frame_length.
- * Stack: 16,512 bytes.
+ * Stack: 16,448 bytes.
  *
  * Example:
  *

@@ -12,7 +12,7 @@ import sys
 ROOT = pathlib.Path(__file__).resolve().parent.parent
 FOREIGN = {"memcpy"}
 # `bolsterweft_encode` puts the content of a message together in cleared memory of its own: a refused call may not alter the lent room. The
-# listing of a book notes the places of its lines in memory that begins with ones.
+# listing of a book notes the places of its payloads in memory that begins with zeros.
 CLEARS, TO_CLEAR = {"bolsterweft_encode", "bolsterweft_book_list"}, {"memset"}
 WRITABLE, SYMBOLS, LOCAL = 1, 2, 0
 

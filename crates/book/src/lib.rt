@@ -129,7 +129,9 @@ fn list_opened(
     requires { Noting book.now count places.now }
     ensures { WritesBookLinesByText book.now text.now room.old result room.new }
 {
-    let _size = sheet::map(text, map)?;
+    let Ok(_) = sheet::map(text, map) else {
+        return Err(Refusal::BadSheet);
+    };
     listing::write(book, count, places, map, room)
 }
 

@@ -62,6 +62,15 @@ impl Number {
     }
 
     pub(crate) fn i16(self) -> i16 {
-        self.u16().cast_signed()
+        self.with_sign(1 << 15).u16().cast_signed()
+    }
+
+    // A number from a type's sign on is below zero, also where the sign is cut off.
+    fn with_sign(self, sign: u64) -> Number {
+        if self.0 < sign {
+            self
+        } else {
+            Number(self.0 | sign)
+        }
     }
 }

@@ -41,8 +41,10 @@ pub fn encode(kind: u8, message: Message, content: &[u8], room: &mut [u8]) -> Wr
 fn write_allowed(message: Message, content: &[u8], room: &mut [u8]) -> Written
     ensures { WritesMeant (Says message content.now) room.old result room.new }
 {
-    messages::allowed(message, content)?;
-    write(message, content, room)
+    match messages::allowed(message, content) {
+        Ok(()) => write(message, content, room),
+        Err(why) => Err(why),
+    }
 }
 
 // Writes the frame of a message within its limits; of another nothing is promised, and nothing is tested here.

@@ -102,6 +102,9 @@ pub fn why(kind: u8, buffer: &[u8], place: usize) -> Result<Option<Failure>, Ref
     if buffer.len() < place {
         Err(Refusal::NoPlace)
     } else {
-        Ok(kinds::at(kind, buffer, place).err())
+        match kinds::at(kind, buffer, place) {
+            Ok(_) => Ok(None),
+            Err(failure) => Ok(Some(failure)),
+        }
     }
 }

@@ -1,5 +1,5 @@
 // Homiq: `<;CMD;VAL;SRC;DST;ID;TYPE;CRC;>` CR LF.
-ghost use Rattle.std.specs.Prelude.{true, ◌≡◌, [], ◌∷◌, ◌≤◌, ◌<◌, ◌^◌, length, take};
+ghost use Rattle.std.specs.Prelude.{true, ◌≡◌, [], ◌∷◌, ◌+◌, ◌≤◌, ◌<◌, ◌^◌, length, take};
 ghost use Rattle.digits.specs.Paper.Ascii.{ascii};
 ghost use Rattle.digits.specs.Paper.Decimal.{decimal};
 ghost use Rattle.digits.specs.Paper.Read.{Decides};
@@ -12,7 +12,7 @@ ghost use Rattle.layouts.specs.Paper.Homiq.{homiq, field_char, without_separator
 ghost use Rattle.layouts.specs.Paper.Starts.{homiq_starts};
 ghost use Rattle.layouts.specs.Paper.Made.{Wire, Payload};
 ghost use Rattle.layouts.specs.Work.Heads.{Ends, starts, leading};
-ghost use Rattle.layouts.specs.Work.Homiq.{field_len, is_figure, NumberAt, FormAt, head_len, five_len};
+ghost use Rattle.layouts.specs.Work.Homiq.{field_len, is_figure, NumberAt, FormAt, head_len, five_within};
 
 use super::{Compared, Failure, Frame, Test, words};
 use checks::homiq::Crc;
@@ -59,10 +59,10 @@ fn laid_out(s: &[u8]) -> Option<Form>
 {
     let before = head(s)?;
     let claimed = number(&s[before..], 255)?;
-    let len = words::word_at(s, before + claimed.end, b">\r\n")?;
+    let len = words::word_at(s, before + closed(claimed), b">\r\n")?;
     Some(Form {
         before,
-        crc: claimed.value,
+        crc: claimed,
         len,
     })
 }
@@ -92,7 +92,7 @@ pub fn crc(s: &[u8]) -> u8
 pub fn is_payload(p: &[u8]) -> bool
     ensures { Decides ((w : Wire) × Payload p.now w) result }
 {
-    let Some(last) = five(p) else {
+    let Some(last) = five(p, LAST_ID) else {
         return false;
     };
     if p.len() != last + 1 {
@@ -101,16 +101,17 @@ pub fn is_payload(p: &[u8]) -> bool
     is_type(p[last])
 }
 
-// The end of CMD to ID, each with its `;`.
-fn five(p: &[u8]) -> Option<usize>
-    ensures { Ends five_len p.now result }
+// The end of CMD to ID, each with its `;`, where an ID is at most `last`.
+fn five(p: &[u8], last: u16) -> Option<usize>
+    requires { last < 1000 }
+    ensures { Ends (five_within last) p.now result }
 {
     let cmd = field(p, 8)?;
     let val = cmd + field(&p[cmd..], 16)?;
     let src = val + field(&p[val..], 4)?;
     let dst = src + field(&p[src..], 4)?;
-    let id = number(&p[dst..], LAST_ID)?;
-    Some(dst + id.end)
+    let id = number(&p[dst..], last)?;
+    Some(dst + closed(id))
 }
 
 fn is_type(c: u8) -> bool
@@ -127,7 +128,7 @@ fn head(s: &[u8]) -> Option<usize>
     requires { starts (ascii "<;") s.now ≡ true }
     ensures { Ends head_len s.now result }
 {
-    let id = 2 + five(&s[2..])?;
+    let id = 2 + five(&s[2..], LAST_ID)?;
     words::word_at(s, id, b"s;").or(words::word_at(s, id, b"a;"))
 }
 
@@ -182,15 +183,10 @@ fn is_character(c: u8) -> bool
     c != b'>'
 }
 
-// A number that has been read: where it ends, and what it is. Its digits are read once, for both.
-#[derive(Clone, Copy)]
-struct Numeral {
-    end: usize,
-    value: u16,
-}
-
-// The number of at most `most` at the head of s; its end is that of its `;`.
-fn number(s: &[u8], most: u16) -> Option<Numeral>
+// The number of at most `most` at the head of s, with its `;`. (How long both are, `closed` tells: an answer with a number and its end goes through
+// memory. With that, and with a call for it in `frame`, short frames cost the search a quarter more.)
+#[inline(always)]
+fn number(s: &[u8], most: u16) -> Option<u16>
     requires { most < 1000 }
     ensures { NumberAt most s.now result }
 {
@@ -210,10 +206,15 @@ fn number(s: &[u8], most: u16) -> Option<Numeral>
     if s[n] != b';' {
         return None;
     }
-    Some(Numeral {
-        end: n + 1,
-        value: v,
-    })
+    Some(v)
+}
+
+// How long a number below 1,000 is with its `;`.
+fn closed(v: u16) -> usize
+    requires { v < 1000 }
+    ensures { result ≡ length (decimal v) + 1 }
+{
+    width(v) + 1
 }
 
 // How many decimal digits a number below 1,000 has.
@@ -230,24 +231,31 @@ fn width(v: u16) -> usize
     3
 }
 
+// Digits that have been read: where they end, and the number that they are.
+#[derive(Clone, Copy)]
+struct Numeral {
+    end: usize,
+    value: u16,
+}
+
 // The decimal digits at the head of s: how many there are, and the number that they are. `0` is 48, so that a digit's character
-// ends in its value. (The loop ends at a constant, so that the compiler makes four steps of it.)
+// ends in its value. (The loop ends with the slice. One that ends at 4 becomes four steps, and short frames cost a twentieth more.)
 fn figures(s: &[u8]) -> Numeral
     requires { length s.now ≤ 4 }
     ensures end_value { result.end ≡ leading is_figure s.now }
     ensures value_value { result.value ≡ guess 0 (take result.end s.now) }
 {
     let mut v: u16 = 0;
-    for i in 0..4 {
-        if s.len() <= i {
-            return Numeral { end: i, value: v };
-        }
+    for i in 0..s.len() {
         if !is_figure(s[i]) {
             return Numeral { end: i, value: v };
         }
         v = v * 10 + (s[i] % 16) as u16;
     }
-    Numeral { end: 4, value: v }
+    Numeral {
+        end: s.len(),
+        value: v,
+    }
 }
 
 fn is_figure(c: u8) -> bool

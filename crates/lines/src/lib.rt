@@ -88,7 +88,9 @@ fn write_opened(
     ensures { WritesLineByText kind frame.now at text.now room.old result room.new }
 {
     let Decoded { message, from, to } = messages::decode(kind, frame)?;
-    let _size = sheet::map(text, opened)?;
+    let Ok(_) = sheet::map(text, opened) else {
+        return Err(Refusal::BadSheet);
+    };
     placed(message, &frame[from..to], at, frame.len(), opened, room, 0)
 }
 
@@ -124,7 +126,9 @@ pub fn put_content(
 ) -> Result<usize, Refusal>
     ensures { PutsContent (sheet_in map.now) tag payload.now at len room.old to result room.new }
 {
-    let message = messages::of(tag, payload)?;
+    let Ok(message) = messages::of(tag, payload) else {
+        return Err(Refusal::OutOfLimits);
+    };
     Ok(line(message, payload, at, len, map, room, to))
 }
 
@@ -153,14 +157,15 @@ pub fn measure(kind: u8, capture: &[u8], place: usize, map: &[u8]) -> Result<Mea
     ensures { Measures (sheet_in map.now) kind capture.now place result }
 {
     let mut none = [0u8; 1];
-    match attempt(kind, capture, place, true, map, &mut none, 0)? {
-        Tried::At(listed) => Ok(Measured {
+    match attempt(kind, capture, place, true, map, &mut none, 0) {
+        Ok(Tried::At(listed)) => Ok(Measured {
             start: listed.start,
             len: listed.len,
             size: listed.behind,
         }),
         // never: a line that is put whatever the room is leaves no doubt
-        Tried::Unsure(_) => Err(Refusal::NoRoom),
+        Ok(Tried::Unsure(_)) => Err(Refusal::NoRoom),
+        Err(why) => Err(why),
     }
 }
 

@@ -124,6 +124,8 @@ pub fn for_panel(message: Response) -> Result<Climate, Refusal>
             temperature,
             humidity,
         } => Ok(panel::pair(temperature, humidity)),
+        // (A state has voltages, and no counts.)
+        Response::State => Err(Refusal::OutOfLimits),
         _ => Err(Refusal::OutOfLimits),
     }
 }

@@ -3,6 +3,7 @@
 // frame; and a last line, `end`, or `refused` and a number. All that is said of a verdict is proved of `frames::why`.
 #![tactic(auto)]
 
+mod room;
 mod words;
 
 ghost use Rattle.std.specs.Prelude.{◌≤◌, ◌<◌, length};
@@ -12,8 +13,8 @@ use digits::{decimal, refusal};
 use frames::kinds;
 use frames::kinds::Kind;
 use layouts::Test;
-use std::io;
-use std::io::{BufWriter, Read, Write};
+use room::Room;
+use std::io::{Read, Write};
 use words::Failed;
 
 // No capture that is read is longer.
@@ -21,20 +22,22 @@ const MOST: usize = 65534;
 
 fn main(rt: HostRuntime) {
     let mut input = [0u8; 65600];
-    with_input(&rt, &mut input);
+    let mut room = [0u8; 8192];
+    with_rooms(&mut rt.stdin(), &mut rt.stdout(), &mut input, &mut room);
 }
 
-// A head, and a byte more than a capture may have, so that a longer one shows. It is lent by its type, so that no proof has to count it. The
-// status tells nothing: what could not be written shows by the last line, which is not there.
-fn with_input<R: Input + Print + Alloc>(rt: &R, input: &mut [u8; 65600]) {
-    let _ = run(rt, input);
-}
-
-fn run<R: Input + Print + Alloc>(rt: &R, input: &mut [u8]) -> io::Result<()> {
-    let mut to = BufWriter::new(rt.alloc(), io::writer(rt))?;
-    let n = read_full(&mut rt.reader(), input);
-    answer(input.get(..n).unwrap_or_default(), &mut to)?;
-    to.flush()
+// A head, and a byte more than a capture may have, so that a longer one shows; and room for many lines. They are lent by their types, so
+// that no proof has to count them.
+fn with_rooms(
+    source: &mut impl Read,
+    to: &mut impl Write,
+    input: &mut [u8; 65600],
+    room: &mut [u8; 8192],
+) {
+    let n = read_full(source, input);
+    let mut room = Room::new(room);
+    answer(input.get(..n).unwrap_or_default(), to, &mut room);
+    room.print(to);
 }
 
 // Reads until the room is full or the input ends; how many bytes. A read that fails is the end of the input.
@@ -50,50 +53,36 @@ fn read_full(source: &mut impl Read, s: &mut [u8]) -> usize {
     done
 }
 
-// Why an answer ends before its last line: what is asked is refused, or the answer cannot be written.
-#[derive(Debug, Drop)]
-enum Stop {
-    Refused(Refusal),
-    Unwritten(io::Error),
-}
-
-impl From<Refusal> for Stop {
-    fn from(why: Refusal) -> Stop {
-        Stop::Refused(why)
-    }
-}
-
-impl From<io::Error> for Stop {
-    fn from(why: io::Error) -> Stop {
-        Stop::Unwritten(why)
-    }
-}
-
-fn answer(input: &[u8], to: &mut impl Write) -> io::Result<()> {
+fn answer(input: &[u8], to: &mut impl Write, room: &mut Room<'_>) {
     let mut parts = input.splitn(2, |b| *b == b'\n');
     let head = parts.next().unwrap_or_default();
     let capture = parts.next().unwrap_or_default();
-    match asked(head, capture, to) {
-        Ok(()) => writeln!(to, "end"),
-        Err(Stop::Refused(why)) => {
-            let number = refusal::number(why);
-            writeln!(to, "refused {number}")
+    match asked(head, capture, to, room) {
+        Ok(()) => room.put(b"end\n"),
+        Err(why) => {
+            room.put(b"refused ");
+            room.put_whole(refusal::number(why) as u64);
+            room.put(b"\n");
         }
-        Err(Stop::Unwritten(why)) => Err(why),
     }
 }
 
 // Answers for one place if the head names one, else for the whole capture.
-fn asked(head: &[u8], capture: &[u8], to: &mut impl Write) -> Result<(), Stop> {
+fn asked(
+    head: &[u8],
+    capture: &[u8],
+    to: &mut impl Write,
+    room: &mut Room<'_>,
+) -> Result<(), Refusal> {
     let kind = kind_of(head).ok_or(Refusal::NoKind)?;
     if MOST < capture.len() {
-        return Err(Stop::Refused(Refusal::OutOfLimits));
+        return Err(Refusal::OutOfLimits);
     }
     if head.len() == 1 {
-        return through(kind, capture, to);
+        return through(kind, capture, to, room);
     }
     let place = place_of(head).ok_or(Refusal::NoPlace)?;
-    at(kind, capture, place, to)
+    at(kind, capture, place, room)
 }
 
 // The kind whose digit a head begins with.
@@ -109,25 +98,37 @@ fn place_of(head: &[u8]) -> Option<usize> {
 }
 
 // Says what stands at one place.
-fn at(kind: Kind, capture: &[u8], place: usize, to: &mut impl Write) -> Result<(), Stop> {
+fn at(kind: Kind, capture: &[u8], place: usize, room: &mut Room<'_>) -> Result<(), Refusal> {
     match frames::why(kinds::number(kind), capture, place)? {
-        Some(failure) => writeln!(to, "{}", Failed { kind, failure })?,
+        Some(failure) => Failed { kind, failure }.put(room),
         None => {
             let len = frame_len(kind, capture, place);
-            writeln!(to, "none: a frame of {len} bytes stands here")?;
+            room.put(b"none: a frame of ");
+            room.put_whole(len as u64);
+            room.put(b" bytes stands here");
         }
     }
+    room.put(b"\n");
     Ok(())
 }
 
 // Goes through a capture from its start: past each frame, and else place by place. A place that has a start mark and no frame gets a line.
-fn through(kind: Kind, capture: &[u8], to: &mut impl Write) -> Result<(), Stop> {
+fn through(
+    kind: Kind,
+    capture: &[u8],
+    to: &mut impl Write,
+    room: &mut Room<'_>,
+) -> Result<(), Refusal> {
     let mut place = 0;
     while place < capture.len() {
         let len = match frames::why(kinds::number(kind), capture, place)? {
             Some(failure) => {
                 if failure.test != Test::Start {
-                    writeln!(to, "{place}: {}", Failed { kind, failure })?;
+                    room.put_whole(place as u64);
+                    room.put(b": ");
+                    Failed { kind, failure }.put(room);
+                    room.put(b"\n");
+                    room.make_room(to);
                 }
                 1
             }

@@ -19,6 +19,12 @@ part_at a e s i h = rw (get_or-take, get_or-drop)
 pub part-all : (s : List ℕ) → part 0 (length s) s ≡ s
 part-all s = take_all (length s - 0) s (omega arith)
 
+pub from_0 : (s : List ℕ) (k : ℕ) → k ≡ 0 → take (length s - k) (drop k s) ≡ s
+from_0 s k e = rw e (part-all s)
+
+pub but_0 : (s : List ℕ) (k : ℕ) → k ≡ 0 → take (length s - k) s ≡ s
+but_0 s k e = take_all (length s - k) s (omega arith)
+
 pub part-front : (e : ℕ) (s : List ℕ) → part 0 e s ≡ take e s
 part-front e s = let z : e - 0 ≡ e = omega arith in rw z
 

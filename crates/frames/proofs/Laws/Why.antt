@@ -8,16 +8,13 @@ use native.Mathlib.Decide.{dec_le}
 use native.Mathlib.Omega.{arith}
 use lib.ListN.{length, drop, length-drop}
 use lib.Seq.{length-take-le}
-use Rattle.std.specs.Result.{result_err}
 use Rattle.std.specs.Prelude.{Option, Some, None, Result, Ok, Err}
 use Rattle.digits.proofs.Laws.Refusals.{answered}
 use Rattle.digits.specs.Paper.Refusals.{answers, refuses}
 use Rattle.digits.specs.declared.refusal.Refusal.{Refusal}
 use Rattle.digits.specs.declared.refusal.Refusal.TheVariants.{NoKind, NoPlace}
 use Rattle.layouts.proofs.Laws.Buses.{a-verdict, frame-none, none-frame, head-begun, head-long}
-use Rattle.layouts.specs.Paper.Judged.{Head, Judged, failed_in}
-use Rattle.layouts.specs.declared.Failure.{Failure}
-use Rattle.layouts.specs.declared.Frame.{Frame}
+use Rattle.layouts.specs.Paper.Judged.{Head, Judged}
 use Rattle.layouts.specs.Paper.Layout as layout
 use Rattle.frames.specs.Paper.Kinds.{number_of, layout_of, known, Resolves, payload_from, payload_to}
 use Rattle.frames.specs.Paper.Search.{FrameAt, Searches}
@@ -29,11 +26,6 @@ use Rattle.frames.proofs.Laws.Kinds.{bus_of, known_of, as-frame, kind-right, res
 use Rattle.frames.proofs.Laws.Places.{part-take, known_at}
 
 -- ---- what the code answers
-
--- `err` is the failed test of an answer
-pub failed-is : (r : Result Frame Failure) → result_err r ≡ failed_in r
-failed-is (Ok f) = refl
-failed-is (Err f) = refl
 
 module _ {k : ℕ} {s : List ℕ} {place : ℕ} where
   pub why-no-kind : known k ≡ false → Whys k s place (Err NoKind)

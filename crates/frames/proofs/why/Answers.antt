@@ -3,7 +3,7 @@
 use mathlib.Core.Path.{sym, ◌∙◌}
 use Rattle.std.proofs.lemmas.Result.{err_from_is_err_and}
 use Rattle.frames.proofs.Laws.Kinds.{known_of, asked-kind, asked-none}
-use Rattle.frames.proofs.Laws.Why.{failed-is, why-no-kind, why-no-place, why-judged}
+use Rattle.frames.proofs.Laws.Why.{why-no-kind, why-no-place, why-judged}
 use Rattle.frames.proofs.why.Goals as goal
 
 pub returns-in_err-kind : goal.returns-in_err-kind
@@ -17,7 +17,12 @@ returns-then-buffer-place c =
     let e = asked-kind c.of.result _ c.of.ensures (sym c.ok_or.ensures.value ∙ c.in_ok-kind.was) in
     why-no-place (known_of c.in_ok-kind.kind e) c.if-buffer-place.true
 
-pub returns-else-buffer-place : goal.returns-else-buffer-place
-returns-else-buffer-place c =
+pub returns-in-Ok : goal.returns-in-Ok
+returns-in-Ok c =
     let e = asked-kind c.of.result _ c.of.ensures (sym c.ok_or.ensures.value ∙ c.in_ok-kind.was) in
-    rw (c.err.ensures.value, failed-is c.at.result) (why-judged c.in_ok-kind.kind e c.if-buffer-place.false c.at.ensures.judged)
+    why-judged c.in_ok-kind.kind e c.if-buffer-place.false c.in-Ok.ensures.judged
+
+pub returns-in-Err : goal.returns-in-Err
+returns-in-Err c =
+    let e = asked-kind c.of.result _ c.of.ensures (sym c.ok_or.ensures.value ∙ c.in_ok-kind.was) in
+    why-judged c.in_ok-kind.kind e c.if-buffer-place.false c.in-Err.ensures.judged

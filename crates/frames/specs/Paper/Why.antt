@@ -43,7 +43,8 @@ abbrev pub Whys : ℕ → List ℕ → ℕ → Result Failing Refusal → Type 0
 Whys k s place r =
     Answers zero_failing (WhyCause k s place) (JudgedAt k s place) (verdict_refusal r) (verdict_failing r)
 
--- the numbers of the tests, for C: "start, length, digits or fields, first check, second check .., or none"; 0 for none
+-- the numbers of the tests, for C: "start, length, digits or fields, first check, second check .., or none"; none has 0
+-- (`judgement` of `host`, Paper/Why)
 abbrev pub test_number : Test → ℕ
 test_number Start = 1
 test_number Length = 2

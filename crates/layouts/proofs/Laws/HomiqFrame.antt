@@ -18,7 +18,7 @@ use Rattle.checks.specs.Paper.Check.{check}
 use Rattle.layouts.specs.Paper.Homiq.{last_id, joined, homiq, without_separators}
 use Rattle.layouts.specs.Paper.Layout.{Form}
 use Rattle.layouts.specs.Work.Heads.{Lasts, Ends, starts, word_len, on, onward, and_then, or_else}
-use Rattle.layouts.specs.Work.Homiq.{field_len, number_in, number_len, type_len, head_len, five_len, homiq_form_len, homiq_pair, homiq_to}
+use Rattle.layouts.specs.Work.Homiq.{field_len, number_in, number_len, type_len, head_len, five_within, five_len, homiq_form_len, homiq_pair, homiq_to}
 use Rattle.layouts.specs.declared.Compared.{Compared}
 use Rattle.layouts.proofs.Laws.Buses.{same-pair}
 use Rattle.layouts.proofs.Laws.Heads.{taken, inside, back-of, on_both, on_none, then-some, then-none, then-stops, or-first, or-second, word-there}
@@ -64,7 +64,7 @@ before_type = and_then before_five (λ _. number_len last_id)
 
 module _ (s : List ℕ) (mark : starts (ascii "<;") s ≡ true) where
   before-type : before_type s ≡ on 2 (five_len (drop 2 s))
-  unfolding five_len
+  unfolding five_within
   before-type =
       behind-then before_five four_len (number_len last_id) s
       (behind-then before_four three_len (field_len 4) s

@@ -16,7 +16,7 @@ use Rattle.digits.specs.Paper.Read.{Decides, holds, fails}
 use Rattle.layouts.specs.Paper.Chars.{one_of}
 use Rattle.layouts.specs.Paper.Homiq.{last_id, Limits, payload}
 use Rattle.layouts.specs.Paper.Made.{Wire, closed, homiq_of, Payload}
-use Rattle.layouts.specs.Work.Homiq.{field_len, number_len, five_len}
+use Rattle.layouts.specs.Work.Homiq.{field_len, number_len, five_within, five_len}
 use Rattle.layouts.specs.Work.Heads.{Ends, and_then}
 use Rattle.layouts.proofs.Laws.Heads.{Right, Head, Then, join, glue, then-right, then-some, then-none, then-stops}
 use Rattle.layouts.proofs.Laws.HomiqFields.{Fielded, NumberField, field-right, number-right}
@@ -31,7 +31,7 @@ abbrev Five : List ℕ → Type 0
 Five = Then (Then (Then (Then (Fielded 8) (λ _. Fielded 16)) (λ _. Fielded 4)) (λ _. Fielded 4)) (λ _. NumberField last_id)
 
 five-right : Right Five five_len
-unfolding five_len
+unfolding five_within
 five-right =
     then-right (then-right (then-right (then-right (field-right 8) (λ w a. field-right 16)) (λ w a. field-right 4)) (λ w a. field-right 4))
     (λ w a. number-right last_id (omega arith))
@@ -46,49 +46,51 @@ three_len = and_then two_len (λ _. field_len 4)
 abbrev pub four_len : List ℕ → ℕ
 four_len = and_then three_len (λ _. field_len 4)
 
-pub without-five : (p : List ℕ) → four_len p ≡ 0 → five_len p ≡ 0
-unfolding five_len
-without-five p z = then-stops four_len (number_len last_id) z
+-- .. at any highest ID
+module _ (last : ℕ) (p : List ℕ) where
+  pub without-five : four_len p ≡ 0 → five_within last p ≡ 0
+  unfolding five_within
+  without-five z = then-stops four_len (number_len last) z
 
-pub without-four : (p : List ℕ) → three_len p ≡ 0 → five_len p ≡ 0
-without-four p z = without-five p (then-stops three_len (field_len 4) z)
+  pub without-four : three_len p ≡ 0 → five_within last p ≡ 0
+  without-four z = without-five (then-stops three_len (field_len 4) z)
 
-pub without-three : (p : List ℕ) → two_len p ≡ 0 → five_len p ≡ 0
-without-three p z = without-four p (then-stops two_len (field_len 4) z)
+  pub without-three : two_len p ≡ 0 → five_within last p ≡ 0
+  without-three z = without-four (then-stops two_len (field_len 4) z)
 
-pub without-two : (p : List ℕ) → field_len 8 p ≡ 0 → five_len p ≡ 0
-without-two p z = without-three p (then-stops (field_len 8) (field_len 16) z)
+  pub without-two : field_len 8 p ≡ 0 → five_within last p ≡ 0
+  without-two z = without-three (then-stops (field_len 8) (field_len 16) z)
 
--- where the code found them
-module _ (p : List ℕ) {a : ℕ} (one : Ends (field_len 8) p (Some a)) where
-  pub no-val : field_len 16 (part a (length p) p) ≡ 0 → five_len p ≡ 0
-  no-val z = without-three p (then-none (field_len 8) (field_len 16) one z)
+  -- where the code found them
+  module _ {a : ℕ} (one : Ends (field_len 8) p (Some a)) where
+    pub no-val : field_len 16 (part a (length p) p) ≡ 0 → five_within last p ≡ 0
+    no-val z = without-three (then-none (field_len 8) (field_len 16) one z)
 
-  module _ {b : ℕ} (two : Ends (field_len 16) (part a (length p) p) (Some b)) where
-    at-two : Ends two_len p (Some (a + b))
-    at-two = then-some (field_len 8) (field_len 16) one two
+    module _ {b : ℕ} (two : Ends (field_len 16) (part a (length p) p) (Some b)) where
+      at-two : Ends two_len p (Some (a + b))
+      at-two = then-some (field_len 8) (field_len 16) one two
 
-    pub no-src : field_len 4 (part (a + b) (length p) p) ≡ 0 → five_len p ≡ 0
-    no-src z = without-four p (then-none two_len (field_len 4) at-two z)
+      pub no-src : field_len 4 (part (a + b) (length p) p) ≡ 0 → five_within last p ≡ 0
+      no-src z = without-four (then-none two_len (field_len 4) at-two z)
 
-    module _ {c : ℕ} (three : Ends (field_len 4) (part (a + b) (length p) p) (Some c)) where
-      at-three : Ends three_len p (Some (a + b + c))
-      at-three = then-some two_len (field_len 4) at-two three
+      module _ {c : ℕ} (three : Ends (field_len 4) (part (a + b) (length p) p) (Some c)) where
+        at-three : Ends three_len p (Some (a + b + c))
+        at-three = then-some two_len (field_len 4) at-two three
 
-      pub no-dst : field_len 4 (part (a + b + c) (length p) p) ≡ 0 → five_len p ≡ 0
-      no-dst z = without-five p (then-none three_len (field_len 4) at-three z)
+        pub no-dst : field_len 4 (part (a + b + c) (length p) p) ≡ 0 → five_within last p ≡ 0
+        no-dst z = without-five (then-none three_len (field_len 4) at-three z)
 
-      module _ {d : ℕ} (four : Ends (field_len 4) (part (a + b + c) (length p) p) (Some d)) where
-        at-four : Ends four_len p (Some (a + b + c + d))
-        at-four = then-some three_len (field_len 4) at-three four
+        module _ {d : ℕ} (four : Ends (field_len 4) (part (a + b + c) (length p) p) (Some d)) where
+          at-four : Ends four_len p (Some (a + b + c + d))
+          at-four = then-some three_len (field_len 4) at-three four
 
-        pub no-id : number_len last_id (part (a + b + c + d) (length p) p) ≡ 0 → five_len p ≡ 0
-        unfolding five_len
-        no-id z = then-none four_len (number_len last_id) at-four z
+          pub no-id : number_len last (part (a + b + c + d) (length p) p) ≡ 0 → five_within last p ≡ 0
+          unfolding five_within
+          no-id z = then-none four_len (number_len last) at-four z
 
-        pub five-there : {e : ℕ} → Ends (number_len last_id) (part (a + b + c + d) (length p) p) (Some e) → Ends five_len p (Some (a + b + c + d + e))
-        unfolding five_len
-        five-there five = then-some four_len (number_len last_id) at-four five
+          pub five-there : {e : ℕ} → Ends (number_len last) (part (a + b + c + d) (length p) p) (Some e) → Ends (five_within last) p (Some (a + b + c + d + e))
+          unfolding five_within
+          five-there five = then-some four_len (number_len last) at-four five
 
 -- ---- a payload: those, and TYPE
 

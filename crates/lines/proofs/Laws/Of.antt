@@ -15,7 +15,7 @@ use Rattle.digits.specs.declared.refusal.Refusal.{Refusal}
 use Rattle.digits.specs.declared.refusal.Refusal.TheVariants.{OutOfLimits}
 use Rattle.digits.proofs.Laws.Refusals.{answered, cause-at, cause-of, some_number}
 use Rattle.messages.specs.Paper.Allowed.{StandingCause, outside, taken, Allows}
-use Rattle.messages.specs.Paper.Meant.{ContentWith, MessageWith, Means}
+use Rattle.messages.specs.Paper.Meant.{ContentWith, MeantCause, no-message as no-content, MessageWith, Means}
 use Rattle.messages.specs.Paper.Message.{Message}
 use Rattle.messages.specs.Paper.Says.{Says}
 use Rattle.messages.specs.Paper.Table.{Above, Good}
@@ -127,3 +127,10 @@ module _ (t : Tag) (p : List ℕ) where
 
   pub not-meant : {sheet : Option Lookup} {at len : ℕ} (why : Refusal) {room : List ℕ} {to : ℕ} → Means (ContentWith t p) (Err why) → PutsContent sheet t p at len room to (Err why) room
   not-meant why a = refuses (some_number why) (cause-of a)
+
+  -- the one cause is 5
+  pub meant-outside : {sheet : Option Lookup} {at len : ℕ} (why : Refusal) {room : List ℕ} {to : ℕ} → Means (ContentWith t p) (Err why) → PutsContent sheet t p at len room to (Err OutOfLimits) room
+  meant-outside why a = refuses (lit< tt) (subst (First (MeantCause (ContentWith t p)) refusal_order) (is-5 (cause-at (cause-of a) (some_number why))) (cause-of a))
+    where
+      is-5 : {no : ℕ} → MeantCause (ContentWith t p) no → no ≡ 5
+      is-5 (no-content f) = refl

@@ -1,6 +1,6 @@
 -- `host::answers::kind_byte` meets its contract.
 -- Assumes nothing.
-use mathlib.Core.Path.{◌≡◌}
+use mathlib.Core.Path.{◌≡◌, subst}
 use Prim.Native.Nat.{ℕ, ◌<◌}
 use native.Mathlib.Omega.{arith}
 use Rattle.std.specs.Prelude.{Result, Ok, Err, OkIff}
@@ -14,4 +14,5 @@ byte (Ok x) i e = rw (e, i.1) (held i.0)
 byte (Err x) i e = rw e (beyond (omega (arith, i)))
 
 pub returns : goal.returns
-returns c = byte c.try_from.result c.try_from.ensures c.unwrap_or.ensures
+returns c =
+    byte c.try_from.result (subst (λ (x : ℕ). OkIff c.try_from.result (x < 256) x) (omega arith) c.try_from.ensures) c.unwrap_or.ensures

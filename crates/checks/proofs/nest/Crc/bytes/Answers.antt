@@ -1,6 +1,11 @@
--- `checks::nest::Crc::bytes` meets its contract: the engine has the check's polynomial.
+-- `checks::nest::Crc::bytes` meets its contract: the engine has the check's polynomial, and is given all of the bytes.
 -- Assumes nothing.
+use mathlib.Core.Path.{ap, ◌∙◌}
+use borrow.Author.Rules.{rules}
+use Rattle.digits.proofs.Laws.Parts.{but_0}
+use Rattle.checks.specs.Paper.Check.{feed}
+use Rattle.checks.specs.Paper.Buses.{nest_crc}
 use Rattle.checks.proofs.nest.Crc.bytes.Goals as goal
 
 pub returns : goal.returns
-returns c = c.bytes.ensures
+returns c = c.bytes.ensures ∙ ap (feed nest_crc c.args.self.value) (search (rules, but_0))
