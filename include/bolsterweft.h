@@ -699,7 +699,7 @@ struct bolsterweft_entries {
  * Refuses, in this order:
  *   8  if the bytes are not a book.
  * Cost: linear in book_length.
- * Stack: 16,320 bytes.
+ * Stack: 256 bytes.
  *
  * Example:
  *
@@ -728,7 +728,7 @@ struct bolsterweft_entry {
  *   8  if the bytes are not a book.
  *   3  if it has no entry of that number.
  * Cost: linear in book_length. So a walk over all entries is quadratic; `bolsterweft_book_list` is not.
- * Stack: 16,320 bytes.
+ * Stack: 320 bytes.
  *
  * Example:
  *
@@ -750,7 +750,7 @@ struct bolsterweft_entry bolsterweft_book_entry(const uint8_t *book, size_t book
  *   3  if it has no entry of that number.
  *   4  if the room is too short.
  * Cost: linear in book_length.
- * Stack: 16,640 bytes.
+ * Stack: 640 bytes.
  *
  * Example:
  *
@@ -774,7 +774,7 @@ struct bolsterweft_count bolsterweft_book_line(const uint8_t *book, size_t book_
  *   3  if it has no entry of that number.
  *   4  if the room is too short.
  * Cost: linear in book_length.
- * Stack: 16,640 bytes.
+ * Stack: 640 bytes.
  *
  * Example:
  *
@@ -796,7 +796,7 @@ struct bolsterweft_count bolsterweft_book_line_with(const uint8_t *book, size_t 
  *   8  if the bytes are not a book.
  *   4  if the room is too short.
  * Cost: linear in book_length.
- * Stack: 16,704 bytes.
+ * Stack: 16,768 bytes.
  *
  * Example:
  *
@@ -817,7 +817,7 @@ struct bolsterweft_count bolsterweft_book_list(const uint8_t *book, size_t book_
  *   8  if the bytes are not a book.
  *   4  if the room is too short.
  * Cost: linear in book_length.
- * Stack: 16,704 bytes.
+ * Stack: 16,768 bytes.
  *
  * Example:
  *
@@ -842,7 +842,7 @@ struct bolsterweft_count bolsterweft_book_list_with(const uint8_t *book, size_t 
  *   5  if the bytes are not one frame of the kind, or the new book would be over its limits.
  *   4  if the room is too short.
  * Cost: linear in book_length and frame_length.
- * Stack: 16,448 bytes.
+ * Stack: 320 bytes.
  *
  * Example:
  *

@@ -106,7 +106,7 @@ pub(crate) fn two(s: &[u8], at: usize) -> usize
 }
 
 // The number of four bytes at a place.
-fn four(s: &[u8], at: usize) -> usize
+pub(crate) fn four(s: &[u8], at: usize) -> usize
     requires { at + 4 ≤ length s.now }
     ensures { (result < 4294967296) × NumberAt s.now at 4 result }
 {

@@ -7,7 +7,6 @@ ghost use Rattle.book.specs.Work.Reading.{Trailed, Slots, FillsNoting, OpensNoti
 
 use super::layout;
 use digits::refusal::Refusal;
-use digits::{low_first, slices};
 use frames::FramePayload;
 
 // What stands at a place of a book, if it is an entry: the place behind it, and the payload of its frame.
@@ -59,8 +58,7 @@ fn trailed(s: &[u8]) -> bool
     if n < size {
         return false;
     }
-    let back = low_first::four(size as u32);
-    slices::same(&s[n - layout::BACK..n], &back)
+    layout::four(s, n - layout::BACK) == size
 }
 
 // Whether `count` entries fill the book up to the trailer, from offset 0 without gaps, and the trailer has their offsets. Where their
@@ -86,14 +84,14 @@ fn filled(s: &[u8], count: usize, end: usize, places: &mut Places) -> bool
     at == end
 }
 
-// Whether an offset of the trailer is that place.
+// Whether an offset of the trailer is that place. (Compared as a number: two slices are compared by a call, and books of short frames would open
+// a third slower.)
 fn is_offset(s: &[u8], from: usize, place: usize) -> bool
     requires from_in_bounds { from + 4 ≤ length s.now }
     requires place_bound { place ≤ 65536 }
     ensures { Decides (part from (from + 4) s.now ≡ low_byte_first 4 place) result }
 {
-    let bytes = low_first::four(place as u32);
-    slices::same(&s[from..from + layout::OFFSET], &bytes)
+    layout::four(s, from) == place
 }
 
 // The entry at a place before the trailer.

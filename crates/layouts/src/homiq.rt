@@ -1,5 +1,5 @@
 // Homiq: `<;CMD;VAL;SRC;DST;ID;TYPE;CRC;>` CR LF.
-ghost use Rattle.std.specs.Prelude.{true, ◌≡◌, [], ◌∷◌, ◌+◌, ◌≤◌, ◌<◌, ◌^◌, length, take};
+ghost use Rattle.std.specs.Prelude.{true, ◌≡◌, [], ◌∷◌, ◌≤◌, ◌<◌, ◌^◌, length, take};
 ghost use Rattle.digits.specs.Paper.Ascii.{ascii};
 ghost use Rattle.digits.specs.Paper.Decimal.{decimal};
 ghost use Rattle.digits.specs.Paper.Read.{Decides};
@@ -59,10 +59,10 @@ fn laid_out(s: &[u8]) -> Option<Form>
 {
     let before = head(s)?;
     let claimed = number(&s[before..], 255)?;
-    let len = words::word_at(s, before + closed(claimed), b">\r\n")?;
+    let len = words::word_at(s, before + claimed.end, b">\r\n")?;
     Some(Form {
         before,
-        crc: claimed,
+        crc: claimed.value,
         len,
     })
 }
@@ -111,7 +111,7 @@ fn five(p: &[u8], last: u16) -> Option<usize>
     let src = val + field(&p[val..], 4)?;
     let dst = src + field(&p[src..], 4)?;
     let id = number(&p[dst..], last)?;
-    Some(dst + closed(id))
+    Some(dst + id.end)
 }
 
 fn is_type(c: u8) -> bool
@@ -183,10 +183,17 @@ fn is_character(c: u8) -> bool
     c != b'>'
 }
 
-// The number of at most `most` at the head of s, with its `;`. (How long both are, `closed` tells: an answer with a number and its end goes through
-// memory. With that, and with a call for it in `frame`, short frames cost the search a quarter more.)
+// A number that has been read: where it ends, and what it is. Its digits are read once, for both.
+#[derive(Clone, Copy)]
+struct Numeral {
+    end: usize,
+    value: u16,
+}
+
+// The number of at most `most` at the head of s; its end is that of its `;`. (A part of its callers: by a call, an answer with a number and its end
+// would go through memory, and short frames would cost the search a quarter more.)
 #[inline(always)]
-fn number(s: &[u8], most: u16) -> Option<u16>
+fn number(s: &[u8], most: u16) -> Option<Numeral>
     requires { most < 1000 }
     ensures { NumberAt most s.now result }
 {
@@ -206,15 +213,10 @@ fn number(s: &[u8], most: u16) -> Option<u16>
     if s[n] != b';' {
         return None;
     }
-    Some(v)
-}
-
-// How long a number below 1,000 is with its `;`.
-fn closed(v: u16) -> usize
-    requires { v < 1000 }
-    ensures { result ≡ length (decimal v) + 1 }
-{
-    width(v) + 1
+    Some(Numeral {
+        end: n + 1,
+        value: v,
+    })
 }
 
 // How many decimal digits a number below 1,000 has.
@@ -229,13 +231,6 @@ fn width(v: u16) -> usize
         return 2;
     }
     3
-}
-
-// Digits that have been read: where they end, and the number that they are.
-#[derive(Clone, Copy)]
-struct Numeral {
-    end: usize,
-    value: u16,
 }
 
 // The decimal digits at the head of s: how many there are, and the number that they are. `0` is 48, so that a digit's character

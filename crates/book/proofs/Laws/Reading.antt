@@ -1,13 +1,17 @@
 -- What stands at a place of a book: numbers, the head of an entry, and the entry.
 -- Assumes nothing.
+use mathlib.Core.Bool.{Bool, true, false}
 use mathlib.Core.List.{List, [], ◌∷◌, ◌++◌}
-use mathlib.Core.Path.{◌≡◌, sym, ap, ap₂, ◌∙◌}
+use mathlib.Core.Path.{◌≡◌, refl, sym, ap, ap₂, ◌∙◌}
 use Prim.Native.Nat.{ℕ, zero, suc, ◌+◌, ◌-◌, ◌*◌, ◌/◌, ◌%◌, ◌^◌, ◌≤◌, ◌<◌}
 use native.Mathlib.Nat.{pow-suc, mul_right_comm, zero-add, suc-add}
 use native.Mathlib.Omega.{arith}
+use borrow.Author.Tests.{eqb-true, eqb-false}
+use lib.Dec.{eqb}
 use lib.ListN.{length, get_or, take, drop, length-append}
 use Rattle.digits.specs.Paper.Bytes.{Bytes, part}
 use Rattle.digits.specs.Paper.LowFirst.{low_byte_first}
+use Rattle.digits.specs.Paper.Read.{Decides, holds, fails}
 use Rattle.digits.proofs.Laws.LowFirst.{length-low, low-inj, low-bytes}
 use Rattle.digits.proofs.Laws.Parts.{length_part, part_join, ats, take-ats}
 use Rattle.std.specs.Int.{bytes_low_first}
@@ -65,6 +69,14 @@ numbers-join {s} {at} v w {a} {b} h p q =
 -- there is one number of a width at a place
 pub one_number : {s : List ℕ} {at w m n : ℕ} → m < 256 ^ w → n < 256 ^ w → NumberAt s at w m → NumberAt s at w n → m ≡ n
 one_number {w = w} {m} {n} h k p q = low-inj w m n h k (sym p.bytes ∙ q.bytes)
+
+-- the bytes are those of n where the number that they are is compared with n and is the same
+pub compared : {s : List ℕ} {at w m n k : ℕ} → m < 256 ^ w → n < 256 ^ w → NumberAt s at w m → k ≡ n → Decides (part at (at + w) s ≡ low_byte_first w n) (eqb m k)
+compared {s} {at} {w} {m} {n} {k} h l p q = go (eqb m k) refl
+  where
+    go : (b : Bool) → eqb m k ≡ b → Decides (part at (at + w) s ≡ low_byte_first w n) b
+    go true e = holds (p.bytes ∙ ap (low_byte_first w) (eqb-true m k e ∙ q))
+    go false e = fails (λ same. eqb-false m k e (one_number h l p (record { bytes = same }) ∙ sym q))
 
 -- ---- the head
 

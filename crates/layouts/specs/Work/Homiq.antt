@@ -1,7 +1,7 @@
 -- Recognisers of Homiq frames.
 -- Assumes nothing.
 use Rattle.std.specs.Prelude.{Bool, ◌&&◌, List, [], ◌∷◌, ◌++◌, ◌≡◌, ℕ, ◌+◌, ◌-◌, eqb, leb, ltb, get_or, take, drop}
-use Rattle.std.specs.Prelude.{length, ◌≤◌, Option, Some, None}
+use Rattle.std.specs.Prelude.{Option, Some, None}
 use Rattle.digits.specs.Paper.Ascii.{ascii}
 use Rattle.digits.specs.Paper.Bytes.{part}
 use Rattle.digits.specs.Paper.Decimal.{decimal}
@@ -14,6 +14,7 @@ use Rattle.layouts.specs.Work.Heads.{Ends, only_if, word_len, leading, and_then,
 use Rattle.layouts.specs.Work.Recogniser.{Recogniser}
 use Rattle.layouts.specs.declared.Compared.{Compared}
 use Rattle.layouts.specs.declared.homiq.Form.{Form}
+use Rattle.layouts.specs.declared.homiq.Numeral.{Numeral}
 
 -- a field of at most `most` characters, and `;`
 unfoldable pub field_len : ℕ → List ℕ → ℕ
@@ -33,10 +34,10 @@ number_in s = guess 0 (take (leading is_figure (take 4 s)) s)
 unfoldable pub number_len : ℕ → List ℕ → ℕ
 number_len most s = let v = number_in s in only_if (leb v most) (word_len (decimal v ++ ascii ";") s)
 
--- what the code answers of such a number: which it is
-abbrev pub NumberAt : ℕ → List ℕ → Option ℕ → Type 0
+-- what the code answers of such a number: where its `;` ends, and which it is
+abbrev pub NumberAt : ℕ → List ℕ → Option Numeral → Type 0
 NumberAt most s None = number_len most s ≡ 0
-NumberAt most s (Some v) = Ends (number_len most) s (Some (length (decimal v) + 1)) × (v ≡ number_in s) × (v ≤ most)
+NumberAt most s (Some n) = Ends (number_len most) s (Some n.end) × (n.value ≡ number_in s)
 
 -- TYPE and `;`
 unfoldable pub type_len : List ℕ → ℕ

@@ -19,6 +19,4 @@ pub returns-in_err-id : goal.returns-in_err-id
 returns-in_err-id c = rw c.from_residual-in_err-id.ensures (no-id c.args.last c.args.p.now c.in_ok-cmd.ensures c.in_ok-val.ensures c.in_ok-src.ensures c.in_ok-dst.ensures c.in_err-id.ensures)
 
 pub returns : goal.returns
-returns c =
-    rw c.closed.ensures
-    (five-there c.args.last c.args.p.now c.in_ok-cmd.ensures c.in_ok-val.ensures c.in_ok-src.ensures c.in_ok-dst.ensures c.in_ok-id.ensures.0)
+returns c = five-there c.args.last c.args.p.now c.in_ok-cmd.ensures c.in_ok-val.ensures c.in_ok-src.ensures c.in_ok-dst.ensures c.in_ok-id.ensures.0

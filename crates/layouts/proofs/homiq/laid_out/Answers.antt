@@ -13,13 +13,11 @@ pub returns-in_err-claimed : goal.returns-in_err-claimed
 returns-in_err-claimed c = rw c.from_residual-in_err-claimed.ensures (no-claim c.args.s.now c.in_ok-before.ensures c.in_err-claimed.ensures)
 
 pub returns-in_err-len : goal.returns-in_err-len
-returns-in_err-len c =
-    rw c.from_residual-in_err-len.ensures
-    (no-end c.args.s.now c.in_ok-before.ensures c.in_ok-claimed.ensures.0 (rw c.closed.ensures at c.in_err-len.ensures))
+returns-in_err-len c = rw c.from_residual-in_err-len.ensures (no-end c.args.s.now c.in_ok-before.ensures c.in_ok-claimed.ensures.0 c.in_err-len.ensures)
 
 pub returns : goal.returns
 returns c = (
-  form-ends c.args.s.now c.in_ok-before.ensures c.in_ok-claimed.ensures.0 (rw c.closed.ensures at c.in_ok-len.ensures),
+  form-ends c.args.s.now c.in_ok-before.ensures c.in_ok-claimed.ensures.0 c.in_ok-len.ensures,
   c.in_ok-before.ensures,
   c.in_ok-claimed.ensures.1 ∙ ap number_in (part-rest c.in_ok-before.before c.args.s.now),
 )

@@ -2,7 +2,7 @@
 -- Assumes nothing.
 use mathlib.Core.List.{List}
 use mathlib.Core.Path.{◌≡◌, sym, ◌∙◌, ap}
-use Prim.Native.Nat.{ℕ, ◌+◌}
+use Prim.Native.Nat.{ℕ}
 use native.Mathlib.Omega.{arith}
 use lib.ListN.{take, length-take}
 use Rattle.digits.specs.Work.Decimal.{guess}
@@ -37,5 +37,4 @@ pub returns : goal.returns
 returns c =
     let n = counted _ c.args.s.now _ c.figures-digits.ensures.end_value c.first.ensures in
     let v = made _ _ c.args.s.now _ c.figures-digits.ensures.value_value c.first.ensures in
-    let w = c.if-n-width.false ∙ c.width.ensures in
-    ((ap (λ (k : ℕ). k + 1) (sym w) ∙ number-whole _ _ _ n v _ c.requires c.if-most-v.false w c.if-s-n-ne59.false, omega arith, omega (arith, w, c.if-s-n.false)), number-value _ _ _ n v, c.if-most-v.false)
+    ((number-whole _ _ _ n v _ c.requires c.if-most-v.false (c.if-n-width.false ∙ c.width.ensures) c.if-s-n-ne59.false, omega arith, omega (arith, c.if-s-n.false)), number-value _ _ _ n v)
