@@ -228,9 +228,10 @@ the-count {s} {count} {n} h p t =
     (one_number h (omega (arith, t.few)) p (record { bytes = cut.0 }), ap (λ (x : ℕ). part x (length s) s) (sym z) ∙ cut.1)
 
 pub trailed-is : {s : List ℕ} {count : ℕ} {b : Bool} → length s ≤ 65536 → count ≤ 1000 → 4 * count + 6 ≤ length s → NumberAt s (length s - 6) 2 count
-    → Decides (part (length s - 4) (length s) s ≡ low_byte_first 4 (4 * count + 6)) b → Decides ((n : ℕ) × Trailed s n) b
+    → Decides (part (length s - 4) (length s - 4 + 4) s ≡ low_byte_first 4 (4 * count + 6)) b → Decides ((n : ℕ) × Trailed s n) b
 trailed-is {s} {count} small few room p (holds e) =
     let z : length s - 6 + 2 ≡ length s - 4 = omega arith in
+    let y : length s - 4 + 4 ≡ length s = omega arith in
     holds (
       count,
       record {
@@ -239,11 +240,12 @@ trailed-is {s} {count} small few room p (holds e) =
         room = room;
         bytes =
             sym (part_join (length s - 6) (length s - 6 + 2) (length s) s (omega arith) (omega arith))
-            ∙ ap₂ (λ (x y : List ℕ). x ++ y) p.bytes (ap (λ (x : ℕ). part x (length s) s) z ∙ e);
+            ∙ ap₂ (λ (x y : List ℕ). x ++ y) p.bytes (ap (λ (x : ℕ). part x (length s) s) z ∙ sym (ap (λ (x : ℕ). part (length s - 4) x s) y) ∙ e);
       },
     )
 trailed-is {s} {count} small few room p (fails other) =
-    fails (λ t. let q = the-count (omega arith) p t.1 in other (q.1 ∙ ap (λ (n : ℕ). low_byte_first 4 (4 * n + 6)) (sym q.0)))
+    let y : length s - 4 + 4 ≡ length s = omega arith in
+    fails (λ t. let q = the-count (omega arith) p t.1 in other (ap (λ (x : ℕ). part (length s - 4) x s) y ∙ q.1 ∙ ap (λ (n : ℕ). low_byte_first 4 (4 * n + 6)) (sym q.0)))
 
 -- ---- the whole
 

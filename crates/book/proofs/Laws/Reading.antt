@@ -70,7 +70,7 @@ numbers-join {s} {at} v w {a} {b} h p q =
 pub one_number : {s : List ℕ} {at w m n : ℕ} → m < 256 ^ w → n < 256 ^ w → NumberAt s at w m → NumberAt s at w n → m ≡ n
 one_number {w = w} {m} {n} h k p q = low-inj w m n h k (sym p.bytes ∙ q.bytes)
 
--- the bytes are those of n where the number that they are is compared with n and is the same
+-- whether the bytes are those of n: whether the number that they are is n, which is k
 pub compared : {s : List ℕ} {at w m n k : ℕ} → m < 256 ^ w → n < 256 ^ w → NumberAt s at w m → k ≡ n → Decides (part at (at + w) s ≡ low_byte_first w n) (eqb m k)
 compared {s} {at} {w} {m} {n} {k} h l p q = go (eqb m k) refl
   where

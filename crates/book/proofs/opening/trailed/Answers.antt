@@ -1,13 +1,7 @@
 -- `book::opening::trailed` meets its contract: the limits, the count and the distance back.
 -- Assumes nothing.
-use mathlib.Core.Path.{◌≡◌, subst}
-use Prim.Native.Nat.{ℕ, ◌-◌, ◌+◌, ◌*◌, ◌≤◌}
 use native.Mathlib.Omega.{arith}
-use lib.Dec.{eqb}
-use lib.ListN.{length}
-use Rattle.digits.specs.Paper.Bytes.{part}
-use Rattle.digits.specs.Paper.LowFirst.{low_byte_first}
-use Rattle.digits.specs.Paper.Read.{Decides, fails}
+use Rattle.digits.specs.Paper.Read.{fails}
 use Rattle.book.proofs.Laws.Opening.{the-count, trailed-is}
 use Rattle.book.proofs.Laws.Reading.{compared}
 use Rattle.book.proofs.opening.trailed.Goals as goal
@@ -28,9 +22,5 @@ returns-then-n-size c =
 
 pub returns : goal.returns
 returns c =
-    let n = length c.args.s.now in
-    let room : 4 * c.count-count.result + 6 ≤ n = omega (arith, c.trailer_size-size.ensures, c.if-n-size.false) in
-    let z : n - 4 + 4 ≡ n = omega (arith, room) in
-    let back = compared c.four.ensures.0 (omega (arith, c.if-count-gt-MOST_ENTRIES.false)) c.four.ensures.1 c.trailer_size-size.ensures in
-    trailed-is c.if-n-gt-MOST_BYTES.false c.if-count-gt-MOST_ENTRIES.false room c.count-count.ensures.1
-    (subst (λ (to : ℕ). Decides (part (n - 4) to c.args.s.now ≡ low_byte_first 4 (4 * c.count-count.result + 6)) (eqb c.four.result c.trailer_size-size.result)) z back)
+    trailed-is c.if-n-gt-MOST_BYTES.false c.if-count-gt-MOST_ENTRIES.false (omega (arith, c.trailer_size-size.ensures, c.if-n-size.false)) c.count-count.ensures.1
+    (compared c.four.ensures.0 (omega (arith, c.if-count-gt-MOST_ENTRIES.false)) c.four.ensures.1 (omega (arith, c.trailer_size-size.ensures)))
